@@ -1,0 +1,5 @@
+pub mod Units
+pub mod Objects
+pub mod Numbers
+pub mod Pages
+pub mod Hex

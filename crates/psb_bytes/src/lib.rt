@@ -1,0 +1,24 @@
+//! Ids, names, objects and the small lists that all layers speak of, and bytes read and written in turn.
+#![tactic(auto)]
+
+mod hex;
+mod ids;
+mod lists;
+mod numbers;
+mod reading;
+mod units;
+mod writing;
+
+pub use hex::{digest_text, hex_text, read_digest};
+pub use ids::{Digest, Object, PeerId, Ref, Seat, Ticket};
+pub use lists::{
+    Bytes, ClaimList, DigestList, Items, Memory, ObjectList, PlaceList, Short, SlotClaim, SlotList,
+    Text,
+};
+pub use numbers::numbers_have_one_spelling;
+pub use reading::Cursor;
+pub use units::{UNIT, units_of};
+pub use writing::Page;
+
+#[cfg(test)]
+mod tests;

@@ -1,0 +1,4 @@
+pub mod Bytes
+pub mod Streams
+pub mod Digests
+pub mod Chains

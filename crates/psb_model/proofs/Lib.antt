@@ -1,0 +1,14 @@
+pub mod ByObject
+pub mod Parts
+pub mod Tidy
+pub mod Standing
+pub mod Alone
+pub mod Rows
+pub mod Steps
+pub mod Own
+pub mod Balance
+pub mod Prefixes
+pub mod Explained
+pub mod Built
+pub mod Sums
+pub mod Histories

@@ -1,0 +1,320 @@
+-- When a change may be made: its condition on the state before it, one test a line.
+use Rattle.std.specs.Prelude.{ℕ, ◌+◌, nat_le, nat_lt, Bool, true, false, not, ◌||◌, ◌&&◌, ◌==◌, if◌then◌else◌, List, [], ◌∷◌, ◌++◌, map, length, slice_get, option_to_list, is_some, is_none, Option, Some, None}
+use Rattle.std.specs.List.{list_any, list_all}
+use Rattle.std.specs.Ordering.{nat_cmp, is_lt}
+use Rattle.std.specs.Cmp.Lexicographic.{slice_cmp}
+use Rattle.psb_bytes.specs.declared.ids.Object.{Object}
+use Rattle.psb_bytes.specs.declared.ids.Object.TheVariants.{Chunk, Slot}
+use Rattle.psb_model.specs.declared.entries.InEntry.{InEntry}
+use Rattle.psb_model.specs.declared.entries.OutEntry.{OutEntry}
+use Rattle.psb_model.specs.declared.entries.DebtEntry.{DebtEntry}
+use Rattle.psb_model.specs.declared.entries.Snapshot.{Snapshot}
+use Rattle.psb_settings.specs.declared.settings.Settings.{Settings}
+use Rattle.psb_model.specs.declared.entries.Candidate.{Candidate}
+use Rattle.psb_model.specs.declared.deals.Deal.{Deal}
+use Rattle.psb_model.specs.declared.deals.DealWhat.{DealWhat}
+use Rattle.psb_model.specs.declared.deals.DealWhat.TheVariants.{Fresh, Swap, Cancel, PutBack, Forward, Return}
+use Rattle.psb_model.specs.declared.entries.OutState.{OutState}
+use Rattle.psb_model.specs.declared.entries.OutState.TheVariants as on
+use Rattle.psb_model.specs.declared.entries.InState.TheVariants as at
+use Rattle.psb_model.specs.declared.change.Change.{Change}
+use Rattle.psb_model.specs.declared.change.Change.TheVariants.{Begun, Kept, Snapped, Forgot, TookFresh, TookSwap, LetGo, LetGoBack, Replaced, Refused, Proposed, Settled, Turned, Asked, Passed, Failed, Declined, Discarded, Chose}
+use Rattle.psb_settings.specs.Settings.{settings_of}
+use Rattle.psb_model.specs.Words.{units, object_eq, all_of, name_listed, has, has_so, units_at}
+use Rattle.psb_model.specs.State.{State, row, is_peer, in_key, in_size, out_key, out_size, debt_key, debt_of, own_has, own_marked, own_len, is_held, is_wanted, tied_in, tied_out, used}
+use Rattle.psb_model.specs.Discards.{discards}
+use Rattle.psb_model.specs.Candidates.{in_select_order, distinct_peers}
+
+-- the peer of a change that has one
+abbrev pub peer_of : Change → Option ℕ
+peer_of (TookFresh p deal name first len new body) = Some p
+peer_of (TookSwap p deal name numbers len new body) = Some p
+peer_of (LetGo p deal name numbers) = Some p
+peer_of (LetGoBack p deal name numbers body) = Some p
+peer_of (Replaced p deal slot place home body) = Some p
+peer_of (Refused p deal why detail) = Some p
+peer_of (Proposed p deal what) = Some p
+peer_of (Settled p deal numbers body) = Some p
+peer_of (Turned p deal why detail) = Some p
+peer_of (Asked p objects) = Some p
+peer_of (Passed p asked objects) = Some p
+peer_of (Failed p asked how got objects) = Some p
+peer_of (Declined p asked places) = Some p
+peer_of (Discarded p objects) = Some p
+peer_of _ = None
+
+-- the first change, which has the settings
+abbrev pub is_begun : Change → Bool
+is_begun (Begun body) = true
+is_begun _ = false
+
+-- what the settings text says, if it says settings
+abbrev pub settings_in : Option (List ℕ) → Option Settings
+settings_in None = None
+settings_in (Some text) = settings_of text
+
+-- how many claims can be drawn
+abbrev pub most_claims : ℕ
+most_claims = 4294967295
+
+-- what the settings say; 0 and false where there are none
+abbrev pub capacity : Option Settings → ℕ
+capacity None = 0
+capacity (Some x) = x.capacity
+
+abbrev pub may_forward : Option Settings → Bool
+may_forward None = false
+may_forward (Some x) = x.forward
+
+abbrev pub buddies : Option Settings → ℕ
+buddies None = 0
+buddies (Some x) = x.buddies
+
+-- the deal is the next one of the peer
+abbrev pub is_next_deal : State → ℕ → ℕ → Bool
+is_next_deal s p deal = deal == (row s p).last.number + 1
+
+-- what the state of an entry is
+abbrev pub is_direct_or_home : InEntry → Bool
+is_direct_or_home e = elim e.state [ at.Direct ↦ true | at.Home i ↦ true | _ ↦ false ]
+
+abbrev pub is_direct : InEntry → Bool
+is_direct e = elim e.state [ at.Direct ↦ true | _ ↦ false ]
+
+abbrev pub own_state : OutState → Bool
+own_state st = elim st [ on.Own ↦ true | _ ↦ false ]
+
+abbrev pub is_own : OutEntry → Bool
+is_own e = own_state e.state
+
+abbrev pub is_loose : OutEntry → Bool
+is_loose e = elim e.state [ on.Loose ↦ true | _ ↦ false ]
+
+abbrev pub carries_none : OutEntry → Bool
+carries_none e = elim e.state [ on.Carries seat ↦ false | _ ↦ true ]
+
+-- nothing of the row of debt was used up
+abbrev pub is_whole : DebtEntry → Bool
+is_whole d = d.left == d.units
+
+-- and it is an own slot
+abbrev pub is_whole_own : DebtEntry → Bool
+is_whole_own d = is_whole d && own_state d.state
+
+-- each slot, or object, of the list passes the test
+abbrev pub each_slot : (Object → Bool) → List ℕ → Bool
+each_slot test numbers = list_all (λ n. test (Slot n)) numbers
+
+abbrev pub each : (Object → Bool) → List Object → Bool
+each = list_all
+
+-- the chunk may be placed on p: a buddy that neither has it nor lost it nor turned it down
+abbrev pub place_tests : State → ℕ → List ℕ → List Bool
+place_tests s p name =
+    (list_any (λ q. q == p) s.chosen
+    ∷ is_wanted s name
+    ∷ not (has out_key (row s p).outs (Chunk name))
+    ∷ not (has debt_key (row s p).debts (Chunk name))
+    ∷ not (name_listed (row s p).barred name)
+    ∷ [])
+
+-- what each own deal asks: its objects stand where it needs them, and no deal ties them
+abbrev pub propose_tests : State → ℕ → DealWhat → List Bool
+propose_tests s p (Fresh name) =
+    (all_of (place_tests s p name)
+    ∷ nat_le (used s + units (own_len s.own name)) (capacity s.settings)
+    ∷ [])
+propose_tests s p (Swap name numbers) =
+    (all_of (place_tests s p name)
+    ∷ (length numbers == units (own_len s.own name))
+    ∷ each_slot (has_so out_key is_own (row s p).outs) numbers
+    ∷ each_slot (λ o. not (tied_out s p o)) numbers
+    ∷ [])
+propose_tests s p (Cancel name numbers) =
+    (has out_key (row s p).outs (Chunk name)
+    ∷ own_marked s.own name
+    ∷ not (tied_out s p (Chunk name))
+    ∷ (length numbers == units_at out_key out_size (row s p).outs (Chunk name))
+    ∷ each_slot (has_so in_key is_direct_or_home (row s p).ins) numbers
+    ∷ each_slot (λ o. not (tied_in s p o)) numbers
+    ∷ [])
+propose_tests s p (PutBack name first) =
+    (has out_key (row s p).outs (Chunk name)
+    ∷ own_marked s.own name
+    ∷ not (tied_out s p (Chunk name))
+    ∷ (first == s.issued)
+    ∷ nat_le (s.issued + units_at out_key out_size (row s p).outs (Chunk name)) most_claims
+    ∷ [])
+propose_tests s p (Forward slot entry) =
+    (may_forward s.settings
+    ∷ has_so out_key is_own (row s p).outs (Slot slot)
+    ∷ not (tied_out s p (Slot slot))
+    ∷ has_so in_key is_direct (row s entry.peer).ins (Slot entry.slot)
+    ∷ not (tied_in s entry.peer (Slot entry.slot))
+    ∷ [])
+propose_tests s p (Return slot) =
+    (has_so out_key is_loose (row s p).outs (Slot slot)
+    ∷ not (tied_out s p (Slot slot))
+    ∷ [])
+
+-- the pending deal has that number
+abbrev pub is_pending : Option Deal → ℕ → Bool
+is_pending None deal = false
+is_pending (Some d) deal = d.number == deal
+
+-- a settled Fresh brings as many new slots as its chunk has units; no other deal brings slots
+abbrev pub may_settle : State → ℕ → Option Deal → List ℕ → Bool
+may_settle s p None numbers = false
+may_settle s p (Some d) numbers = elim d.what [
+  | Fresh name ↦ (length numbers == units (own_len s.own name)) && each_slot (λ o. not (has in_key (row s p).ins o)) numbers
+  | _ ↦ length numbers == 0
+]
+
+-- the objects of the last Asked, where it is the change of this number and has no outcome yet
+abbrev pub asked_objects : Option (ℕ × List Object) → ℕ → Option (List Object)
+asked_objects None asked = None
+asked_objects (Some a) asked = if a.0 == asked then Some a.1 else None
+
+-- the two lists are one
+abbrev pub same_objects : List Object → List Object → Bool
+same_objects [] [] = true
+same_objects [] (y ∷ ys) = false
+same_objects (x ∷ xs) [] = false
+same_objects (x ∷ xs) (y ∷ ys) = object_eq x y && same_objects xs ys
+
+-- one slot and no more
+abbrev pub is_one_slot : List Object → Bool
+is_one_slot (Slot n ∷ []) = true
+is_one_slot _ = false
+
+-- the outcome of the last Asked, with its objects; or, by a relay, that of number 0 and one slot
+abbrev pub answers_probe : State → ℕ → ℕ → List Object → Bool
+answers_probe s p asked objects = if asked == 0 then is_one_slot objects else elim (asked_objects (row s p).asked asked) [ None ↦ false | Some os ↦ same_objects os objects ]
+
+-- the objects at these places
+abbrev pub at_places : List Object → List ℕ → List Object
+at_places objects [] = []
+at_places objects (k ∷ ks) = option_to_list (slice_get objects k) ++ at_places objects ks
+
+-- the objects that a Declined lists, by its places
+abbrev pub declined_objects : State → ℕ → ℕ → List ℕ → List Object
+declined_objects s p asked places = elim (asked_objects (row s p).asked asked) [ None ↦ [] | Some os ↦ at_places os places ]
+
+-- names ascend strictly, by bytes
+abbrev pub names_ascend : List (List ℕ) → Bool
+names_ascend [] = true
+names_ascend (x ∷ []) = true
+names_ascend (x ∷ y ∷ ys) = is_lt (slice_cmp nat_cmp x y) && names_ascend (y ∷ ys)
+
+-- the peer is one of the settings
+abbrev pub of_a_peer : State → Option ℕ → Bool
+of_a_peer s None = true
+of_a_peer s (Some p) = is_peer s p
+
+-- how many objects were asked for
+abbrev pub asked_count : Option (List Object) → ℕ
+asked_count None = 0
+asked_count (Some os) = length os
+
+-- what each kind asks
+abbrev pub tests : State → Change → List Bool
+tests s (Begun body) =
+    ((s.changes == 0)
+    ∷ is_some (settings_in body)
+    ∷ [])
+tests s (Kept name len new body) =
+    (not (own_has s.own name)
+    ∷ (if is_held s name then not new else new)
+    ∷ [])
+tests s (Snapped number ticket files folders bytes left names) =
+    ((number == s.snapped + 1)
+    ∷ names_ascend names
+    ∷ list_all (own_has s.own) names
+    ∷ [])
+tests s (Forgot number) = list_any (λ (k : Snapshot). k.number == number) s.kept ∷ []
+tests s (TookFresh p deal name first len new body) =
+    (is_next_deal s p deal
+    ∷ not (has in_key (row s p).ins (Chunk name))
+    ∷ (if is_held s name then not new else new)
+    ∷ (debt_of (row s p) == 0)
+    ∷ nat_le (used s + units len) (capacity s.settings)
+    ∷ (first == s.issued)
+    ∷ nat_le (s.issued + units len) most_claims
+    ∷ [])
+tests s (TookSwap p deal name numbers len new body) =
+    (is_next_deal s p deal
+    ∷ not (has in_key (row s p).ins (Chunk name))
+    ∷ (if is_held s name then not new else new)
+    ∷ each_slot (has in_key (row s p).ins) numbers
+    ∷ each_slot (λ o. not (tied_in s p o)) numbers
+    ∷ (length numbers == units len)
+    ∷ (debt_of (row s p) == 0)
+    ∷ [])
+tests s (LetGo p deal name numbers) =
+    (is_next_deal s p deal
+    ∷ has in_key (row s p).ins (Chunk name)
+    ∷ each_slot (has_so out_key carries_none (row s p).outs) numbers
+    ∷ each_slot (λ o. not (tied_out s p o)) numbers
+    ∷ (length numbers == units_at in_key in_size (row s p).ins (Chunk name))
+    ∷ [])
+tests s (LetGoBack p deal name numbers body) =
+    (is_next_deal s p deal
+    ∷ has in_key (row s p).ins (Chunk name)
+    ∷ each_slot (λ o. not (has in_key (row s p).ins o)) numbers
+    ∷ (length numbers == units_at in_key in_size (row s p).ins (Chunk name))
+    ∷ [])
+tests s (Replaced p deal slot place home body) =
+    (is_next_deal s p deal
+    ∷ has in_key (row s p).ins (Slot slot)
+    ∷ not (tied_in s p (Slot slot))
+    ∷ ((place == 0 && home == 0) || (place == 1 && nat_lt home s.issued))
+    ∷ [])
+tests s (Refused p deal why detail) =
+    (is_next_deal s p deal
+    ∷ nat_le 1 why
+    ∷ nat_le why 9
+    ∷ [])
+tests s (Proposed p deal what) =
+    ((deal == (row s p).mine + 1)
+    ∷ is_none (row s p).pending
+    ∷ all_of (propose_tests s p what)
+    ∷ [])
+tests s (Settled p deal numbers body) =
+    (is_pending (row s p).pending deal
+    ∷ may_settle s p (row s p).pending numbers
+    ∷ [])
+tests s (Turned p deal why detail) = is_pending (row s p).pending deal ∷ []
+tests s (Asked p objects) =
+    (nat_le 1 (length objects)
+    ∷ nat_le (length objects) 32
+    ∷ each (λ o. has_so out_key (λ e. elim o [ Chunk n ↦ true | Slot n ↦ is_own e ]) (row s p).outs o || has_so debt_key (λ d. elim o [ Chunk n ↦ is_whole d | Slot n ↦ is_whole_own d ]) (row s p).debts o) objects
+    ∷ each (λ o. not (tied_out s p o)) objects
+    ∷ [])
+tests s (Passed p asked objects) = answers_probe s p asked objects ∷ []
+tests s (Failed p asked how got objects) =
+    (answers_probe s p asked objects
+    ∷ nat_le how 2
+    ∷ (if asked == 0 then how == 2 else nat_lt how 2)
+    ∷ ((how == 1) || list_all (λ b. b == 0) got)
+    ∷ each (λ o. not (tied_out s p o)) objects
+    ∷ [])
+tests s (Declined p asked places) =
+    (is_some (asked_objects (row s p).asked asked)
+    ∷ list_all (λ k. nat_lt k (asked_count (asked_objects (row s p).asked asked))) places
+    ∷ each (λ o. not (tied_out s p o)) (declined_objects s p asked places)
+    ∷ [])
+tests s (Discarded p objects) =
+    ((row s p).due
+    ∷ same_objects objects (map in_key (discards s p))
+    ∷ [])
+tests s (Chose candidates) =
+    (nat_le 1 (length candidates)
+    ∷ distinct_peers candidates
+    ∷ list_all (λ (x : Candidate). is_peer s x.peer) candidates
+    ∷ list_all (λ (x : Candidate). nat_le 1 x.of) candidates
+    ∷ in_select_order candidates
+    ∷ [])
+
+-- the change may be made: Begun as the first, any other kind later
+abbrev pub allowed : State → Change → Bool
+allowed s c = (is_begun c || nat_lt 0 s.changes) && of_a_peer s (peer_of c) && all_of (tests s c)

@@ -1,0 +1,13 @@
+pub mod Words
+pub mod State
+pub mod Grammar
+pub mod Heads
+pub mod Candidates
+pub mod Discards
+pub mod Conditions
+pub mod Move
+pub mod Effects
+pub mod History
+pub mod Moved
+pub mod Needed
+pub mod Worked

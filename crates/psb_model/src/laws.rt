@@ -1,0 +1,28 @@
+ghost use Rattle.psb_model.specs.History.{AllExplained, Balances};
+ghost use Rattle.psb_model.specs.Moved.{AllAreSums};
+ghost use Rattle.psb_model.specs.Worked.{WorkedRows};
+
+/// After every lawful history and for every peer: what the node answers for to the peer is what it
+/// is owed back, plus the peer's debt.
+pub fn balance_law()
+    ensures { Balances }
+{}
+
+/// After every lawful history and for every peer: each row of debt stands for an object that one
+/// Failed or Declined change of that peer listed, and that no later Passed gave back; no object
+/// stands twice.
+pub fn explanation_law()
+    ensures { AllExplained }
+{}
+
+/// After every lawful history and for every peer: each of the three numbers is the sum of what the
+/// changes moved, by a table of its own.
+pub fn sums_law()
+    ensures { AllAreSums }
+{}
+
+/// Worked histories are lawful, with these numbers and states: a chunk that was taken, a slot that
+/// was lost, a slot that was forwarded, and one that came loose.
+pub fn worked_rows()
+    ensures { WorkedRows }
+{}

@@ -1,0 +1,14 @@
+//! The changes of a node, the state that a history of them gives, and the laws of that state.
+#![tactic(auto)]
+
+mod change;
+mod deals;
+mod entries;
+mod laws;
+
+pub use change::Change;
+pub use deals::{Deal, DealWhat, LastDeal};
+pub use entries::{
+    Candidate, CandidateList, DebtEntry, InEntry, InState, OutEntry, OutState, OwnEntry, Snapshot,
+};
+pub use laws::{balance_law, explanation_law, sums_law, worked_rows};

@@ -1,0 +1,5 @@
+pub mod Spans
+pub mod Replays
+pub mod Kept
+pub mod Hearing
+pub mod Leavings

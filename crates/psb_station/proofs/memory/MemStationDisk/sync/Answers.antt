@@ -1,0 +1,61 @@
+use Rattle.std.proofs.Common.{◌≡◌, ◌+◌, ◌++◌, [], ◌∷◌, List, length, refl, sym, ap, arith}
+use Rattle.psb_station.specs.declared.past.Past.{Past}
+use Rattle.psb_station.specs.declared.past.Call.TheVariants.{Sync}
+use Rattle.psb_station.proofs.Kept.{same_time, kept_else, kept_keeps, kept_moment, synced, sync_images, refused_images, refused_since, pushed_ordered}
+use Rattle.psb_station.proofs.memory.MemStationDisk.sync.Goals as goal
+
+pub returns-then-is_due-clause-writes : goal.returns-then-is_due-clause-writes
+returns-then-is_due-clause-writes c = record {
+  images = λ i left. (i, left, refl);
+  time = same_time _ _ refl (λ t i k left. left) (λ t i k left. left);
+  told = refl;
+  disk_faults = omega arith;
+  write_faults = omega arith;
+  outside = refl;
+  tells = refl;
+}
+
+pub returns-in-Err-clause-writes : goal.returns-in-Err-clause-writes
+returns-in-Err-clause-writes c =
+    let d = c.args.self.now.disk in
+    let e = c.sync.new.self in
+    let is : e.past.items ≡ d.past.items = c.in-Err.ensures.err in
+    record {
+      images = λ i left. (i, refused_images d e c.in-Err.ensures.start is i left, refl);
+      time = same_time _ _ (ap (λ (l : List Past). length l + c.args.self.now.told) is)
+          (λ t i k left. refused_since d e c.args.self.now.told t i k c.in-Err.ensures.start is left) (λ t i k left. refused_since e d c.args.self.now.told t i k (sym c.in-Err.ensures.start) (sym is) left);
+      told = refl;
+      disk_faults = omega arith;
+      write_faults = omega arith;
+      outside = refl;
+      tells = refl;
+    }
+
+pub invariant_of-self-in-Ok-clause-ordered : goal.invariant_of-self-in-Ok-clause-ordered
+invariant_of-self-in-Ok-clause-ordered c =
+    let r : Past = record { call = Sync; number = c.is_due.new.calls; told = c.args.self.now.told } in
+    pushed_ordered c.args.self.now.told c.args.self.now.disk.past.items c.sync.new.self.past.items r c.in-Ok.ensures.ok refl c.args.self.now.ordered
+
+pub returns-in-Ok-clause-writes : goal.returns-in-Ok-clause-writes
+returns-in-Ok-clause-writes c =
+    let d = c.args.self.now.disk in
+    let e = c.sync.new.self in
+    let r : Past = record { call = Sync; number = c.is_due.new.calls; told = c.args.self.now.told } in
+    let is : e.past.items ≡ d.past.items ++ r ∷ [] = c.in-Ok.ensures.ok in
+    record {
+      images = λ i left. (i, sync_images d e c.is_due.new.calls c.args.self.now.told c.in-Ok.ensures.start is i left, refl);
+      time = record {
+        later = kept_moment d e r c.args.self.now.told is;
+        nothing_else = λ t i k le left. kept_else d e r t i k c.in-Ok.ensures.start is left;
+        keeps = λ t i k le left. kept_keeps d e r t i k c.in-Ok.ensures.start is left;
+      };
+      told = refl;
+      disk_faults = omega arith;
+      write_faults = omega arith;
+      outside = refl;
+      tells = refl;
+    }
+
+pub returns-in-Ok-clause-durable : goal.returns-in-Ok-clause-durable
+returns-in-Ok-clause-durable c =
+    λ i left. synced c.args.self.now.disk c.sync.new.self c.is_due.new.calls c.args.self.now.told c.in-Ok.ensures.start c.in-Ok.ensures.ok i left

@@ -1,0 +1,11 @@
+pub mod View
+pub mod Calls
+pub mod Span
+pub mod Past
+pub mod Replay
+pub mod Answers
+pub mod Leaving
+pub mod MemDisk
+pub mod Memory
+pub mod Folder
+pub mod MemFolder

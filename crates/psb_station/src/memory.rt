@@ -1,0 +1,355 @@
+ghost use Rattle.std.specs.Prelude.{◌≡◌, ◌≤◌, ◌+◌, ◌<◌, ◌++◌, [], ◌∷◌, length, OnOk, OnErr, IfOk, IfSome, vec_len, vec_capacity, All, Option, Some, false, slice_get};
+ghost use Rattle.std.proofs.Props.{props};
+ghost use Rattle.psb_station.specs.Past.{ToldBy, ToldBy-prop};
+ghost use Rattle.psb_station.specs.Calls.{Grows};
+ghost use Rattle.psb_station.specs.Answers.{answer_of, heard_of, sent_of, joined_of, time_of, TicksBy, TicksBy-prop};
+
+use crate::answer::{Answer, Answered, Joining, SentFrame};
+use crate::count::{fault, is_due, write_fault};
+use crate::crash::{Outcome, left};
+use crate::mem_disk::MemDisk;
+use crate::{Disk, Failed, LONGEST_DISK, Station};
+use psb_bytes::Memory;
+use std::alloc::{AllocError, Global};
+
+/// A station in memory. It keeps what was done, and fails at the calls of the given numbers, counted
+/// from 1 over all its methods. A call whose own growth is refused fails too.
+#[derive(Drop)]
+pub struct MemStation {
+    alloc: Global,
+    disk: MemDisk,
+    told: u64,
+    arrivals: Vec<Vec<u8>>,
+    /// The place of the next arrival.
+    next: usize,
+    clock: Vec<u64>,
+    /// How many calls of `now` were made.
+    ticks: u64,
+    faults: Vec<u64>,
+    /// How many calls were made.
+    calls: u64,
+    heard: Vec<Answered>,
+    /// Whether each answer could be kept.
+    whole: bool,
+    sent: Vec<SentFrame>,
+    said: Vec<u8>,
+    joined: Vec<Joining>,
+    disk_faults: u64,
+    write_faults: u64,
+    link_faults: u64,
+    send_faults: u64,
+    say_faults: u64,
+    ghost ordered: { ToldBy told disk.past.items } by { ToldBy-prop told disk.past.items },
+    ghost timed: { TicksBy ticks heard.items } by { TicksBy-prop ticks heard.items },
+    ghost short: { All (λ a. length a.items ≤ 65507) arrivals.items } by { Prim.hlevel props },
+}
+
+impl MemStation {
+    ghost use Rattle.psb_station.specs.Memory.{view_of, IsFresh, IsGiven, calls_made, left_image, may_leave_at};
+
+    /// A station whose disk reads `image`, whose link has these arrivals, each of at most 65,507 bytes,
+    /// and whose clock gives these numbers, the last one again at the end, and 0 where there is none.
+    /// Takes no memory.
+    pub fn new(
+        alloc: Global,
+        image: Vec<u8>,
+        arrivals: Vec<Vec<u8>>,
+        clock: Vec<u64>,
+        faults: Vec<u64>,
+    ) -> MemStation
+        requires { All (λ a. length a.items ≤ 65507) arrivals.items }
+        ensures fresh { IsFresh image.items (view_of result) }
+        ensures given { IsGiven arrivals.items clock.items faults.items result }
+    {
+        MemStation {
+            alloc,
+            disk: MemDisk::new(alloc, image),
+            told: 0,
+            arrivals,
+            next: 0,
+            clock,
+            ticks: 0,
+            faults,
+            calls: 0,
+            heard: Vec::new(alloc),
+            whole: true,
+            sent: Vec::new(alloc),
+            said: Vec::new(alloc),
+            joined: Vec::new(alloc),
+            disk_faults: 0,
+            write_faults: 0,
+            link_faults: 0,
+            send_faults: 0,
+            say_faults: 0,
+        }
+    }
+
+    /// All bytes that were said.
+    pub fn said_bytes(&self) -> &[u8]
+        ensures { (view_of self.now).outside.said ≡ Some result.now }
+    {
+        &self.said
+    }
+
+    /// How many frames were sent.
+    pub fn sent_count(&self) -> usize
+        ensures { IfSome (view_of self.now).outside.sent (λ sent. result ≡ length sent) }
+    {
+        self.sent.len()
+    }
+
+    /// How many calls were made, of all its methods.
+    pub fn call_count(&self) -> u64
+        ensures { result ≡ calls_made self.now }
+    {
+        self.calls
+    }
+
+    /// An image that a crash may leave right after a call, counted from 1 as in the list of those that
+    /// fail. Outcome 0 leaves nothing that is unsynced then, 1 leaves all of it, 2 fills each range
+    /// that is unsynced with the byte 0xff.
+    pub fn left(&self, call: u64, outcome: u8) -> Result<Vec<u8>, Memory>
+        requires made { (1 ≤ call) × (call ≤ calls_made self.now) }
+        requires outcome { outcome ≤ 2 }
+        ensures image { IfOk result (λ image. image.items ≡ left_image self.now call outcome) }
+        ensures allowed { IfOk result (λ image. may_leave_at self.now call image.items) }
+    {
+        let outcome = match outcome {
+            0 => Outcome::Nothing,
+            1 => Outcome::All,
+            _ => Outcome::Filled,
+        };
+        Ok(left(&self.disk, call, outcome)?)
+    }
+
+    /// To whom a frame was sent.
+    pub fn sent_to(&self, j: usize) -> u32
+        requires { IfSome (view_of self.now).outside.sent (λ sent. j < length sent) }
+        ensures { IfSome (view_of self.now).outside.sent (λ sent. IfSome (slice_get sent j) (λ s. result ≡ s.0)) }
+    {
+        self.sent[j].to
+    }
+
+    /// A frame that was sent.
+    pub fn sent_frame(&self, j: usize) -> &[u8]
+        requires { IfSome (view_of self.now).outside.sent (λ sent. j < length sent) }
+        ensures { IfSome (view_of self.now).outside.sent (λ sent. IfSome (slice_get sent j) (λ s. result.now ≡ s.1)) }
+    {
+        &self.sent[j].frame
+    }
+}
+
+impl Disk for MemStation {
+    ghost use Rattle.psb_station.specs.Memory.{view_of, is_due_next};
+    ghost use Rattle.psb_station.specs.MemDisk.{start};
+    ghost use Rattle.psb_station.specs.Past.{leaves};
+    ghost use Rattle.psb_station.specs.Replay.{now_counts, now_only, seen_left};
+    ghost use Rattle.std.specs.Prelude.{◌+◌, length};
+    ghost use Rattle.std.proofs.Common.{arith, subst, sym, refl};
+
+    ghost view = { view_of };
+
+    ghost fails_next = { is_due_next };
+
+    ghost counts_now = { λ m t c le left. now_counts (λ c. c ≡ start m.disk) (start m.disk) 0 0 m.disk.past.items m.told t c m.ordered (Prim.omega arith) (Prim.omega arith) left };
+
+    ghost only_now = { λ m c k left. now_only (λ c. c ≡ start m.disk) (start m.disk) 0 0 m.disk.past.items m.told (length m.disk.past.items + m.told) c k m.ordered (Prim.omega arith) left };
+
+    ghost reads_image = { λ m. subst (leaves (λ c. c ≡ start m.disk) (start m.disk) m.disk.past.items) (sym m.disk.same) (seen_left (λ c. c ≡ start m.disk) (start m.disk) m.disk.past.items m.disk.in_bytes refl) };
+
+    fn len(&mut self) -> Result<u64, Failed> {
+        let len = self.disk.bytes.len() as u64;
+        if is_due(&self.faults, &mut self.calls) || len > LONGEST_DISK {
+            return Err(fault(&mut self.disk_faults));
+        }
+        Ok(len)
+    }
+
+    fn read(&mut self, at: u64, into: &mut [u8]) -> Result<usize, Failed> {
+        if is_due(&self.faults, &mut self.calls) {
+            return Err(fault(&mut self.disk_faults));
+        }
+        let len = self.disk.bytes.len();
+        if at >= len as u64 {
+            return Ok(0);
+        }
+        let begin = at as usize;
+        let count = into.len().min(len - begin);
+        into[..count].copy_from_slice(&self.disk.bytes[begin..begin + count]);
+        Ok(count)
+    }
+
+    fn write_at(&mut self, at: u64, from: &[u8]) -> Result<(), Failed> {
+        if is_due(&self.faults, &mut self.calls) || at + from.len() as u64 > LONGEST_DISK {
+            return Err(write_fault(&mut self.disk_faults, &mut self.write_faults));
+        }
+        match self.disk.write(self.calls, self.told, at, from) {
+            Ok(()) => Ok(()),
+            Err(_) => Err(write_fault(&mut self.disk_faults, &mut self.write_faults)),
+        }
+    }
+
+    fn cut(&mut self, len: u64) -> Result<(), Failed> {
+        if is_due(&self.faults, &mut self.calls) {
+            return Err(write_fault(&mut self.disk_faults, &mut self.write_faults));
+        }
+        match self.disk.cut(self.calls, self.told, len) {
+            Ok(()) => Ok(()),
+            Err(_) => Err(write_fault(&mut self.disk_faults, &mut self.write_faults)),
+        }
+    }
+
+    fn sync(&mut self) -> Result<(), Failed> {
+        if is_due(&self.faults, &mut self.calls) {
+            return Err(write_fault(&mut self.disk_faults, &mut self.write_faults));
+        }
+        match self.disk.sync(self.calls, self.told) {
+            Ok(()) => Ok(()),
+            Err(_) => Err(write_fault(&mut self.disk_faults, &mut self.write_faults)),
+        }
+    }
+}
+
+/// Keeps an answer of the link. Where its growth is refused, the answers are told no more.
+fn keep(
+    heard: &mut Vec<Answered>,
+    whole: &mut bool,
+    ticks: u64,
+    answer: Answer,
+) -> Result<(), AllocError>
+    ensures grows { (clock : _) (arrivals : _) → Grows (heard_of whole.old clock arrivals heard.old.items ticks) (heard_of whole.new clock arrivals heard.new.items ticks) (answer_of arrivals answer ∷ []) }
+    ensures timed { TicksBy ticks heard.old.items → TicksBy ticks heard.new.items }
+    ensures err { OnErr result (whole.new ≡ false) }
+{
+    match heard.push(Answered { answer, ticks }) {
+        Ok(()) => Ok(()),
+        Err(_) => {
+            *whole = false;
+            Err(AllocError)
+        }
+    }
+}
+
+fn keep_sent(
+    alloc: Global,
+    sent: &mut Vec<SentFrame>,
+    to: u32,
+    frame: &[u8],
+) -> Result<(), AllocError>
+    ensures ok { OnOk result (sent_of sent.new.items ≡ sent_of sent.old.items ++ (to, frame.now) ∷ []) }
+    ensures err { OnErr result (sent_of sent.new.items ≡ sent_of sent.old.items) }
+{
+    let frame = frame.to_vec(alloc)?;
+    sent.push(SentFrame { to, frame })?;
+    Ok(())
+}
+
+/// Copies an address, and makes room for it in the list.
+fn make_room(alloc: Global, joined: &mut Vec<Joining>, address: &str) -> Result<Vec<u8>, AllocError>
+    ensures copy { IfOk result (λ v. v.items ≡ address.now) }
+    ensures room { OnOk result (vec_len joined.new < vec_capacity joined.new) }
+    ensures same { joined.new.items ≡ joined.old.items }
+{
+    joined.reserve(1)?;
+    Ok(address.as_bytes().to_vec(alloc)?)
+}
+
+/// The number of the clock at a call of `now`, counted from 0.
+fn time_at(clock: &[u64], tick: u64) -> u64
+    ensures { result ≡ time_of clock.now tick }
+{
+    if clock.is_empty() {
+        return 0;
+    }
+    clock[(tick as usize).min(clock.len() - 1)]
+}
+
+impl Station for MemStation {
+    ghost use Rattle.psb_station.specs.Memory.{arrival_next, time_next};
+
+    ghost next_frame = { arrival_next };
+
+    ghost next_time = { time_next };
+
+    fn join(&mut self, id: u32, address: &str) -> Result<(), Failed> {
+        if is_due(&self.faults, &mut self.calls) {
+            let _ = keep(&mut self.heard, &mut self.whole, self.ticks, Answer::Fault);
+            return Err(fault(&mut self.link_faults));
+        }
+        let Ok(address) = make_room(self.alloc, &mut self.joined, address) else {
+            let _ = keep(&mut self.heard, &mut self.whole, self.ticks, Answer::Fault);
+            return Err(fault(&mut self.link_faults));
+        };
+        if let Err(_) = keep(&mut self.heard, &mut self.whole, self.ticks, Answer::Joined) {
+            return Err(fault(&mut self.link_faults));
+        }
+        self.joined.push_reserved(Joining { id, address });
+        Ok(())
+    }
+
+    fn recv(&mut self, into: &mut [u8]) -> Result<Option<usize>, Failed> {
+        if is_due(&self.faults, &mut self.calls) {
+            let _ = keep(&mut self.heard, &mut self.whole, self.ticks, Answer::Fault);
+            return Err(fault(&mut self.link_faults));
+        }
+        if self.next >= self.arrivals.len() {
+            if let Err(_) = keep(
+                &mut self.heard,
+                &mut self.whole,
+                self.ticks,
+                Answer::Nothing,
+            ) {
+                return Err(fault(&mut self.link_faults));
+            }
+            return Ok(None);
+        }
+        if let Err(_) = keep(
+            &mut self.heard,
+            &mut self.whole,
+            self.ticks,
+            Answer::Frame(self.next),
+        ) {
+            return Err(fault(&mut self.link_faults));
+        }
+        let frame = &self.arrivals[self.next];
+        let count = frame.len();
+        into[..count].copy_from_slice(frame);
+        self.next += 1;
+        Ok(Some(count))
+    }
+
+    fn send(&mut self, to: u32, frame: &[u8]) -> Result<(), Failed> {
+        self.told = self.told.saturating_add(1);
+        if is_due(&self.faults, &mut self.calls) {
+            return Err(fault(&mut self.send_faults));
+        }
+        if let Err(_) = keep_sent(self.alloc, &mut self.sent, to, frame) {
+            return Err(fault(&mut self.send_faults));
+        }
+        Ok(())
+    }
+
+    fn say(&mut self, text: &[u8]) -> Result<(), Failed> {
+        self.told = self.told.saturating_add(1);
+        if is_due(&self.faults, &mut self.calls) {
+            return Err(fault(&mut self.say_faults));
+        }
+        if let Err(_) = self.said.extend_from_slice(text) {
+            return Err(fault(&mut self.say_faults));
+        }
+        Ok(())
+    }
+
+    fn now(&mut self) -> u64 {
+        self.calls = self.calls.saturating_add(1);
+        let time = time_at(&self.clock, self.ticks);
+        match self.ticks.checked_add(1) {
+            Some(ticks) => self.ticks = ticks,
+            None => self.whole = false,
+        }
+        time
+    }
+}
+
+#[cfg(test)]
+mod tests;

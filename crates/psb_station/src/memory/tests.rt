@@ -1,0 +1,165 @@
+ghost use Rattle.std.specs.Prelude.{◌≤◌, length, vec_len, All, IfOk};
+ghost use Rattle.psb_station.specs.Memory.{calls_made};
+
+use crate::{Disk, Failed, MemStation, Station};
+use psb_bytes::Memory;
+use std::alloc::{AllocError, Global};
+use std::test::Fail;
+
+/// A buffer for any frame.
+fn frame_buffer(alloc: Global) -> Result<Vec<u8>, AllocError>
+    ensures { IfOk result (λ v. 65507 ≤ vec_len v) }
+{
+    vec![in alloc; 0; 65507]
+}
+
+/// The arrivals of the tests: one frame of two bytes.
+fn arrivals(alloc: Global) -> Result<Vec<Vec<u8>>, AllocError>
+    ensures { IfOk result (λ v. All (λ a. length a.items ≤ 65507) v.items) }
+{
+    let mut arrivals = Vec::new(alloc);
+    arrivals.push(vec![in alloc; 7, 8]?)?;
+    Ok(arrivals)
+}
+
+fn station(alloc: Global, faults: Vec<u64>) -> Result<MemStation, AllocError> {
+    let image = vec![in alloc; 1, 2, 3]?;
+    let clock = vec![in alloc; 50, 40]?;
+    Ok(MemStation::new(alloc, image, arrivals(alloc)?, clock, faults))
+}
+
+#[test]
+fn a_disk_in_memory_reads_what_was_written(rt: HostRuntime) -> Result<(), Fail> {
+    let alloc = rt.alloc();
+    let mut disk = station(alloc, Vec::new(alloc))?;
+    let mut into = [0; 4];
+    assert_eq!(rt; disk.len(), Ok(3));
+    assert_eq!(rt; disk.read(1, &mut into), Ok(2));
+    assert_eq!(rt; into, [2, 3, 0, 0]);
+    assert_eq!(rt; disk.write_at(0, &[9, 8, 7, 6]), Ok(()));
+    assert_eq!(rt; disk.read(0, &mut into), Ok(4));
+    assert_eq!(rt; into, [9, 8, 7, 6]);
+    assert_eq!(rt; disk.read(4, &mut into), Ok(0));
+    assert_eq!(rt; disk.sync(), Ok(()));
+    assert_eq!(rt; disk.cut(0), Ok(()));
+    assert_eq!(rt; disk.len(), Ok(0));
+    Ok(())
+}
+
+#[test]
+fn a_station_in_memory_hears_sends_and_says(rt: HostRuntime) -> Result<(), Fail> {
+    let alloc = rt.alloc();
+    let mut station = station(alloc, Vec::new(alloc))?;
+    let mut into = frame_buffer(alloc)?;
+    assert_eq!(rt; station.join(1, "here"), Ok(()));
+    assert_eq!(rt; station.recv(&mut into), Ok(Some(2)));
+    assert_eq!(rt; &into[..2], [7, 8].as_slice());
+    assert_eq!(rt; station.recv(&mut into), Ok(None));
+    assert_eq!(rt; [station.now(), station.now(), station.now()], [50, 40, 40]);
+    assert_eq!(rt; station.send(2, &[5, 6]), Ok(()));
+    assert_eq!(rt; station.say(b"one "), Ok(()));
+    assert_eq!(rt; station.say(b"two"), Ok(()));
+    assert_eq!(rt; station.said_bytes(), b"one two".as_slice());
+    assert_eq!(rt; station.sent_count(), 1);
+    assert_eq!(rt; station.sent_to(0), 2);
+    assert_eq!(rt; station.sent_frame(0), [5, 6].as_slice());
+    Ok(())
+}
+
+/// Which of ten calls fail, where these numbers are to fail. Call 10 is `now`, which cannot.
+fn failures(alloc: Global, faults: Vec<u64>) -> Result<[bool; 9], AllocError> {
+    let mut station = station(alloc, faults)?;
+    let mut into = frame_buffer(alloc)?;
+    let mut piece = [0; 2];
+    Ok([
+        station.len().is_err(),
+        station.read(0, &mut piece).is_err(),
+        station.write_at(0, &[4]).is_err(),
+        station.cut(0).is_err(),
+        station.sync().is_err(),
+        station.join(1, "here").is_err(),
+        station.recv(&mut into).is_err(),
+        station.send(2, &[5]).is_err(),
+        station.say(b"six").is_err(),
+    ])
+}
+
+#[test]
+fn the_calls_of_the_given_numbers_fail(rt: HostRuntime) -> Result<(), Fail> {
+    let alloc = rt.alloc();
+    assert_eq!(rt; failures(alloc, Vec::new(alloc))?, [false; 9]);
+    for number in 1..10u64 {
+        let failed = failures(alloc, vec![in alloc; number]?)?;
+        for (i, one) in failed.iter().enumerate() {
+            assert_eq!(rt;
+                *one,
+                i as u64 + 1 == number,
+                "call {i} where {number} fails"
+            );
+        }
+    }
+    Ok(())
+}
+
+#[test]
+fn a_call_of_now_counts_among_the_calls(rt: HostRuntime) -> Result<(), Fail> {
+    let alloc = rt.alloc();
+    let mut station = station(alloc, vec![in alloc; 2]?)?;
+    assert_eq!(rt; station.now(), 50);
+    assert_eq!(rt; station.say(b"lost"), Err(Failed));
+    assert_eq!(rt; station.say(b"kept"), Ok(()));
+    assert_eq!(rt; station.said_bytes(), b"kept".as_slice());
+    Ok(())
+}
+
+#[test]
+fn an_empty_clock_gives_zero(rt: HostRuntime) {
+    let alloc = rt.alloc();
+    let mut station = MemStation::new(
+        alloc,
+        Vec::new(alloc),
+        Vec::new(alloc),
+        Vec::new(alloc),
+        Vec::new(alloc),
+    );
+    assert_eq!(rt; station.now(), 0);
+}
+
+/// The images that a crash after a call leaves, by outcome.
+fn leaves(station: &MemStation, call: u64) -> Result<[Vec<u8>; 3], Memory>
+    requires { (1 ≤ call) × (call ≤ calls_made station.now) }
+{
+    Ok([
+        station.left(call, 0)?,
+        station.left(call, 1)?,
+        station.left(call, 2)?,
+    ])
+}
+
+#[test]
+fn a_crash_leaves_nothing_all_or_fillings_of_what_is_unsynced(rt: HostRuntime) -> Result<(), Fail> {
+    let alloc = rt.alloc();
+    let mut station = station(alloc, vec![in alloc; 5]?)?;
+    assert_eq!(rt; station.write_at(0, &[9, 8, 7, 6]), Ok(()));
+    assert_eq!(rt; station.sync(), Ok(()));
+    assert_eq!(rt; station.now(), 50);
+    assert_eq!(rt; station.write_at(0, &[5]), Ok(()));
+    assert_eq!(rt; station.write_at(0, &[0]), Err(Failed));
+    assert_eq!(rt; station.cut(0), Ok(()));
+    assert_eq!(rt; station.call_count(), 6);
+    let wants: [[&[u8]; 3]; 6] = [
+        [&[1, 2, 3], &[9, 8, 7, 6], &[255, 255, 255, 255]],
+        [&[9, 8, 7, 6], &[9, 8, 7, 6], &[9, 8, 7, 6]],
+        [&[9, 8, 7, 6], &[9, 8, 7, 6], &[9, 8, 7, 6]],
+        [&[9, 8, 7, 6], &[5, 8, 7, 6], &[255, 8, 7, 6]],
+        [&[9, 8, 7, 6], &[5, 8, 7, 6], &[255, 8, 7, 6]],
+        [&[9, 8, 7, 6], &[], &[]],
+    ];
+    for (i, want) in wants.iter().enumerate() {
+        let [nothing, all, filled] = leaves(&station, i as u64 + 1)?;
+        assert_eq!(rt; nothing.as_slice(), want[0], "nothing at {i}");
+        assert_eq!(rt; all.as_slice(), want[1], "all at {i}");
+        assert_eq!(rt; filled.as_slice(), want[2], "filled at {i}");
+    }
+    Ok(())
+}
