@@ -15,9 +15,18 @@ fn seed() -> Result<Digest, Fail> {
 fn hashes_are_those_of_the_standard(rt: HostRuntime) -> Result<(), Fail> {
     let two_blocks = "abcdbcdecdefdefgefghfghighijhijkijkljklmklmnlmnomnopnopq";
     let rows = [
-        ("", "e3b0c44298fc1c149afbf4c8996fb92427ae41e4649b934ca495991b7852b855"),
-        ("abc", "ba7816bf8f01cfea414140de5dae2223b00361a396177a9cb410ff61f20015ad"),
-        (two_blocks, "248d6a61d20638b8e5c026930c3e6039a33ce45964ff2167f6ecedd419db06c1"),
+        (
+            "",
+            "e3b0c44298fc1c149afbf4c8996fb92427ae41e4649b934ca495991b7852b855",
+        ),
+        (
+            "abc",
+            "ba7816bf8f01cfea414140de5dae2223b00361a396177a9cb410ff61f20015ad",
+        ),
+        (
+            two_blocks,
+            "248d6a61d20638b8e5c026930c3e6039a33ce45964ff2167f6ecedd419db06c1",
+        ),
     ];
     for (message, want) in rows {
         let bytes = message.as_bytes();
@@ -32,10 +41,26 @@ fn hashes_are_those_of_the_standard(rt: HostRuntime) -> Result<(), Fail> {
 fn codes_are_those_of_rfc_4231(rt: HostRuntime) -> Result<(), Fail> {
     let largest = "Test Using Larger Than Block-Size Key - Hash Key First";
     let rows: [(&[u8], &[u8], &str); 4] = [
-        (&[0x0b; 20], b"Hi There", "b0344c61d8db38535ca8afceaf0bf12b881dc200c9833da726e9376c2e32cff7"),
-        (b"Jefe", b"what do ya want for nothing?", "5bdcc146bf60754e6a042426089575c75a003f089d2739839dec58b964ec3843"),
-        (&[0xaa; 20], &[0xdd; 50], "773ea91e36800e46854db8ebd09181a72959098b3ef8c122d9635514ced565fe"),
-        (&[0xaa; 131], largest.as_bytes(), "60e431591ee0b67f0d8a26aacbf5b77f8e0bc6213728c5140546040f0ee37f54"),
+        (
+            &[0x0b; 20],
+            b"Hi There",
+            "b0344c61d8db38535ca8afceaf0bf12b881dc200c9833da726e9376c2e32cff7",
+        ),
+        (
+            b"Jefe",
+            b"what do ya want for nothing?",
+            "5bdcc146bf60754e6a042426089575c75a003f089d2739839dec58b964ec3843",
+        ),
+        (
+            &[0xaa; 20],
+            &[0xdd; 50],
+            "773ea91e36800e46854db8ebd09181a72959098b3ef8c122d9635514ced565fe",
+        ),
+        (
+            &[0xaa; 131],
+            largest.as_bytes(),
+            "60e431591ee0b67f0d8a26aacbf5b77f8e0bc6213728c5140546040f0ee37f54",
+        ),
     ];
     for (key, message, want) in rows {
         assert_eq!(rt; hmac(key, message), digest(want)?, "{want}");
@@ -61,13 +86,34 @@ fn masks_with_the_keystream_of_the_zero_key(rt: HostRuntime) {
 #[test]
 fn claims_are_those_of_the_seed(rt: HostRuntime) -> Result<(), Fail> {
     let rows = [
-        (0, "7ca745377f1a10e1569b02ad1434e057373adff946554ba6ce302131ba0d3390"),
-        (1, "614d555bae2ec7894ccf8299908ae5b7677c75cdc7cfaa84b2cbf70376d8befd"),
-        (2, "ab77acc0cf1b6cfba0a37422b30b1ac9c10bff224d45264f4a42833fb7abef5a"),
-        (15, "15b0f397eb67ad3bffc20fb91350e31f56b1c8b555c4439c5fcf0ccea7c521a9"),
-        (16, "3dd2468bed37b565b00ec413c6310cfc315fb054fe697ce127a7f84cbd8973a4"),
-        (255, "369bcfe9e5dc5f65ce1299dc0d66f743600169ae9a250227bac734b41992b26e"),
-        (299, "827953ac605ddc6126a47ba5f122c4c8389d53b7b543437c32e825fd3f827330"),
+        (
+            0,
+            "7ca745377f1a10e1569b02ad1434e057373adff946554ba6ce302131ba0d3390",
+        ),
+        (
+            1,
+            "614d555bae2ec7894ccf8299908ae5b7677c75cdc7cfaa84b2cbf70376d8befd",
+        ),
+        (
+            2,
+            "ab77acc0cf1b6cfba0a37422b30b1ac9c10bff224d45264f4a42833fb7abef5a",
+        ),
+        (
+            15,
+            "15b0f397eb67ad3bffc20fb91350e31f56b1c8b555c4439c5fcf0ccea7c521a9",
+        ),
+        (
+            16,
+            "3dd2468bed37b565b00ec413c6310cfc315fb054fe697ce127a7f84cbd8973a4",
+        ),
+        (
+            255,
+            "369bcfe9e5dc5f65ce1299dc0d66f743600169ae9a250227bac734b41992b26e",
+        ),
+        (
+            299,
+            "827953ac605ddc6126a47ba5f122c4c8389d53b7b543437c32e825fd3f827330",
+        ),
     ];
     for (i, want) in rows {
         assert_eq!(rt; sha(&claim_of(&seed()?, i)), digest(want)?, "claim {i}");
@@ -79,26 +125,9 @@ fn claims_are_those_of_the_seed(rt: HostRuntime) -> Result<(), Fail> {
 fn own_words_are_those_of_the_change(rt: HostRuntime) -> Result<(), Fail> {
     let mut words = own_words(&seed()?, 7);
     let wanted: [u32; 20] = [
-        1158524048,
-        769669231,
-        3587931579,
-        452259817,
-        1023693612,
-        885650683,
-        63630059,
-        1256341011,
-        1101547655,
-        2026390203,
-        1274092799,
-        1464134029,
-        919321230,
-        2024237083,
-        2451919016,
-        144414973,
-        2083105832,
-        4063978138,
-        2511821890,
-        33961874,
+        1158524048, 769669231, 3587931579, 452259817, 1023693612, 885650683, 63630059, 1256341011,
+        1101547655, 2026390203, 1274092799, 1464134029, 919321230, 2024237083, 2451919016,
+        144414973, 2083105832, 4063978138, 2511821890, 33961874,
     ];
     for want in wanted {
         assert_eq!(rt; words.next(), want);

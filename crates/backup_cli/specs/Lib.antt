@@ -1,0 +1,5 @@
+pub mod Words
+pub mod Lines
+pub mod Status
+pub mod Says
+pub mod Served

@@ -1,0 +1,13 @@
+//! The program `psb`: its words, what it does and says, and the status that it ends with.
+#![tactic(auto)]
+
+mod lines;
+mod program;
+mod saying;
+mod serving;
+mod status;
+mod words;
+
+pub use program::run;
+pub use status::Status;
+pub use words::words_fix_the_turns;

@@ -1,0 +1,60 @@
+ghost use Rattle.std.specs.Prelude.{◌≡◌, ◌⊎◌, ◌↔◌, List, ℕ, Some, IfSome, map, string_bytes};
+ghost use Rattle.psb_station.specs.Calls.{Rose};
+ghost use Rattle.psb_station.specs.Span.{Tells_bytes};
+ghost use Rattle.psb_settings.specs.declared.settings.Settings.{Settings};
+ghost use Rattle.psb_model.specs.History.{state};
+ghost use Rattle.psb_model.specs.Needed.{IsValid};
+ghost use Rattle.psb_model.specs.declared.change.Change.{Change};
+ghost use Rattle.node_journal.specs.Format.{Stands};
+ghost use Rattle.node_core.specs.Stands.{HoldsHistory};
+ghost use Rattle.backup_cli.specs.Says.{Utters, IsRefusal};
+ghost use Rattle.backup_cli.specs.Served.{IsNode, Serves};
+ghost use Rattle.backup_cli.specs.Words.{IsServe};
+
+use crate::Status;
+use crate::serving::{refuse, serve_command};
+use crate::words::read_words;
+use node_journal::PlainLog;
+use psb_station::{Folder, Station};
+use std::alloc::Global;
+
+/// Does all that the program does: it reads the words, carries out the command on the station, and
+/// says what came of it. The one command so far is `serve TURNS`; the folder is not used yet.
+pub fn run<S: Station, F: Folder>(
+    alloc: Global,
+    station: &mut S,
+    folder: &mut F,
+    words: &[String],
+) -> Status
+    // Usage comes exactly where the words are no command; then its line is tried and nothing else done.
+    ensures usage { (result ≡ Status.Usage) ↔ ((turns : ℕ) → ¬ IsServe (map string_bytes words.now) turns) }
+    ensures usage_said { result ≡ Status.Usage → (text : List ℕ) × Utters (S.view station.old) (S.view station.new) 1 text × IsRefusal Status.Usage text (S.view station.old) (S.view station.new) }
+
+    // The headline, for the history that the disk holds.
+    ensures serves { (turns : ℕ) → IsServe (map string_bytes words.now) turns
+        → (h : List Change) (settings : Settings) → IsNode Stands h (S.view station.old) → (state h).settings ≡ Some settings
+        → Serves Stands h settings (S.view station.old) (S.view station.new) turns result }
+
+    // NotNode comes exactly where the bytes hold no valid history, as far as no fault came first.
+    ensures not_node { result ≡ Status.NotNode → IfSome (S.view station.old).bytes (λ b. (h : List Change) → IsValid h → ¬ HoldsHistory Stands h b) }
+    ensures opened { (result ≡ Status.Done) ⊎ (result ≡ Status.LinkFault) ⊎ (result ≡ Status.SayFault)
+        → IfSome (S.view station.old).bytes (λ b. (h : List Change) × IsValid h × HoldsHistory Stands h b) }
+
+    // A disk that holds no node may leave what it might have left at entry, and nothing else.
+    ensures unharmed { ((h : List Change) → ¬ IsNode Stands h (S.view station.old)) → Tells_bytes (S.view station.old)
+        → (c : List ℕ) (k : ℕ) → (S.view station.new).left_since (S.view station.old).moment c k → (S.view station.old).may_leave c }
+
+    ensures disk_cause { result ≡ Status.DiskFault → Rose (S.view station.old).disk_faults (S.view station.new).disk_faults }
+    ensures link_cause { result ≡ Status.LinkFault → Rose (S.view station.old).outside.link_faults (S.view station.new).outside.link_faults }
+    ensures say_cause { result ≡ Status.SayFault → Rose (S.view station.old).outside.say_faults (S.view station.new).outside.say_faults }
+    ensures folder { folder.new ≡ folder.old }
+{
+    let _ = &folder;
+    match read_words(words) {
+        None => refuse(station, Status::Usage),
+        Some(turns) => serve_command::<PlainLog, S>(alloc, station, turns),
+    }
+}
+
+#[cfg(test)]
+mod tests;

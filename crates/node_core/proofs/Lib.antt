@@ -1,0 +1,9 @@
+pub mod Reopened
+pub mod Reading
+pub mod Presence
+pub mod Opened
+pub mod Making
+pub mod Taken
+pub mod Offered
+pub mod ClaimFits
+pub mod KeyTables

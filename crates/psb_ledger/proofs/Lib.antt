@@ -1,0 +1,9 @@
+pub mod Spelled
+pub mod OneChange
+pub mod Decoded
+pub mod Ordered
+pub mod Slots
+pub mod Places
+pub mod After
+pub mod Sound
+pub mod Taking

@@ -1,0 +1,178 @@
+-- The object order, and what a search in a list that is in this order finds.
+use Rattle.std.proofs.Common.{◌≡◌, ℕ, zero, suc, ◌+◌, ◌<◌, ◌≤◌, Bool, true, false, not, ◌&&◌, ◌||◌, List, [], ◌∷◌, length, get_or, Result, Ok, Err, IfErr, refl, sym, ap, ◌∙◌, arith}
+use Rattle.std.specs.Prelude.{◌==◌, nat_lt, is_ok, insert}
+use Rattle.std.specs.List.{list_any, list_all, position_or_len, prefix_len}
+use Rattle.std.specs.List.Sorted.{IsSearchInRange, IsBinarySearchResult}
+use Rattle.std.specs.declared.cmp.Ordering.{Ordering}
+use Rattle.std.specs.declared.cmp.Ordering.TheVariants.{Less, Equal, Greater}
+use Rattle.std.specs.Ordering.{nat_cmp, is_lt, is_eq, ordering_reverse, ordering_then}
+use Rattle.std.specs.Cmp.{IsTotalOrder}
+use Rattle.std.specs.Cmp.Lexicographic.{slice_cmp}
+use Rattle.std.proofs.lemmas.Cmp.{nat_cmp_total, nat_list_cmp_total}
+use Rattle.std.proofs.lemmas.Bool.{and_parts, ltb-true, ltb-false, true≢false}
+use Rattle.std.proofs.lemmas.Bool.Decides.{nat_tests}
+use Rattle.std.proofs.lemmas.List.Sums.{position_or_len_is, prefix_len-le-length}
+use Rattle.std.proofs.lemmas.List.Folds.{list_any_at}
+use Rattle.std.proofs.lemmas.List.Sorted.{searchable_from_sorted}
+use Rattle.psb_bytes.specs.Objects.{object_eq, object_cmp, name_eq}
+use Rattle.psb_bytes.specs.declared.ids.Object.{Object}
+use Rattle.psb_bytes.specs.declared.ids.Object.TheVariants.{Chunk, Slot}
+use Rattle.psb_model.specs.declared.entries.InEntry.{InEntry}
+use Rattle.psb_model.specs.declared.entries.InState.TheVariants as at
+use Rattle.psb_model.specs.Words.{has, with_one}
+use Rattle.psb_model.specs.State.{in_key}
+use Rattle.psb_ledger.specs.View.{in_order}
+
+pub by_cases : {P : Type 0} → (b : Bool) → (b ≡ true → P) → (b ≡ false → P) → P
+by_cases true f g = f refl
+by_cases false f g = g refl
+
+-- THE ORDER
+
+pub object_total : IsTotalOrder object_cmp
+object_total = record { antisymm = antisymm; trans = trans; congr = congr }
+  where
+    antisymm : (x y : Object) → object_cmp x y ≡ ordering_reverse (object_cmp y x)
+    antisymm (Chunk a) (Chunk b) = nat_list_cmp_total.antisymm a b
+    antisymm (Chunk a) (Slot b) = refl
+    antisymm (Slot a) (Chunk b) = refl
+    antisymm (Slot a) (Slot b) = nat_cmp_total.antisymm a b
+
+    trans : (x y z : Object) → object_cmp x y ≡ Less → object_cmp y z ≡ Less → object_cmp x z ≡ Less
+    trans (Chunk a) (Chunk b) (Chunk c) h k = nat_list_cmp_total.trans a b c h k
+    trans (Chunk a) (Chunk b) (Slot c) h k = refl
+    trans (Chunk a) (Slot b) (Chunk c) h k = cc
+    trans (Chunk a) (Slot b) (Slot c) h k = refl
+    trans (Slot a) (Chunk b) z h k = cc
+    trans (Slot a) (Slot b) (Chunk c) h k = cc
+    trans (Slot a) (Slot b) (Slot c) h k = nat_cmp_total.trans a b c h k
+
+    congr : (x y z : Object) → object_cmp x y ≡ Equal → object_cmp x z ≡ object_cmp y z
+    congr (Chunk a) (Chunk b) (Chunk c) h = nat_list_cmp_total.congr a b c h
+    congr (Chunk a) (Chunk b) (Slot c) h = refl
+    congr (Chunk a) (Slot b) z h = cc
+    congr (Slot a) (Chunk b) z h = cc
+    congr (Slot a) (Slot b) (Chunk c) h = refl
+    congr (Slot a) (Slot b) (Slot c) h = nat_cmp_total.congr a b c h
+
+number_eq : (a b : ℕ) → (a == b) ≡ is_eq (nat_cmp a b)
+number_eq a b = grind (arith, nat_tests)
+
+then_eq : (o p : Ordering) → (is_eq o && is_eq p) ≡ is_eq (ordering_then o p)
+then_eq Less p = refl
+then_eq Equal p = refl
+then_eq Greater p = refl
+
+bytes_same : (a b : List ℕ) → name_eq a b ≡ is_eq (slice_cmp nat_cmp a b)
+bytes_same [] [] = refl
+bytes_same [] (y ∷ ys) = refl
+bytes_same (x ∷ xs) [] = refl
+bytes_same (x ∷ xs) (y ∷ ys) = (λ i. number_eq x y i && bytes_same xs ys i) ∙ then_eq (nat_cmp x y) (slice_cmp nat_cmp xs ys)
+
+-- two objects are one exactly where they compare as equal
+pub same_object : (a b : Object) → object_eq a b ≡ is_eq (object_cmp a b)
+same_object (Chunk a) (Chunk b) = bytes_same a b
+same_object (Chunk a) (Slot b) = refl
+same_object (Slot a) (Chunk b) = refl
+same_object (Slot a) (Slot b) = number_eq a b
+
+pub is_less : (o : Ordering) → is_lt o ≡ true → o ≡ Less
+is_less Less h = refl
+is_less Equal h = cc
+is_less Greater h = cc
+
+pub comes_first : (a b : Object) → is_lt (object_cmp a b) ≡ true → is_lt (object_cmp b a) ≡ false
+comes_first a b h = ap is_lt (object_total.antisymm b a ∙ ap ordering_reverse (is_less (object_cmp a b) h))
+
+-- A SEARCH
+
+no_entry : InEntry
+no_entry = record { object = Slot 0; units = 0; state = at.Body }
+
+-- the head comes before what stands at a later place
+before_at : (e : InEntry) (es : List InEntry) (k : ℕ) (d : InEntry) → list_all (λ (x : InEntry). is_lt (object_cmp e.object x.object)) es ≡ true → k < length es → is_lt (object_cmp e.object (get_or es k d).object) ≡ true
+before_at e [] k d h lt = absurd (omega arith)
+before_at e (x ∷ xs) zero d h lt = (and_parts (is_lt (object_cmp e.object x.object)) (list_all (λ (x : InEntry). is_lt (object_cmp e.object x.object)) xs) h).0
+before_at e (x ∷ xs) (suc k) d h lt = before_at e xs k d (and_parts (is_lt (object_cmp e.object x.object)) (list_all (λ (x : InEntry). is_lt (object_cmp e.object x.object)) xs) h).1 (omega arith)
+
+-- a list in order is sorted, as std says it
+pub sorted : (l : List InEntry) → in_order l ≡ true → (k : ℕ) (d : InEntry) → k + 1 < length l → is_lt (object_cmp (get_or l (k + 1) d).object (get_or l k d).object) ≡ false
+sorted [] h k d lt = absurd (omega arith)
+sorted (e ∷ es) h zero d lt = comes_first e.object (get_or es 0 d).object (before_at e es 0 d (and_parts (list_all (λ (x : InEntry). is_lt (object_cmp e.object x.object)) es) (in_order es) h).0 (omega arith))
+sorted (e ∷ es) h (suc k) d lt =
+    let more : suc k + 1 ≡ suc (k + 1) = omega arith in
+    rw more (sorted es (and_parts (list_all (λ (x : InEntry). is_lt (object_cmp e.object x.object)) es) (in_order es) h).1 k d (omega arith))
+
+none_passes : {X : Type 0} (p : X → Bool) (xs : List X) → ((k : ℕ) (d : X) → k < length xs → p (get_or xs k d) ≡ false) → list_any p xs ≡ false
+none_passes p [] h = refl
+none_passes p (x ∷ xs) h = rw (h 0 x (omega arith)) (none_passes p xs (λ k d lt. h (suc k) d (omega arith)))
+
+-- a search for an object ends at its entry, or at the place for it
+pub searched : (l : List InEntry) (o : Object) (r : Result ℕ ℕ) → in_order l ≡ true → IsSearchInRange r (length l) → IsBinarySearchResult (λ e. object_cmp (in_key e) o) l r → (is_ok r ≡ has in_key l o) × IfErr r (λ i. i ≡ position_or_len (λ e. is_lt (object_cmp o (in_key e))) l)
+searched l o (Ok i) h range at =
+    let here : object_eq (in_key (get_or l i no_entry)) o ≡ true = same_object (in_key (get_or l i no_entry)) o ∙ ap is_eq (at no_entry) in
+    (sym (list_any_at (λ e. object_eq (in_key e) o) l i no_entry range here), tt)
+searched l o (Err i) h range at =
+    let parted = at (searchable_from_sorted object_total in_key l o (λ k d low high. sorted l h k d high)) in
+    let other : (k : ℕ) (d : InEntry) → k < length l → object_eq (in_key (get_or l k d)) o ≡ false = λ k d lt. by_cases (nat_lt k i)
+    (λ b. same_object (in_key (get_or l k d)) o ∙ ap is_eq (parted.0 k d (omega arith) (ltb-true k i b)))
+    (λ b. same_object (in_key (get_or l k d)) o ∙ ap is_eq (parted.1 k d (ltb-false k i b) lt)) in
+    let first : (k : ℕ) → k < i → is_lt (object_cmp o (in_key (get_or l k no_entry))) ≡ false = λ k lt. ap is_lt (object_total.antisymm o (in_key (get_or l k no_entry)) ∙ ap ordering_reverse (parted.0 k no_entry (omega arith) lt)) in
+    let then : i < length l → is_lt (object_cmp o (in_key (get_or l i no_entry))) ≡ true = λ lt. ap is_lt (object_total.antisymm o (in_key (get_or l i no_entry)) ∙ ap ordering_reverse (parted.1 i no_entry (omega arith) lt)) in
+    (sym (none_passes (λ e. object_eq (in_key e) o) l other), sym (position_or_len_is (λ e. is_lt (object_cmp o (in_key e))) l i no_entry range first then))
+
+-- AN ENTRY THAT GOES IN
+
+pub place_within : {E : Type 0} (test : E → Bool) (l : List E) (n : ℕ) → n ≡ position_or_len test l → n ≤ length l
+place_within test l n h = omega (arith, h, prefix_len-le-length (λ x. not (test x)) l)
+
+pub placed : {E : Type 0} (key : E → Object) (e : E) (l : List E) (n : ℕ) → n ≡ position_or_len (λ x. is_lt (object_cmp (key e) (key x))) l → insert l n e ≡ with_one key e l
+placed key e l n h = ap (λ m. insert l m e) h ∙ at_first key e l
+  where
+    at_first : {E : Type 0} (key : E → Object) (e : E) (l : List E) → insert l (position_or_len (λ x. is_lt (object_cmp (key e) (key x))) l) e ≡ with_one key e l
+    at_first key e [] = refl
+    at_first key e (x ∷ xs) =
+        by_cases (is_lt (object_cmp (key e) (key x)))
+        (λ k. rw k refl)
+        (λ k. let n = prefix_len (λ y. not (is_lt (object_cmp (key e) (key y)))) xs in
+        let more : 1 + n ≡ suc n = omega arith in
+        rw (k, more) (ap (λ l. x ∷ l) (at_first key e xs)))
+
+-- what is below an entry is below the others behind it
+below_rest : (e x : InEntry) (xs : List InEntry) → is_lt (object_cmp e.object x.object) ≡ true → list_all (λ (y : InEntry). is_lt (object_cmp x.object y.object)) xs ≡ true → list_all (λ (y : InEntry). is_lt (object_cmp e.object y.object)) xs ≡ true
+below_rest e x [] h k = refl
+below_rest e x (y ∷ ys) h k =
+    let a = and_parts (is_lt (object_cmp x.object y.object)) (list_all (λ (y : InEntry). is_lt (object_cmp x.object y.object)) ys) k in
+    let one : is_lt (object_cmp e.object y.object) ≡ true = ap is_lt (object_total.trans e.object x.object y.object (is_less (object_cmp e.object x.object) h) (is_less (object_cmp x.object y.object) a.0)) in
+    rw one (below_rest e x ys h a.1)
+
+below_with : (x e : InEntry) (xs : List InEntry) → is_lt (object_cmp x.object e.object) ≡ true → list_all (λ (y : InEntry). is_lt (object_cmp x.object y.object)) xs ≡ true → list_all (λ (y : InEntry). is_lt (object_cmp x.object y.object)) (with_one in_key e xs) ≡ true
+below_with x e [] h k = rw h refl
+below_with x e (y ∷ ys) h k =
+    by_cases (is_lt (object_cmp e.object y.object))
+    (λ b. rw (b, h) k)
+    (λ b.
+    let a = and_parts (is_lt (object_cmp x.object y.object)) (list_all (λ (y : InEntry). is_lt (object_cmp x.object y.object)) ys) k in
+    rw (b, a.0) (below_with x e ys h a.1))
+
+-- of two that are not one, one comes before the other
+one_is_first : (a b : Object) → object_eq a b ≡ false → is_lt (object_cmp b a) ≡ false → is_lt (object_cmp a b) ≡ true
+one_is_first a b other h = by_order (object_cmp a b) (sym (same_object a b) ∙ other) (ap is_lt (sym (object_total.antisymm b a)) ∙ h)
+  where
+    by_order : (o : Ordering) → is_eq o ≡ false → is_lt (ordering_reverse o) ≡ false → is_lt o ≡ true
+    by_order Less h k = refl
+    by_order Equal h k = cc
+    by_order Greater h k = cc
+
+pub in_order_with : (e : InEntry) (l : List InEntry) → in_order l ≡ true → has in_key l e.object ≡ false → in_order (with_one in_key e l) ≡ true
+in_order_with e [] h absent = refl
+in_order_with e (x ∷ xs) h absent =
+    let a = and_parts (list_all (λ (y : InEntry). is_lt (object_cmp x.object y.object)) xs) (in_order xs) h in
+    let n = neither (object_eq x.object e.object) (has in_key xs e.object) absent in
+    by_cases (is_lt (object_cmp e.object x.object))
+    (λ b. rw b (rw b (rw (below_rest e x xs b a.0) h)))
+    (λ b. rw b (rw (below_with x e xs (one_is_first x.object e.object n.0 b) a.0) (in_order_with e xs a.1 n.1)))
+  where
+    neither : (p q : Bool) → (p || q) ≡ false → (p ≡ false) × (q ≡ false)
+    neither true q h = absurd (true≢false h)
+    neither false q h = (refl, h)

@@ -1,0 +1,121 @@
+-- What contracts see of a ledger: the state, and the memory that was taken for a change.
+use Rattle.std.specs.Prelude.{◌≡◌, ℕ, ◌+◌, ◌==◌, nat_lt, nat_le, not, if◌then◌else◌, ◌^◌, ◌<◌, ◌≤◌, Bool, true, ◌&&◌, List, [], ◌∷◌, map, sum_by, Option, Some, None}
+use Rattle.std.specs.List.{list_all}
+use Rattle.std.specs.Ordering.{is_lt}
+use Rattle.psb_bytes.specs.Objects.{object_cmp}
+use Rattle.psb_bytes.specs.declared.ids.Object.{Object}
+use Rattle.psb_bytes.specs.declared.ids.Object.TheVariants.{Chunk, Slot}
+use Rattle.psb_settings.specs.declared.settings.Settings.{Settings}
+use Rattle.psb_model.specs.declared.entries.InEntry.{InEntry}
+use Rattle.psb_model.specs.declared.entries.OutEntry.{OutEntry}
+use Rattle.psb_model.specs.declared.entries.DebtEntry.{DebtEntry}
+use Rattle.psb_model.specs.declared.deals.LastDeal.{LastDeal}
+use Rattle.psb_model.specs.declared.change.Change.{Change}
+use Rattle.psb_model.specs.declared.change.Change.TheVariants.{Begun, TookFresh}
+use Rattle.psb_model.specs.Words.{units, all_of, has, with_one, with_all}
+use Rattle.psb_model.specs.State.{Row, State, blank, is_peer, used, in_key, in_size, out_key, out_size, debt_size, debt_of}
+use Rattle.psb_model.specs.Conditions.{settings_in, capacity, most_claims}
+use Rattle.psb_model.specs.Effects.{chunk_in, own_slots, took_deal, first_rows}
+use Rattle.psb_model.proofs.Balance.{Good}
+
+-- a peer's row, and how many more entries its two lists have room for
+pub record AccountView : Type 0 where
+  pub id : ℕ
+  pub row : Row
+  pub in_room : ℕ
+  pub out_room : ℕ
+
+-- the ledger: its state, its accounts with their room, and the settings that a Begun will bring
+pub record LedgerView : Type 0 where
+  pub state : State
+  pub accounts : List AccountView
+  pub next : Option Settings
+  pub next_accounts : List AccountView
+
+-- a row with these lists and this last deal, and nothing else
+abbrev pub plain_row : List InEntry → List OutEntry → List DebtEntry → LastDeal → Row
+plain_row ins outs debts last = record blank { ins = ins; outs = outs; debts = debts; last = last }
+
+-- the row of the state that an account is
+abbrev pub named_row : AccountView → ℕ × Row
+named_row v = (v.id, v.row)
+
+-- a state with these accounts, without own chunks and snapshots
+abbrev pub plain_state : ℕ → Option Settings → List AccountView → ℕ → State
+plain_state changes settings accounts issued = record { changes = changes; settings = settings; rows = map named_row accounts; issued = issued; own = []; kept = []; snapped = 0; chosen = [] }
+
+-- the row of an account that was looked for
+abbrev pub row_of : Option AccountView → Row
+row_of None = blank
+row_of (Some v) = v.row
+
+-- a row after a chunk was taken against new slots
+abbrev pub fresh_row : List ℕ → ℕ → ℕ → ℕ → ℕ → Row → Row
+fresh_row name u first deal change r = took_deal deal change (record r { ins = with_one in_key (chunk_in name u) r.ins; outs = with_all out_key (own_slots first u) r.outs })
+
+-- what a chunk is measured by, beside its peer's row: whether a body is held under its name, the
+-- units that are used, its own units, the capacity, and the claim numbers that were drawn
+abbrev pub fresh_tests : Row → ℕ → List ℕ → ℕ → Bool → Bool → ℕ → ℕ → ℕ → ℕ → Bool
+fresh_tests r deal name first new held used u most issued = all_of
+    ((deal == r.last.number + 1)
+    ∷ not (has in_key r.ins (Chunk name))
+    ∷ (if held then not new else new)
+    ∷ (debt_of r == 0)
+    ∷ nat_le (used + u) most
+    ∷ (first == issued)
+    ∷ nat_le (issued + u) most_claims
+    ∷ [])
+
+-- a refusal answers the peer's next deal, with a reason of 1 to 9
+abbrev pub refusal_tests : Row → ℕ → ℕ → Bool
+refusal_tests r deal why = all_of ((deal == r.last.number + 1) ∷ nat_le 1 why ∷ nat_le why 9 ∷ [])
+
+-- a chunk, or a slot with a number below this one
+abbrev pub is_below_slot : ℕ → Object → Bool
+is_below_slot first (Chunk name) = true
+is_below_slot first (Slot n) = nat_lt n first
+
+abbrev pub stands_below : ℕ → OutEntry → Bool
+stands_below first e = is_below_slot first e.object
+
+-- each object comes before all later ones
+abbrev pub in_order : List InEntry → Bool
+in_order [] = true
+in_order (e ∷ es) = list_all (λ (x : InEntry). is_lt (object_cmp e.object x.object)) es && in_order es
+
+-- ROOM: what `make_room` took for a change
+
+-- the account of a peer; a stranger has no room
+abbrev pub account_in : List AccountView → ℕ → AccountView
+account_in [] p = record { id = p; row = blank; in_room = 0; out_room = 0 }
+account_in (v ∷ vs) p = if v.id == p then v else account_in vs p
+
+-- room for one chunk and u slots, if p is a peer
+pub record HasFreshRoom (v : LedgerView) (p u : ℕ) : Type 0 where
+  pub ins : is_peer v.state p ≡ true → 1 ≤ (account_in v.accounts p).in_room
+  pub outs : is_peer v.state p ≡ true → u ≤ (account_in v.accounts p).out_room
+
+-- the settings of the text, if it has some, and an empty account for each peer
+pub record HasBegunRoom (v : LedgerView) (body : Option (List ℕ)) : Type 0 where
+  pub settings : v.next ≡ settings_in body
+  pub accounts : map named_row v.next_accounts ≡ first_rows (settings_in body)
+
+abbrev pub HasRoom : LedgerView → Change → Type 0
+HasRoom v (Begun body) = HasBegunRoom v body
+HasRoom v (TookFresh p deal name first len new body) = HasFreshRoom v p (units len)
+HasRoom v _ = Unit {0}
+
+-- WHAT EACH ACCOUNT, AND EACH LEDGER, KEEPS
+
+-- the running sums are those of the lists, and what the node answers for is in object order
+pub record IsAccount (held back debt : ℕ) (ins : List InEntry) (outs : List OutEntry) (debts : List DebtEntry) : Type 0 where
+  pub held_is : held ≡ sum_by in_size ins
+  pub back_is : back ≡ sum_by out_size outs
+  pub debt_is : debt ≡ sum_by debt_size debts
+  pub ordered : in_order ins ≡ true
+
+-- the sum over all peers is that of the state, and the state balances
+pub record IsSound (total : ℕ) (s : State) : Type 0 where
+  pub used_is : total ≡ used s
+  pub good : Good s
+  pub small : capacity s.settings < 2 ^ 32

@@ -1,0 +1,480 @@
+//! The ledger: the state that a history gives, kept with running sums.
+
+ghost use Rattle.std.specs.Prelude.{◌≡◌, ◌+◌, ◌<◌, ◌^◌, ◌==◌, ◌&&◌, ◌↔◌, map, IsTrue, OnOk, OnErr, IsOk, IfOk, IfSome, IsSome, Some, None, find, position};
+ghost use Rattle.std.specs.List.{list_any};
+ghost use Rattle.std.specs.Option.{option_copied};
+ghost use Rattle.psb_bytes.specs.declared.ids.Object.TheVariants.{Chunk};
+ghost use Rattle.psb_model.specs.declared.change.Change.TheVariants.{Begun, TookFresh, Refused};
+ghost use Rattle.psb_model.specs.Words.{has, units};
+ghost use Rattle.psb_model.specs.State.{row, row_in, used, is_held, in_key, held_of, back_of, debt_of, nothing_yet};
+ghost use Rattle.psb_model.specs.Grammar.{in_grammar};
+ghost use Rattle.psb_model.specs.Conditions.{allowed, settings_in, capacity};
+ghost use Rattle.psb_model.specs.Effects.{after, blank_rows, first_rows};
+ghost use Rattle.psb_model.specs.History.{is_built, has_one_peer};
+ghost use Rattle.psb_ledger.specs.View.{named_row, row_of, fresh_tests, refusal_tests, IsSound, HasBegunRoom, HasFreshRoom, HasRoom};
+
+use crate::account::Account;
+use crate::codec::{Refusal, Store};
+use psb_bytes::{Bytes, Digest, Memory, Object, PeerId, units_of};
+use psb_model::{Change, DebtEntry, InEntry, LastDeal, OutEntry};
+use psb_settings::{PeerRow, Settings, SettingsError, read_settings};
+use std::alloc::Global;
+use std::marker::Model;
+use std::mem;
+
+/// The condition of a change does not hold, or its kind is not built yet.
+#[derive(Clone, Copy, PartialEq, Eq, Debug)]
+pub struct NotNow;
+
+/// The three numbers of a peer, in units of 512 bytes: what the node answers for to it, what the
+/// node has there, and what the peer lost of that.
+#[derive(Clone, Copy, PartialEq, Eq, Debug)]
+pub struct Balance {
+    pub held: u32,
+    pub back: u32,
+    pub debt: u32,
+}
+
+/// The account of a peer.
+fn account_of(accounts: &[Account], peer: PeerId) -> Option<&Account>
+    ensures { option_copied result ≡ find (λ v. v.id == peer) accounts.now }
+{
+    accounts.iter().find(|a| a.id() == peer)
+}
+
+/// The place of a peer's account.
+fn place_of(accounts: &[Account], peer: PeerId) -> Option<usize>
+    ensures { result ≡ position (λ v. v.id == peer) accounts.now }
+{
+    accounts.iter().position(|a| a.id() == peer)
+}
+
+/// Whether the node answers for the chunk to some peer.
+fn holds(accounts: &[Account], name: &Digest) -> bool
+    ensures { result ≡ list_any (λ v. has in_key v.row.ins (Chunk name.now)) accounts.now }
+{
+    let chunk = Object::Chunk(*name);
+    accounts.iter().any(|a| a.has(&chunk))
+}
+
+/// Whether the deal is the next of the peer.
+fn is_next(account: &Account, deal: u64) -> bool
+    ensures { result ≡ (deal == account.now.row.last.number + 1) }
+{
+    deal != 0 && deal - 1 == account.last().number
+}
+
+fn capacity_of(settings: &Option<Settings>) -> u32
+    ensures { result ≡ capacity settings.now }
+{
+    match settings {
+        None => 0,
+        Some(x) => x.capacity,
+    }
+}
+
+/// Whether these are the settings of a node with one peer.
+fn has_one_peer(settings: &Option<Settings>) -> bool
+    ensures { result ≡ has_one_peer settings.now }
+{
+    match settings {
+        None => false,
+        Some(x) => x.peers.as_slice().len() == 1,
+    }
+}
+
+/// What a new chunk is measured by.
+#[derive(Clone, Copy)]
+struct Measure {
+    is_held: bool,
+    used: u32,
+    units: u32,
+    capacity: u32,
+    issued: u32,
+}
+
+fn allows_fresh(account: &Account, x: &Store, m: Measure) -> bool
+    ensures { result ≡ fresh_tests account.now.row x.now.deal x.now.name x.now.first x.now.new m.is_held m.used m.units m.capacity m.issued }
+{
+    is_next(account, x.deal)
+        && !account.has(&Object::Chunk(x.name))
+        && x.new != m.is_held
+        && account.debt() == 0
+        && m.used as u64 + m.units as u64 <= m.capacity as u64
+        && x.first == m.issued
+        && m.issued as u64 + m.units as u64 <= u32::MAX as u64
+}
+
+fn allows_refusal(account: &Account, x: &Refusal) -> bool
+    ensures { result ≡ refusal_tests account.now.row x.now.deal x.now.why }
+{
+    is_next(account, x.deal) && 1 <= x.why && x.why <= 9
+}
+
+/// What a settings text says, None where it is none or was given up.
+fn settings_of(alloc: Global, body: &Option<Bytes>) -> Result<Option<Settings>, Memory>
+    ensures { IfOk result (λ s. s ≡ settings_in body.now) }
+{
+    let Some(text) = body else {
+        return Ok(None);
+    };
+    match read_settings(alloc, text.as_slice()) {
+        Ok(settings) => Ok(Some(settings)),
+        Err(SettingsError::Bad) => Ok(None),
+        Err(SettingsError::Memory) => Err(Memory),
+    }
+}
+
+/// An empty account for each peer of the settings.
+fn first_accounts(alloc: Global, settings: &Option<Settings>) -> Result<Vec<Account>, Memory>
+    ensures { IfOk result (λ v. map named_row v.items ≡ first_rows settings.now) }
+{
+    match settings {
+        None => Ok(Vec::new(alloc)),
+        Some(x) => empty_accounts(alloc, x.peers.as_slice()),
+    }
+}
+
+fn empty_accounts(alloc: Global, peers: &[PeerRow]) -> Result<Vec<Account>, Memory>
+    ensures { IfOk result (λ v. map named_row v.items ≡ blank_rows peers.now) }
+{
+    let mut accounts = Vec::new(alloc);
+    for peer in peers {
+        accounts.push(Account::new(alloc, peer.id))?;
+    }
+    Ok(accounts)
+}
+
+/// The state that a history of changes gives, with running sums. What it answers of a peer is
+/// zeros, empty lists or false for an id that is no peer of the settings.
+#[derive(Drop)]
+pub struct Ledger {
+    alloc: Global,
+    changes: u64,
+    settings: Option<Settings>,
+    issued: u32,
+    used: u32,
+    accounts: Vec<Account>,
+    next: Option<Settings>,
+    next_accounts: Vec<Account>,
+}
+
+impl Model for Ledger {
+    ghost use Rattle.psb_ledger.specs.View.{LedgerView, plain_state, IsSound};
+
+    ghost Value = { LedgerView };
+
+    ghost view = { λ l. record { state = plain_state l.changes l.settings l.accounts.items l.issued; accounts = l.accounts.items; next = l.next; next_accounts = l.next_accounts.items } };
+
+    ghost invariant = { λ l. IsSound l.used (plain_state l.changes l.settings l.accounts.items l.issued) };
+}
+
+impl Ledger {
+    /// The ledger of the empty history. Takes no memory; what `make_room` takes comes from `alloc`.
+    pub fn new(alloc: Global) -> Ledger
+        ensures { result.state ≡ nothing_yet }
+    {
+        Ledger {
+            alloc,
+            changes: 0,
+            settings: None,
+            issued: 0,
+            used: 0,
+            accounts: Vec::new(alloc),
+            next: None,
+            next_accounts: Vec::new(alloc),
+        }
+    }
+
+    /// How many changes were applied.
+    pub fn changes(&self) -> u64
+        ensures { result ≡ self.now.state.changes }
+    {
+        self.changes
+    }
+
+    /// The present settings, None exactly for the empty history.
+    pub fn settings(&self) -> Option<&Settings>
+        ensures { option_copied result ≡ self.now.state.settings }
+    {
+        self.settings.as_ref()
+    }
+
+    /// How many claim numbers were drawn.
+    pub fn issued(&self) -> u32
+        ensures { result ≡ self.now.state.issued }
+    {
+        self.issued
+    }
+
+    /// What the node answers for to all peers, in units of 512 bytes.
+    pub fn used(&self) -> u32
+        ensures { result ≡ used self.now.state }
+    {
+        self.used
+    }
+
+    fn account(&self, peer: PeerId) -> Option<&Account>
+        ensures { row_of (option_copied result) ≡ row self.now.state peer }
+    {
+        account_of(self.accounts.as_slice(), peer)
+    }
+
+    /// The three numbers of a peer.
+    pub fn balance(&self, peer: PeerId) -> Balance
+        ensures held { result.held ≡ held_of (row self.now.state peer) }
+        ensures back { result.back ≡ back_of (row self.now.state peer) }
+        ensures debt { result.debt ≡ debt_of (row self.now.state peer) }
+        ensures law { result.held ≡ result.back + result.debt }
+    {
+        let _changes = self.changes;
+        match self.account(peer) {
+            None => Balance {
+                held: 0,
+                back: 0,
+                debt: 0,
+            },
+            Some(account) => Balance {
+                held: account.held(),
+                back: account.back(),
+                debt: account.debt(),
+            },
+        }
+    }
+
+    /// What the peer lost, in order of booking.
+    pub fn explain(&self, peer: PeerId) -> &[DebtEntry]
+        ensures { result.now ≡ (row self.now.state peer).debts }
+    {
+        match self.account(peer) {
+            None => &[],
+            Some(account) => account.debts(),
+        }
+    }
+
+    /// What the node answers for to the peer, in object order.
+    pub fn held_of(&self, peer: PeerId) -> &[InEntry]
+        ensures { result.now ≡ (row self.now.state peer).ins }
+    {
+        match self.account(peer) {
+            None => &[],
+            Some(account) => account.ins(),
+        }
+    }
+
+    /// What the node has on the peer, in object order.
+    pub fn out_of(&self, peer: PeerId) -> &[OutEntry]
+        ensures { result.now ≡ (row self.now.state peer).outs }
+    {
+        match self.account(peer) {
+            None => &[],
+            Some(account) => account.outs(),
+        }
+    }
+
+    /// The peer's last deal that was taken or refused, and its change; both 0 where there is none.
+    pub fn last(&self, peer: PeerId) -> LastDeal
+        ensures { result ≡ (row self.now.state peer).last }
+    {
+        match self.account(peer) {
+            None => LastDeal {
+                number: 0,
+                change: 0,
+            },
+            Some(account) => account.last(),
+        }
+    }
+
+    /// The units of the peer's debt.
+    pub fn debt_of(&self, peer: PeerId) -> u32
+        ensures { result ≡ debt_of (row self.now.state peer) }
+    {
+        match self.account(peer) {
+            None => 0,
+            Some(account) => account.debt(),
+        }
+    }
+
+    /// Whether the node answers for the object to the peer.
+    pub fn has_held(&self, peer: PeerId, object: &Object) -> bool
+        ensures { result ≡ has in_key (row self.now.state peer).ins object.now }
+    {
+        match self.account(peer) {
+            None => false,
+            Some(account) => account.has(object),
+        }
+    }
+
+    /// Whether a body is held under the name.
+    pub fn is_held(&self, name: &Digest) -> bool
+        ensures { result ≡ is_held self.now.state name.now }
+    {
+        holds(self.accounts.as_slice(), name)
+    }
+
+    /// Takes all memory that `apply` of an equal change needs. For a Begun it reads the settings
+    /// text, and keeps what it says, or that it is none.
+    pub fn make_room(&mut self, c: &Change) -> Result<(), Memory>
+        ensures state { self.new.state ≡ self.old.state }
+        ensures room { OnOk result (HasRoom self.new c.now) }
+    {
+        match c {
+            Change::Begun { body } => self.make_room_to_begin(body),
+            Change::TookFresh { peer, len, .. } => self.make_room_for(*peer, *len),
+            _ => Ok(()),
+        }
+    }
+
+    fn make_room_to_begin(&mut self, body: &Option<Bytes>) -> Result<(), Memory>
+        ensures state { self.new.state ≡ self.old.state }
+        ensures room { OnOk result (HasBegunRoom self.new body.now) }
+    {
+        let settings = settings_of(self.alloc, body)?;
+        self.next_accounts = first_accounts(self.alloc, &settings)?;
+        self.next = settings;
+        Ok(())
+    }
+
+    fn make_room_for(&mut self, peer: PeerId, len: u32) -> Result<(), Memory>
+        ensures state { self.new.state ≡ self.old.state }
+        ensures room { OnOk result (HasFreshRoom self.new peer (units len)) }
+    {
+        match place_of(self.accounts.as_slice(), peer) {
+            None => Ok(()),
+            Some(at) => {
+                let account = &mut self.accounts[at];
+                account.reserve(units_of(len))
+            }
+        }
+    }
+
+    /// Applies a change. NotNow comes exactly where its kind is not built or its condition does not
+    /// hold, and then nothing changes. Takes no memory.
+    pub fn apply(&mut self, c: &Change) -> Result<(), NotNow>
+        requires grammar { IsTrue (in_grammar c.now) }
+        requires room { HasRoom self.old c.now }
+        requires few { self.old.state.changes < 2 ^ 62 }
+        ensures when { IsTrue (is_built c.now && allowed self.old.state c.now) ↔ IsOk result }
+        ensures ok { OnOk result (self.new.state ≡ after self.old.state c.now) }
+        ensures err { OnErr result (self.new ≡ self.old) }
+    {
+        match c {
+            Change::Begun { body } => self.begin(body),
+            Change::TookFresh {
+                peer,
+                deal,
+                name,
+                first,
+                len,
+                new,
+                body: _,
+            } => self.take_fresh(Store {
+                peer: *peer,
+                deal: *deal,
+                name: *name,
+                first: *first,
+                len: *len,
+                new: *new,
+            }),
+            Change::Refused {
+                peer,
+                deal,
+                why,
+                detail,
+            } => self.refuse(Refusal {
+                peer: *peer,
+                deal: *deal,
+                why: *why,
+                detail: *detail,
+            }),
+            _ => Err(NotNow),
+        }
+    }
+
+    fn begin(&mut self, body: &Option<Bytes>) -> Result<(), NotNow>
+        requires { HasBegunRoom self.old body.now }
+        ensures when { IsTrue (is_built (Begun body.now) && allowed self.old.state (Begun body.now)) ↔ IsOk result }
+        ensures ok { OnOk result (self.new.state ≡ after self.old.state (Begun body.now)) }
+        ensures err { OnErr result (self.new ≡ self.old) }
+    {
+        if self.changes != 0 || !has_one_peer(&self.next) {
+            return Err(NotNow);
+        }
+        self.settings = self.next.take();
+        mem::swap(&mut self.accounts, &mut self.next_accounts);
+        self.used = 0;
+        self.changes = 1;
+        Ok(())
+    }
+
+    /// The place of the peer's account, where its chunk may be taken.
+    fn place_for_fresh(&self, x: &Store) -> Option<usize>
+        ensures when { IsTrue (allowed self.now.state (TookFresh x.now.peer x.now.deal x.now.name x.now.first x.now.len x.now.new None)) ↔ IsSome result }
+        ensures place { IfSome result (λ i. Some i ≡ position (λ v. v.id == x.now.peer) self.now.accounts) }
+    {
+        if self.changes == 0 {
+            return None;
+        }
+        let at = place_of(self.accounts.as_slice(), x.peer)?;
+        let measure = Measure {
+            is_held: holds(self.accounts.as_slice(), &x.name),
+            used: self.used,
+            units: units_of(x.len),
+            capacity: capacity_of(&self.settings),
+            issued: self.issued,
+        };
+        allows_fresh(&self.accounts[at], x, measure).then_some(at)
+    }
+
+    fn take_fresh(&mut self, x: Store) -> Result<(), NotNow>
+        requires grammar { IsTrue (in_grammar (TookFresh x.peer x.deal x.name x.first x.len x.new None)) }
+        requires room { HasFreshRoom self.old x.peer (units x.len) }
+        requires few { self.old.state.changes < 2 ^ 62 }
+        ensures when { IsTrue (allowed self.old.state (TookFresh x.peer x.deal x.name x.first x.len x.new None)) ↔ IsOk result }
+        ensures ok { OnOk result (self.new.state ≡ after self.old.state (TookFresh x.peer x.deal x.name x.first x.len x.new None)) }
+        ensures err { OnErr result (self.new ≡ self.old) }
+    {
+        let Some(at) = self.place_for_fresh(&x) else {
+            return Err(NotNow);
+        };
+        let u = units_of(x.len);
+        let changes = self.changes;
+        let account = &mut self.accounts[at];
+        account.take_fresh(&x, u, changes);
+        self.issued += u;
+        self.used += u;
+        self.changes = changes + 1;
+        Ok(())
+    }
+
+    /// The place of the peer's account, where its deal may be refused.
+    fn place_to_refuse(&self, x: &Refusal) -> Option<usize>
+        ensures when { IsTrue (allowed self.now.state (Refused x.now.peer x.now.deal x.now.why x.now.detail)) ↔ IsSome result }
+        ensures place { IfSome result (λ i. Some i ≡ position (λ v. v.id == x.now.peer) self.now.accounts) }
+    {
+        if self.changes == 0 {
+            return None;
+        }
+        let at = place_of(self.accounts.as_slice(), x.peer)?;
+        allows_refusal(&self.accounts[at], x).then_some(at)
+    }
+
+    fn refuse(&mut self, x: Refusal) -> Result<(), NotNow>
+        requires few { self.old.state.changes < 2 ^ 62 }
+        ensures when { IsTrue (allowed self.old.state (Refused x.peer x.deal x.why x.detail)) ↔ IsOk result }
+        ensures ok { OnOk result (self.new.state ≡ after self.old.state (Refused x.peer x.deal x.why x.detail)) }
+        ensures err { OnErr result (self.new ≡ self.old) }
+    {
+        let Some(at) = self.place_to_refuse(&x) else {
+            return Err(NotNow);
+        };
+        let changes = self.changes;
+        let account = &mut self.accounts[at];
+        account.note(x.deal, changes);
+        self.changes = changes + 1;
+        Ok(())
+    }
+}
+
+#[cfg(test)]
+mod tests;

@@ -1,0 +1,124 @@
+use super::*;
+use psb_model::Change;
+use std::test::Fail;
+
+const SETTINGS: &[u8; 274] =
+    b"id = 1\naddress = \"127.0.0.1:7001\"\nseed = \"000102030405060708090a0b0c0d0e0f101112131415161718191a1b1c1d1e1f\"\ncapacity = 64\nbuddies = 2\nforward = true\n[[peer]]\nid = 2\naddress = \"127.0.0.1:7002\"\nkey = \"202122232425262728292a2b2c2d2e2f303132333435363738393a3b3c3d3e3f\"\nhops = 0\n";
+
+const BEGUN: [u8; 1] = [1];
+
+/// Peer 2 stored 512 bytes as its deal 1, against slot 0.
+const FRESH: [u8; 54] = [
+    5, 0, 0, 0, 2, 0, 0, 0, 0, 0, 0, 0, 1, 0xd8, 0x6e, 0x38, 0x62, 0x78, 0xa7, 0x17, 0x82, 0xa2,
+    0x83, 0xf9, 0x6a, 0xae, 0x4f, 0x4e, 0x74, 0x37, 0x47, 0x1a, 0xbe, 0xf7, 0x11, 0x36, 0xbd, 0x27,
+    0x11, 0xf9, 0x82, 0x45, 0x48, 0x8d, 0x89, 0, 0, 0, 0, 0, 0, 2, 0, 1,
+];
+
+/// A deal 2 of peer 2 was refused as Full, with 1 unit in use.
+const REFUSED: [u8; 22] = [
+    10, 0, 0, 0, 2, 0, 0, 0, 0, 0, 0, 0, 2, 8, 0, 0, 0, 0, 0, 0, 0, 1,
+];
+
+/// The bytes that the peer stored: 0 to 250, over and over.
+fn stored() -> [u8; 512] {
+    let mut bytes = [0; 512];
+    for (i, byte) in bytes.iter_mut().enumerate() {
+        *byte = (i % 251) as u8;
+    }
+    bytes
+}
+
+#[test]
+fn records_of_a_first_path_are_read_and_written(rt: HostRuntime) -> Result<(), Fail> {
+    let stored = stored();
+    let records: [(&[u8], &[u8]); 3] = [(&BEGUN, SETTINGS), (&FRESH, &stored), (&REFUSED, &[])];
+    for (head, body) in records {
+        let c = decode_change(rt.alloc(), head, Some(body))?;
+        assert_eq!(rt; encode_change(rt.alloc(), &c)?.as_slice(), head);
+        assert_eq!(rt; c.body().unwrap_or(&[]), body);
+    }
+    Ok(())
+}
+
+#[test]
+fn the_fields_of_a_stored_chunk_are_those_of_its_head(rt: HostRuntime) -> Result<(), Fail> {
+    match decode_change(rt.alloc(), &FRESH, None)? {
+        Change::TookFresh {
+            peer,
+            deal,
+            name,
+            first,
+            len,
+            new,
+            body,
+        } => {
+            assert_eq!(rt;
+                (peer.0, deal, name.0[0], first, len, new),
+                (2, 1, 0xd8, 0, 512, true)
+            );
+            assert!(rt; body.is_none());
+        }
+        _ => assert!(rt; false, "another kind"),
+    }
+    Ok(())
+}
+
+#[test]
+fn a_head_that_is_cut_or_longer_is_none(rt: HostRuntime) -> Result<(), Fail> {
+    let stored = stored();
+    let records: [(&[u8], &[u8]); 3] = [(&BEGUN, SETTINGS), (&FRESH, &stored), (&REFUSED, &[])];
+    for (head, body) in records {
+        for end in 0..head.len() {
+            let cut = decode_change(rt.alloc(), &head[..end], Some(body)).err();
+            assert_eq!(rt; cut, Some(ChangeError::BadHead), "{end} bytes");
+        }
+        let mut longer = head.to_vec(rt.alloc())?;
+        longer.push(0)?;
+        let long = decode_change(rt.alloc(), longer.as_slice(), Some(body)).err();
+        assert_eq!(rt; long, Some(ChangeError::BadHead));
+    }
+    Ok(())
+}
+
+/// A head with another byte at a place.
+fn with(head: &[u8; 54], place: usize, byte: u8) -> [u8; 54] {
+    let mut other = *head;
+    if place < 54 {
+        other[place] = byte;
+    }
+    other
+}
+
+#[test]
+fn fields_and_bodies_outside_the_grammar_are_none(rt: HostRuntime) {
+    let stored = stored();
+    let whole: &[u8] = &stored;
+    let heads = [
+        ("kind 2", with(&FRESH, 0, 2), Some(whole)),
+        ("flag 2", with(&FRESH, 53, 2), Some(whole)),
+        (
+            "held already, with a body",
+            with(&FRESH, 53, 0),
+            Some(whole),
+        ),
+        ("length 0", with(&FRESH, 51, 0), None),
+        ("length 33,280", with(&FRESH, 51, 130), None),
+        ("a body of 511 bytes", FRESH, Some(&whole[1..])),
+    ];
+    for (what, head, body) in heads {
+        let answer = decode_change(rt.alloc(), &head, body).err();
+        assert_eq!(rt; answer, Some(ChangeError::BadHead), "{what}");
+    }
+    let lost = decode_change(rt.alloc(), &BEGUN, None).err();
+    assert_eq!(rt;
+        lost,
+        Some(ChangeError::BadHead),
+        "a beginning without its text"
+    );
+    let odd = decode_change(rt.alloc(), &REFUSED, Some(&[0])).err();
+    assert_eq!(rt; odd, Some(ChangeError::BadHead), "a refusal with a body");
+    assert!(rt;
+        decode_change(rt.alloc(), &REFUSED, None).is_ok(),
+        "a refusal whose empty body was given up"
+    );
+}

@@ -1,0 +1,67 @@
+//! Lists of entries, in object order: chunks by the bytes of their names, then slots by number.
+
+ghost use Rattle.std.specs.Prelude.{◌≡◌, ◌+◌, ◌-◌, ◌<◌, ◌≤◌, ◌^◌, ◌++◌, false, true, is_ok, IfErr, vec_len, vec_capacity};
+ghost use Rattle.std.specs.List.{position_or_len, list_all};
+ghost use Rattle.std.specs.Ordering.{is_lt};
+ghost use Rattle.psb_bytes.specs.Objects.{object_cmp};
+ghost use Rattle.psb_model.specs.Words.{has, with_one};
+ghost use Rattle.psb_model.specs.State.{in_key, out_key};
+ghost use Rattle.psb_model.specs.Effects.{own_slots};
+ghost use Rattle.psb_ledger.specs.View.{in_order};
+
+use psb_bytes::Object;
+use psb_model::{InEntry, OutEntry, OutState};
+use std::cmp::Ordering;
+
+fn compare(a: &Object, b: &Object) -> Ordering
+    ensures { result ≡ object_cmp a.now b.now }
+{
+    match a {
+        Object::Chunk(x) => match b {
+            Object::Chunk(y) => x.cmp(y),
+            Object::Slot(_) => Ordering::Less,
+        },
+        Object::Slot(x) => match b {
+            Object::Chunk(_) => Ordering::Greater,
+            Object::Slot(y) => x.cmp(y),
+        },
+    }
+}
+
+/// Where the object stands, or where it would go.
+pub fn find(entries: &[InEntry], object: &Object) -> Result<usize, usize>
+    requires { in_order entries.now ≡ true }
+    ensures found { is_ok result ≡ has in_key entries.now object.now }
+    ensures place { IfErr result (λ i. i ≡ position_or_len (λ e. is_lt (object_cmp object.now (in_key e))) entries.now) }
+{
+    entries.binary_search_by(|e| compare(&e.object, object))
+}
+
+/// Puts in an entry at its place.
+pub fn insert(entries: &mut Vec<InEntry>, entry: InEntry)
+    requires room { vec_len entries.old < vec_capacity entries.old }
+    requires ordered { in_order entries.old.items ≡ true }
+    requires absent { has in_key entries.old.items entry.object ≡ false }
+    ensures { entries.new.items ≡ with_one in_key entry entries.old.items }
+{
+    match find(entries, &entry.object) {
+        Ok(_) => unreachable!(),
+        Err(place) => entries.insert(place, entry).unwrap(),
+    }
+}
+
+/// Puts `count` own slots from `first` on behind the others.
+pub fn push_own_slots(entries: &mut Vec<OutEntry>, first: u32, count: u32)
+    requires room { count ≤ vec_capacity entries.old - vec_len entries.old }
+    requires numbers { first + count < 2 ^ 32 }
+    ensures { entries.new.items ≡ entries.old.items ++ own_slots first count }
+{
+    for i in 0..count {
+        let slot = OutEntry {
+            object: Object::Slot(first + i),
+            units: 1,
+            state: OutState::Own,
+        };
+        entries.push(slot).unwrap();
+    }
+}

@@ -1,0 +1,32 @@
+-- The course of a serving: what the answers of the outside make of a node, and what of it was told.
+use Rattle.std.specs.Prelude.{ℕ, zero, suc, ◌+◌, ◌-◌, if◌then◌else◌, List, [], ◌∷◌, ◌++◌, length}
+use Rattle.psb_machine.specs.Machine.{Situation, Input, react, next}
+
+-- a node after these inputs
+abbrev pub after_all : Situation → List Input → Situation
+after_all n [] = n
+after_all n (x ∷ xs) = after_all (next n x) xs
+
+-- the letters that they give, in order
+abbrev pub letters_all : Situation → List Input → List (ℕ × List ℕ)
+letters_all n [] = []
+letters_all n (x ∷ xs) = (react n x).letters ++ letters_all (next n x) xs
+
+-- how many of them are taken, and how many dropped
+abbrev pub taken_in : Situation → List Input → ℕ
+taken_in n [] = 0
+taken_in n (x ∷ xs) = (if (react n x).dropped then 0 else 1) + taken_in (next n x) xs
+
+abbrev pub dropped_in : Situation → List Input → ℕ
+dropped_in n [] = 0
+dropped_in n (x ∷ xs) = (if (react n x).dropped then 1 else 0) + dropped_in (next n x) xs
+
+-- this many, but none before the first telling
+abbrev pub unless_first : ℕ → ℕ → ℕ
+unless_first zero n = 0
+unless_first (suc j) n = n
+
+-- how many changes were made by inputs that had been absorbed before the j-th telling was tried
+abbrev pub told_by : Situation → List Input → ℕ → ℕ
+told_by n [] j = 0
+told_by n (x ∷ xs) j = unless_first j (length (react n x).grown + told_by (next n x) xs (j - length (react n x).letters))

@@ -1,0 +1,4 @@
+pub mod Machine
+pub mod Stores
+pub mod Course
+pub mod Laws

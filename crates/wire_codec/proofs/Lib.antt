@@ -1,0 +1,9 @@
+pub mod Found
+pub mod Spans
+pub mod Ascending
+pub mod Starts
+pub mod FieldLaws
+pub mod ListLaws
+pub mod BodyLaws
+pub mod SizeLaws
+pub mod FrameLaws
