@@ -16,7 +16,8 @@ use Rattle.node_core.proofs.Reopened.{reopens}
 use Rattle.node_serve.specs.Spans.{IsPrefix, IsPrefixSoon, Tally, no_tally, Ran}
 use Rattle.node_serve.proofs.Tries.{grows_none, told_then, told_from, sent_none}
 use Rattle.node_serve.proofs.Prefixes.{all_is_prefix}
-use Rattle.backup_cli.specs.Says.{Utters, HowSaid, served_lines, joined_lines}
+use Rattle.backup_cli.specs.Says.{Utters, HowSaid, served_lines, joined_lines, IsRefusal, Refuses}
+use Rattle.backup_cli.specs.Status.{refusal_line}
 use Rattle.backup_cli.specs.Served.{Serves, ServesOn, opened_at, is_link_fault}
 use Rattle.node_serve.specs.Joins.{nodes_of}
 use Rattle.backup_cli.specs.declared.status.Status.{Status}
@@ -25,6 +26,19 @@ use Rattle.backup_cli.specs.declared.status.Status.TheVariants.{Done, DiskFault,
 -- since this moment there is no other
 abbrev pub NoOther : View → Type 0
 NoOther v = (c : List ℕ) (k : ℕ) → v.left_since v.moment c k → v.may_leave c × (k ≡ v.told)
+
+-- nothing but the refusal was told
+pub refused : (status : Status) (v0 v1 v3 : View) (text : List ℕ) → Keeps v0 v1 → Utters v1 v3 1 text → IsRefusal status text v1 v3 → Refuses status v0 v3
+refused status v0 v1 v3 text keeps u how =
+    let same : v1.outside ≡ v0.outside = keeps.works.outside in
+    record {
+      text = text;
+      said = subst (λ (o : Outside). Grows o.said v3.outside.said text) same u.said;
+      how = subst (λ (m : ℕ). (text ≡ refusal_line status) ⊎ ((text ≡ []) × Rose m v3.outside.say_faults)) (ap (λ (o : Outside). o.say_faults) same) how;
+      told = told_from v0.told v1.told v3.told v3.told 1 keeps.works.told refl u.told;
+      kept = u.kept ∙ ap (λ (o : Outside). record o { said = v3.outside.said; say_faults = v3.outside.say_faults }) same;
+      bytes = u.bytes ∙ keeps.bytes;
+    }
 
 -- the node was not opened
 pub unopened : (stands : List Entry → List ℕ → Type 0) (h : List Change) (settings : Settings) (v0 v1 v3 : View) (turns : ℕ) (status : Status) (text : List ℕ)

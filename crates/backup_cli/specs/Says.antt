@@ -53,6 +53,15 @@ SaysLines lines old new (Err say_error.Memory) = (full : ℕ) × (full ≤ lengt
 abbrev pub IsRefusal : Status → List ℕ → View → View → Type 0
 IsRefusal status text old new = (text ≡ refusal_line status) ⊎ ((text ≡ []) × Rose old.outside.say_faults new.outside.say_faults)
 
+-- nothing was done: one saying of the refusal was tried, and nothing else was told outside
+pub record Refuses (status : Status) (old new : View) : Type 0 where
+  pub text : List ℕ
+  pub said : Grows old.outside.said new.outside.said text
+  pub how : IsRefusal status text old new
+  pub told : ToldMore old.told new.told 1
+  pub kept : new.outside ≡ record old.outside { said = new.outside.said; say_faults = new.outside.say_faults }
+  pub bytes : new.bytes ≡ old.bytes
+
 -- How many lines of Done were said in full, how many sayings were tried, and which refusal was said;
 -- `rose` holds where a saying failed.
 abbrev pub HowSaid : Status → ℕ → ℕ → ℕ → List ℕ → Type 0 → Type 0

@@ -7,7 +7,7 @@ ghost use Rattle.psb_model.specs.Needed.{IsValid};
 ghost use Rattle.psb_model.specs.declared.change.Change.{Change};
 ghost use Rattle.node_journal.specs.Format.{Stands};
 ghost use Rattle.node_core.specs.Stands.{HoldsHistory};
-ghost use Rattle.backup_cli.specs.Says.{Utters, IsRefusal};
+ghost use Rattle.backup_cli.specs.Says.{Utters, IsRefusal, Refuses};
 ghost use Rattle.backup_cli.specs.Served.{IsNode, Serves};
 ghost use Rattle.backup_cli.specs.Words.{IsServe};
 
@@ -43,6 +43,10 @@ pub fn run<S: Station, F: Folder>(
     // A disk that holds no node may leave what it might have left at entry, and nothing else.
     ensures unharmed { ((h : List Change) → ¬ IsNode Stands h (S.view station.old)) → Tells_bytes (S.view station.old)
         → (c : List ℕ) (k : ℕ) → (S.view station.new).left_since (S.view station.old).moment c k → (S.view station.old).may_leave c }
+
+    // For such a disk the refusal is tried once, and nothing else is told.
+    ensures refuses { ((h : List Change) → ¬ IsNode Stands h (S.view station.old)) → Tells_bytes (S.view station.old)
+        → Refuses result (S.view station.old) (S.view station.new) }
 
     ensures disk_cause { result ≡ Status.DiskFault → Rose (S.view station.old).disk_faults (S.view station.new).disk_faults }
     ensures link_cause { result ≡ Status.LinkFault → Rose (S.view station.old).outside.link_faults (S.view station.new).outside.link_faults }

@@ -8,7 +8,7 @@ ghost use Rattle.psb_model.specs.declared.change.Change.{Change};
 ghost use Rattle.node_core.specs.Stands.{HoldsHistory};
 ghost use Rattle.node_core.specs.Stored.{Knows, Stored};
 ghost use Rattle.node_serve.specs.Spans.{IsReady};
-ghost use Rattle.backup_cli.specs.Says.{Utters, IsRefusal};
+ghost use Rattle.backup_cli.specs.Says.{Utters, IsRefusal, Refuses};
 ghost use Rattle.backup_cli.specs.Served.{IsNode, Serves, ServesOn, opened_at};
 ghost use Rattle.backup_cli.specs.declared.status.Status.TheVariants as status;
 
@@ -78,6 +78,8 @@ pub(crate) fn serve_command<L: Log, S: Station>(
         → IfSome (S.view station.old).bytes (λ b. (h : List Change) × IsValid h × HoldsHistory L.stands h b) }
     ensures unharmed { ((h : List Change) → ¬ IsNode L.stands h (S.view station.old)) → Tells_bytes (S.view station.old)
         → (c : List ℕ) (k : ℕ) → (S.view station.new).left_since (S.view station.old).moment c k → (S.view station.old).may_leave c }
+    ensures refuses { ((h : List Change) → ¬ IsNode L.stands h (S.view station.old)) → Tells_bytes (S.view station.old)
+        → Refuses result (S.view station.old) (S.view station.new) }
     ensures disk_cause { result ≡ Status.DiskFault → Rose (S.view station.old).disk_faults (S.view station.new).disk_faults }
     ensures link_cause { result ≡ Status.LinkFault → Rose (S.view station.old).outside.link_faults (S.view station.new).outside.link_faults }
     ensures say_cause { result ≡ Status.SayFault → Rose (S.view station.old).outside.say_faults (S.view station.new).outside.say_faults }
