@@ -80,6 +80,7 @@ are_records s (c ∷ cs) (e ∷ es) right is =
 pub reopens : (stands : List Entry → List ℕ → Type 0) (h : List Change) (es : List Entry) (c : List ℕ) → IsValid h → AreDecoded h es → stands es c → ReopensTo stands h c
 reopens stands h es c valid decoded is = record {
   image_is = (es, are_records (state h) h es valid.sound decoded, is);
+  holds = record { records = es; decoded = decoded; image_is = is };
   valid = valid;
   balances = λ p. balances h p valid.lawful;
   explained = λ p. explained h p valid.lawful;
