@@ -12,8 +12,8 @@ mod writing;
 pub use hex::{digest_text, hex_text, read_digest};
 pub use ids::{Digest, Object, PeerId, Ref, Seat, Ticket};
 pub use lists::{
-    Bytes, ClaimList, DigestList, Items, Memory, ObjectList, PlaceList, Short, SlotClaim, SlotList,
-    Text,
+    Bytes, ClaimList, DigestList, Items, Memory, ObjectList, PlaceList, RefList, Short, SlotClaim,
+    SlotList, Text,
 };
 pub use numbers::numbers_have_one_spelling;
 pub use reading::Cursor;

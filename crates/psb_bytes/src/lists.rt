@@ -1,6 +1,6 @@
 ghost use Rattle.std.specs.Prelude.{◌≡◌, string_bytes, IfOk};
 
-use crate::{Digest, Object};
+use crate::{Digest, Object, Ref};
 use std::alloc::{AllocError, AllocFailed, Global};
 use std::marker::Model;
 
@@ -92,6 +92,8 @@ pub type ClaimList = Items<SlotClaim>;
 pub type ObjectList = Items<Object>;
 
 pub type DigestList = Items<Digest>;
+
+pub type RefList = Items<Ref>;
 
 /// A text, which contracts see as the list of its bytes in UTF-8.
 #[derive(Drop)]
