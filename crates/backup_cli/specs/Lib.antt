@@ -3,3 +3,5 @@ pub mod Lines
 pub mod Status
 pub mod Says
 pub mod Served
+pub mod Untold
+pub mod Transfers

@@ -1,6 +1,7 @@
 //! The program `psb`: its words, what it does and says, and the status that it ends with.
 #![tactic(auto)]
 
+pub mod host;
 mod lines;
 mod program;
 mod saying;

@@ -3,7 +3,7 @@ pub mod Reading
 pub mod Presence
 pub mod Opened
 pub mod Making
-pub mod Taken
-pub mod Offered
 pub mod ClaimFits
 pub mod KeyTables
+pub mod Again
+pub mod Offered

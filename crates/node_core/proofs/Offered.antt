@@ -1,93 +1,273 @@
 -- A node takes an offer as the machine does.
-use Rattle.std.proofs.Common.{◌≡◌, ◌⊎◌, inl, inr, ⊎_elim, ℕ, ◌<◌, ◌^◌, true, List, [], ◌∷◌, ◌++◌, Some, sym, ◌∙◌, ap, subst}
+use Rattle.std.proofs.Common.{◌≡◌, ◌⊎◌, inl, inr, ⊎_elim, ℕ, ◌<◌, ◌≤◌, ◌^◌, Bool, true, false, not, ◌==◌, cond, List, [], ◌∷◌, ◌++◌, length, slice_get, option_map, option_to_list, IfSome, Option, Some, None, Result, Err, refl, sym, ◌∙◌, ap, subst, arith, length-append}
+use Rattle.std.specs.Int.{to_be_bytes, w32, w64}
+use Rattle.std.specs.List.{list_all}
+use Rattle.std.proofs.lemmas.Bool.{and_parts, eqb-true, le-leb}
 use Rattle.psb_station.specs.View.{View}
-use Rattle.psb_station.specs.Span.{Leaves}
-use Rattle.psb_station.proofs.Spans.{weakened, same_some}
+use Rattle.psb_station.specs.Span.{Leaves, Shows, Keeps}
+use Rattle.psb_station.proofs.Spans.{weakened, same_some, shows_keeps}
 use Rattle.node_journal.specs.Entry.{Entry}
 use Rattle.psb_settings.specs.declared.settings.Settings.{Settings}
-use Rattle.psb_model.specs.State.{State}
-use Rattle.psb_model.specs.Words.{all_of}
+use Rattle.psb_model.specs.State.{State, row, is_held, is_peer}
+use Rattle.psb_model.specs.Heads.{head_of}
+use Rattle.psb_model.specs.Grammar.{is_u8}
+use Rattle.psb_model.specs.Conditions.{is_next_deal}
 use Rattle.psb_model.specs.Effects.{after}
 use Rattle.psb_model.specs.History.{state}
 use Rattle.psb_model.specs.Needed.{IsValid}
+use Rattle.psb_model.specs.declared.deals.LastDeal.{LastDeal}
 use Rattle.psb_model.specs.declared.change.Change.{Change}
-use Rattle.psb_model.proofs.Prefixes.{state_snoc}
-use Rattle.wire_codec.specs.Frames.{key_in}
-use Rattle.psb_machine.specs.Machine.{Situation, Input, Datagram, Reaction, keys_of, store_tests, took_fresh, react, next}
+use Rattle.psb_model.specs.declared.change.Change.TheVariants.{TookFresh, Refused}
+use Rattle.psb_model.proofs.Prefixes.{state_snoc, changes_counted}
+use Rattle.wire_codec.specs.Frames.{Incoming, read_frame, key_in, datagram}
+use Rattle.wire_codec.specs.declared.frame.Dropped.{Dropped}
+use Rattle.psb_machine.specs.Deals.{standing, code_of, first_that_holds, store_reasons, took_fresh, judged, judged_store}
+use Rattle.psb_machine.specs.Replies.{reply_of, reply, is_answerable}
+use Rattle.psb_machine.specs.Machine.{Situation, Input, Datagram, Reaction, keys_of, by_standing, on_deal, on_read, tells_again, react, next, drops, quiet}
 use Rattle.psb_machine.specs.Stores.{StoreFits}
+use Rattle.psb_machine.specs.declared.deals.Standing.{Standing}
+use Rattle.psb_machine.specs.declared.deals.Standing.TheVariants.{Fresh, Repeat, Stale, Gap}
+use Rattle.psb_machine.specs.declared.deals.Refusal.{Refusal}
+use Rattle.psb_machine.proofs.Alone.{judged_alone}
+use Rattle.psb_machine.proofs.Lasts.{LastIs, last_there}
 use Rattle.psb_machine.proofs.Peers.{keyed_is_peer}
-use Rattle.psb_machine.proofs.Valid.{is_taken}
+use Rattle.psb_machine.proofs.Standings.{fresh_is_next, repeat_is_last}
+use Rattle.psb_machine.proofs.Steps.{react-read, on_read-store}
+use Rattle.psb_machine.proofs.Valid.{IsTaken, is_taken, allows_taken, grammar_taken, allows_refused, codes_are}
+use Rattle.std.proofs.lemmas.Option.{slice_get_within}
+use Rattle.std.proofs.lemmas.List.{append-nil}
+use Rattle.psb_ledger.specs.Records.{OneChangeEach}
+use Rattle.wire_codec.specs.declared.frame.Frame.{Frame}
 use Rattle.node_core.specs.declared.node.Node.{Node}
 use Rattle.node_core.specs.Stands.{HoldsHistory, ReopensTo}
-use Rattle.node_core.specs.Stored.{Knows, KnowsSettings}
+use Rattle.node_core.specs.Stored.{Knows, KnowsSettings, Stored}
 use Rattle.node_core.specs.Offers.{IsOffer}
-use Rattle.node_core.specs.Making.{CanTake}
-use Rattle.node_core.specs.Taking.{TakesOffer, Took}
+use Rattle.node_core.specs.Making.{MayMake, CanMake, judged_by, made_of}
+use Rattle.node_core.specs.Taking.{MakesChange, TellsAgain, TellsOf, IsToldAgain, SameOwner, Made, numbered}
+use Rattle.node_core.specs.declared.outcome.Letter.{Letter}
+use Rattle.node_core.specs.Letters.{letters_of}
+use Rattle.node_core.specs.Again.{IsAnswerOf}
 use Rattle.node_core.proofs.Reopened.{reopens}
-use Rattle.node_core.proofs.Taken.{can_take}
+use Rattle.node_core.proofs.Again.{answer_is}
 
-pub offered_can : {L : Type 0} (node : Node L) (n : Situation) (settings : Settings) (x : List ℕ) (p number : ℕ) (key name bytes : List ℕ) → Knows node n
-    → IsOffer node.own node.keys x p number key name bytes → StoreFits p number name bytes → Some settings ≡ node.ledger.state.settings
-    → all_of (store_tests settings node.ledger.state p number name bytes) ≡ true → node.ledger.state.changes < 2 ^ 62 → CanTake node.ledger.state p number name bytes
-offered_can node n settings x p number key name bytes k offer fits there tests few =
-    let here : node.ledger.state ≡ state n.history = k.ledger in
-    let present : (state n.history).settings ≡ Some settings = ap (λ (s : State). s.settings) (sym here) ∙ sym there in
-    let same : k.settings.settings ≡ settings = same_some (state n.history).settings k.settings.settings settings k.settings.present present in
-    let keyed : key_in (keys_of settings) p ≡ Some key = ap (λ (st : Settings). key_in (keys_of st) p) (sym same) ∙ ap (λ (t : List (ℕ × List ℕ)). key_in t p) (sym k.settings.keys) ∙ offer.keyed in
-    subst (λ (s : State). CanTake s p number name bytes) (sym here)
-    (can_take settings n.history p number name bytes k.valid present
-    (keyed_is_peer n.history settings p key k.valid.built present keyed) fits
-    (is_taken settings (state n.history) p number name bytes (ap (λ (s : State). all_of (store_tests settings s p number name bytes)) (sym here) ∙ tests))
-    (subst (λ (s : State). s.changes < 2 ^ 62) here few))
+-- ---- what the machine makes of a datagram that the node reads
 
--- the history after the datagram
-pub grown_by : (n : Situation) (x : List ℕ) (p number : ℕ) (key name bytes : List ℕ) → TakesOffer n x p number key name bytes
-    → (next n (Datagram x)).history ≡ n.history ++ took_fresh (state n.history) p number name bytes ∷ []
-grown_by n x p number key name bytes t = ap (λ (r : Reaction). n.history ++ r.grown) t.reaction
+-- the node reads a datagram as the machine does
+pub reads_as : {L : Type 0} (node : Node L) (n : Situation) (x : List ℕ) (k : Knows node n) → react n (Datagram x) ≡ on_read k.settings.settings n.history (read_frame node.own node.keys x)
+reads_as node n x k =
+    let st = k.settings.settings in
+    react-read n x st k.settings.present
+    ∙ ap (λ (own : ℕ). on_read st n.history (read_frame own (keys_of st) x)) (sym k.settings.own)
+    ∙ ap (λ (keys : List (ℕ × List ℕ)). on_read st n.history (read_frame node.own keys x)) (sym k.settings.keys)
 
-took_datagram : {L : Type 0} (old new : Node L) (n : Situation) (x : List ℕ) (p number : ℕ) (key name bytes : List ℕ) (letters : List (ℕ × List ℕ)) → Knows old n → IsValid (next n (Datagram x)).history
-    → TakesOffer n x p number key name bytes → Took old new n p number key name bytes letters → Knows new (next n (Datagram x)) × (letters ≡ (react n (Datagram x)).letters)
-took_datagram old new n x p number key name bytes letters k valid t took =
-    let change = took_fresh (state n.history) p number name bytes in
-    let after_is : after (state n.history) change ≡ state (next n (Datagram x)).history = sym (ap state (grown_by n x p number key name bytes t) ∙ state_snoc n.history change) in
-    let settings : KnowsSettings new (after (state n.history) change) = record {
+pub drops_as : {L : Type 0} (node : Node L) (n : Situation) (x : List ℕ) (why : Dropped) → Knows node n → read_frame node.own node.keys x ≡ Err why → react n (Datagram x) ≡ drops why
+drops_as node n x why k is = reads_as node n x k ∙ ap (λ (r : Result Incoming Dropped). on_read k.settings.settings n.history r) is
+
+pub passes_as : {L : Type 0} (node : Node L) (n : Situation) (x : List ℕ) → Knows node n → ((settings : Settings) (h : List Change) → keys_of settings ≡ node.keys → on_read settings h (read_frame node.own node.keys x) ≡ quiet) → react n (Datagram x) ≡ quiet
+passes_as node n x k none = reads_as node n x k ∙ none k.settings.settings n.history (sym k.settings.keys)
+
+keyed_in : {L : Type 0} (node : Node L) (n : Situation) (x : List ℕ) (p number : ℕ) (key name bytes : List ℕ) (k : Knows node n) → IsOffer node.own node.keys x p number key name bytes → key_in (keys_of k.settings.settings) p ≡ Some key
+keyed_in node n x p number key name bytes k offer = ap (λ (t : List (ℕ × List ℕ)). key_in t p) (sym k.settings.keys) ∙ offer.keyed
+
+peer_of : {L : Type 0} (node : Node L) (n : Situation) (x : List ℕ) (p number : ℕ) (key name bytes : List ℕ) → Knows node n → IsOffer node.own node.keys x p number key name bytes → is_peer (state n.history) p ≡ true
+peer_of node n x p number key name bytes k offer = keyed_is_peer n.history k.settings.settings p key k.valid.built k.settings.present (keyed_in node n x p number key name bytes k offer)
+
+-- the deal of an offer
+offered : {L : Type 0} (node : Node L) (n : Situation) (x : List ℕ) (p number : ℕ) (key name bytes : List ℕ) (k : Knows node n) → IsOffer node.own node.keys x p number key name bytes
+    → react n (Datagram x) ≡ on_deal k.settings.settings n.history p number key (made_of (state n.history) p number name bytes)
+offered node n x p number key name bytes k offer =
+    let st = k.settings.settings in
+    let h = n.history in
+    reads_as node n x k
+    ∙ on_read-store st h (read_frame node.own node.keys x) p number key name bytes offer.reads (keyed_in node n x p number key name bytes k offer)
+    ∙ ap (λ (c : Change). on_deal st h p number key c) (judged_alone st h p number name bytes k.valid (peer_of node n x p number key name bytes k offer))
+    ∙ ap (λ (o : Option Settings). on_deal st h p number key (judged_by o (state h) p number name bytes)) (sym k.settings.present)
+
+-- by its standing, as the node's ledger has it
+stands_as : {L : Type 0} (node : Node L) (n : Situation) (p number : ℕ) (last : LastDeal) (how : Standing) → Knows node n → last ≡ (row node.ledger.state p).last → how ≡ standing last.number number → standing (row (state n.history) p).last.number number ≡ how
+stands_as node n p number last how k is stands =
+    ap (λ (s : State). standing (row s p).last.number number) (sym k.ledger) ∙ ap (λ (d : LastDeal). standing d.number number) (sym is) ∙ sym stands
+
+pub makes_as : {L : Type 0} (node : Node L) (n : Situation) (x : List ℕ) (p number : ℕ) (key name bytes : List ℕ) (last : LastDeal) (how : Standing) → Knows node n → IsOffer node.own node.keys x p number key name bytes
+    → last ≡ (row node.ledger.state p).last → how ≡ standing last.number number → how ≡ Fresh → MakesChange n x p number key name bytes
+makes_as node n x p number key name bytes last how k offer is stands fresh = record {
+  settings = k.settings.settings;
+  present = k.settings.present;
+  reaction = offered node n x p number key name bytes k offer ∙ ap (λ (s : Standing). by_standing s k.settings.settings n.history p number key (made_of (state n.history) p number name bytes)) (stands_as node n p number last how k is stands ∙ fresh);
+}
+
+pub tells_as : {L : Type 0} (node : Node L) (n : Situation) (x : List ℕ) (p number : ℕ) (key name bytes : List ℕ) (last : LastDeal) (how : Standing) → Knows node n → IsOffer node.own node.keys x p number key name bytes
+    → last ≡ (row node.ledger.state p).last → how ≡ standing last.number number → how ≡ Repeat → TellsAgain n x p number last.change key
+tells_as node n x p number key name bytes last how k offer is stands repeat =
+    let same : (row (state n.history) p).last ≡ last = ap (λ (s : State). (row s p).last) (sym k.ledger) ∙ sym is in
+    let again = stands_as node n p number last how k is stands ∙ repeat in
+    let number_is = repeat_is_last (row (state n.history) p).last.number number again in
+    record {
       settings = k.settings.settings;
       present = k.settings.present;
-      own = took.rest.own ∙ k.settings.own;
-      seed = took.rest.seed ∙ k.settings.seed;
-      keys = took.rest.keys ∙ k.settings.keys;
+      reaction = offered node n x p number key name bytes k offer
+          ∙ ap (λ (s : Standing). by_standing s k.settings.settings n.history p number key (made_of (state n.history) p number name bytes)) again
+          ∙ ap (λ (d : LastDeal). tells_again (option_map (reply k.settings.settings key p number) (slice_get n.history d.change))) same;
+      last = ap (λ (d : LastDeal). d.change) same;
+      some = ap (λ (m : ℕ). m == 0) (sym number_is.0) ∙ number_is.1;
+    }
+
+pub passes_deal : {L : Type 0} (node : Node L) (n : Situation) (x : List ℕ) (p number : ℕ) (key name bytes : List ℕ) (last : LastDeal) (how : Standing) → Knows node n → IsOffer node.own node.keys x p number key name bytes
+    → last ≡ (row node.ledger.state p).last → how ≡ standing last.number number → (how ≡ Stale) ⊎ (how ≡ Gap) → react n (Datagram x) ≡ quiet
+passes_deal node n x p number key name bytes last how k offer is stands none =
+    let st = k.settings.settings in
+    let c = made_of (state n.history) p number name bytes in
+    let by : react n (Datagram x) ≡ by_standing how st n.history p number key c = offered node n x p number key name bytes k offer ∙ ap (λ (s : Standing). by_standing s st n.history p number key c) (stands_as node n p number last how k is stands) in
+    ⊎_elim (λ e. by ∙ ap (λ (s : Standing). by_standing s st n.history p number key c) e) (λ e. by ∙ ap (λ (s : Standing). by_standing s st n.history p number key c) e) none
+
+-- the change of the last deal is in the history
+pub last_inside : {L : Type 0} (node : Node L) (n : Situation) (p number : ℕ) (last : LastDeal) (how : Standing) → Knows node n → last ≡ (row node.ledger.state p).last → how ≡ standing last.number number → how ≡ Repeat → last.change < node.ledger.state.changes
+last_inside node n p number last how k is stands repeat =
+    let same : (row (state n.history) p).last ≡ last = ap (λ (s : State). (row s p).last) (sym k.ledger) ∙ sym is in
+    let number_is = repeat_is_last (row (state n.history) p).last.number number (stands_as node n p number last how k is stands ∙ repeat) in
+    let some : ((row (state n.history) p).last.number == 0) ≡ false = ap (λ (m : ℕ). m == 0) (sym number_is.0) ∙ number_is.1 in
+    let l = last_there n.history p k.valid some in
+    let inside = slice_get_within n.history (row (state n.history) p).last.change l.c l.there in
+    omega (arith, inside, ap (λ (d : LastDeal). d.change) same, changes_counted n.history, ap (λ (s : State). s.changes) k.ledger)
+
+-- ---- the change that a fresh offer makes may be made
+
+fresh_long : (p deal first len : ℕ) (name : List ℕ) (new : Bool) (body : Option (List ℕ)) → length name ≡ 32 → length (head_of (TookFresh p deal name first len new body)) ≡ 54
+fresh_long p deal first len name new body is =
+    let a = to_be_bytes w32 p in
+    let b = to_be_bytes w64 deal in
+    let d = to_be_bytes w32 first in
+    let e = to_be_bytes w32 len in
+    omega (arith, is, length-append (a ++ b ++ name ++ d ++ e) (cond new 1 0 ∷ []), length-append (a ++ b ++ name ++ d) e, length-append (a ++ b ++ name) d, length-append (a ++ b) name, length-append a b)
+
+refused_long : (p deal why detail : ℕ) → length (head_of (Refused p deal why detail)) ≡ 22
+refused_long p deal why detail =
+    let a = to_be_bytes w32 p in
+    let b = to_be_bytes w64 deal in
+    omega (arith, length-append (a ++ b) (why ∷ to_be_bytes w64 detail), length-append a b)
+
+body_short : (held : Bool) (bytes : List ℕ) → length (cond (not held) bytes []) ≤ length bytes
+body_short true bytes = omega arith
+body_short false bytes = omega arith
+
+-- what was judged may be made, and told of
+record CanTell (s : State) (c : Change) : Type 0 where
+  may : MayMake s c
+  answerable : is_answerable c ≡ true
+
+can_take : (settings : Settings) (h : List Change) (p number : ℕ) (name bytes : List ℕ) → IsValid h → (state h).settings ≡ Some settings → is_peer (state h) p ≡ true
+    → StoreFits p number name bytes → IsTaken settings (state h) p number name bytes → (state h).changes < 2 ^ 62 → CanTell (state h) (took_fresh (state h) p number name bytes)
+can_take settings h p number name bytes v present peer f t few =
+    let s = state h in
+    let named : length name ≡ 32 = eqb-true (length name) 32 (and_parts (length name == 32) (list_all is_u8 name) f.name_fits).0 in
+    record {
+      may = record {
+        read = refl;
+        grammar = grammar_taken s p number name bytes f;
+        may = allows_taken settings h p number name bytes v.some present peer t;
+        few = few;
+        there = refl;
+        short = omega (arith, fresh_long p number s.issued (length bytes) name (not (is_held s name)) (Some (cond (not (is_held s name)) bytes [])) named, body_short (is_held s name) bytes, f.short);
+      };
+      answerable = rw (le-leb (length bytes) 32768 f.short, t.claims) refl;
+    }
+
+can_refuse : (h : List Change) (p number : ℕ) (r : Refusal) → 1 ≤ length h → is_peer (state h) p ≡ true → is_next_deal (state h) p number ≡ true → (state h).changes < 2 ^ 62 → CanTell (state h) (Refused p number (code_of r.why) r.detail)
+can_refuse h p number r some peer next_deal few =
+    let code = codes_are r.why in
+    record {
+      may = record {
+        read = refl;
+        grammar = refl;
+        may = allows_refused h p number r some peer next_deal;
+        few = few;
+        there = refl;
+        short = omega (arith, refused_long p number (code_of r.why) r.detail);
+      };
+      answerable = rw (code.0, code.1) refl;
+    }
+
+can_judge : (settings : Settings) (h : List Change) (p number : ℕ) (name bytes : List ℕ) → IsValid h → (state h).settings ≡ Some settings → is_peer (state h) p ≡ true
+    → StoreFits p number name bytes → is_next_deal (state h) p number ≡ true → (state h).changes < 2 ^ 62 → CanTell (state h) (judged_store settings (state h) p number name bytes false)
+can_judge settings h p number name bytes v present peer f next_deal few = by_refusal (first_that_holds (store_reasons settings (state h) p name bytes false)) refl
+  where
+    by_refusal : (o : Option Refusal) → first_that_holds (store_reasons settings (state h) p name bytes false) ≡ o → CanTell (state h) (judged p number (took_fresh (state h) p number name bytes) o)
+    by_refusal None is = can_take settings h p number name bytes v present peer f (is_taken settings (state h) p number name bytes false next_deal is) few
+    by_refusal (Some r) is = can_refuse h p number r v.some peer next_deal few
+
+pub can_make : {L : Type 0} (node : Node L) (n : Situation) (x : List ℕ) (p number : ℕ) (key name bytes : List ℕ) (last : LastDeal) (how : Standing) → Knows node n → IsOffer node.own node.keys x p number key name bytes
+    → last ≡ (row node.ledger.state p).last → how ≡ standing last.number number → how ≡ Fresh → node.ledger.state.changes < 2 ^ 62 → CanMake node.ledger.state p number name bytes × (length bytes ≤ 32768)
+can_make node n x p number key name bytes last how k offer is stands fresh few =
+    let st = k.settings.settings in
+    let h = n.history in
+    let next_deal = fresh_is_next (row (state h) p).last.number number (stands_as node n p number last how k is stands ∙ fresh) in
+    let can = can_judge st h p number name bytes k.valid k.settings.present (peer_of node n x p number key name bytes k offer) offer.fits next_deal (subst (λ (s : State). s.changes < 2 ^ 62) k.ledger few) in
+    let same : made_of (state h) p number name bytes ≡ judged_store st (state h) p number name bytes false = ap (λ (o : Option Settings). judged_by o (state h) p number name bytes) k.settings.present in
+    let there = subst (λ (c : Change). CanTell (state h) c) (sym same) can in (
+      subst (λ (s : State). CanMake s p number name bytes) (sym k.ledger) (record { may = there.may; answerable = there.answerable }),
+      offer.fits.short,
+    )
+
+-- ---- the history after the datagram
+
+grown_by : (n : Situation) (x : List ℕ) (p number : ℕ) (key name bytes : List ℕ) → MakesChange n x p number key name bytes
+    → (next n (Datagram x)).history ≡ n.history ++ made_of (state n.history) p number name bytes ∷ []
+grown_by n x p number key name bytes m = ap (λ (r : Reaction). n.history ++ r.grown) m.reaction
+
+-- from the state that the node keeps
+pub grown_to : (n : Situation) (i : Input) (x : List ℕ) (s : State) (p number : ℕ) (key name bytes : List ℕ) → i ≡ Datagram x → MakesChange n x p number key name bytes → s ≡ state n.history
+    → (next n i).history ≡ n.history ++ made_of s p number name bytes ∷ []
+grown_to n i x s p number key name bytes is m here =
+    ap (λ (j : Input). (next n j).history) is ∙ grown_by n x p number key name bytes m
+    ∙ ap (λ (s : State). n.history ++ made_of s p number name bytes ∷ []) (sym here)
+
+-- no such change changes the settings
+stay_judged : (s : State) (p number : ℕ) (name bytes : List ℕ) (o : Option Refusal) → (after s (judged p number (took_fresh s p number name bytes) o)).settings ≡ s.settings
+stay_judged s p number name bytes None = refl
+stay_judged s p number name bytes (Some r) = refl
+
+stay_made : (o : Option Settings) (s : State) (p number : ℕ) (name bytes : List ℕ) → (after s (judged_by o s p number name bytes)).settings ≡ s.settings
+stay_made None s p number name bytes = refl
+stay_made (Some settings) s p number name bytes = stay_judged s p number name bytes (first_that_holds (store_reasons settings s p name bytes false))
+
+made_datagram : {L : Type 0} (old new : Node L) (n : Situation) (x : List ℕ) (p number : ℕ) (key name bytes : List ℕ) (letters : List (ℕ × List ℕ)) → Knows old n → IsValid (next n (Datagram x)).history
+    → MakesChange n x p number key name bytes → Made old new n p number key name bytes letters → Knows new (next n (Datagram x)) × (letters ≡ (react n (Datagram x)).letters)
+made_datagram old new n x p number key name bytes letters k valid m made =
+    let change = made_of (state n.history) p number name bytes in
+    let after_is : after (state n.history) change ≡ state (next n (Datagram x)).history = sym (ap state (grown_by n x p number key name bytes m) ∙ state_snoc n.history change) in
+    let s = state n.history in
+    let present : (after s change).settings ≡ Some k.settings.settings = stay_made s.settings s p number name bytes ∙ k.settings.present in
+    let settings : KnowsSettings new (after (state n.history) change) = record {
+      settings = k.settings.settings;
+      present = present;
+      own = made.rest.own ∙ k.settings.own;
+      seed = made.rest.seed ∙ k.settings.seed;
+      keys = made.rest.keys ∙ k.settings.keys;
     } in (
       record {
         valid = valid;
-        ledger = took.ledger ∙ after_is;
+        ledger = made.ledger ∙ after_is;
         settings = subst (λ (s : State). KnowsSettings new s) after_is settings;
       },
-      took.accepted t.settings t.present ∙ sym (ap (λ (r : Reaction). r.letters) t.reaction),
+      made.told m.settings m.present ∙ sym (ap (λ (r : Reaction). r.letters) m.reaction),
     )
 
-pub took_next : {L : Type 0} (old new : Node L) (n : Situation) (i : Input) (x : List ℕ) (p number : ℕ) (key name bytes : List ℕ) (letters : List (ℕ × List ℕ)) → i ≡ Datagram x → Knows old n
-    → IsValid (next n (Datagram x)).history → TakesOffer n x p number key name bytes → Took old new n p number key name bytes letters → Knows new (next n i) × (letters ≡ (react n i).letters)
-took_next old new n i x p number key name bytes letters is k valid t took =
-    subst (λ (j : Input). Knows new (next n j) × (letters ≡ (react n j).letters)) (sym is) (took_datagram old new n x p number key name bytes letters k valid t took)
+pub made_next : {L : Type 0} (old new : Node L) (n : Situation) (i : Input) (x : List ℕ) (p number : ℕ) (key name bytes : List ℕ) (letters : List (ℕ × List ℕ)) → i ≡ Datagram x → Knows old n
+    → IsValid (next n (Datagram x)).history → MakesChange n x p number key name bytes → Made old new n p number key name bytes letters → Knows new (next n i) × (letters ≡ (react n i).letters)
+made_next old new n i x p number key name bytes letters is k valid m made =
+    subst (λ (j : Input). Knows new (next n j) × (letters ≡ (react n j).letters)) (sym is) (made_datagram old new n x p number key name bytes letters k valid m made)
 
 reopened : (stands : List Entry → List ℕ → Type 0) (h : List Change) (i : List ℕ) → IsValid h → HoldsHistory stands h i → ReopensTo stands h i
 reopened stands h i v s = reopens stands h s.records i v s.decoded s.image_is
 
--- the history after the datagram, from the state that the node keeps
-pub grown_to : (n : Situation) (i : Input) (x : List ℕ) (s : State) (p number : ℕ) (key name bytes : List ℕ) → i ≡ Datagram x → TakesOffer n x p number key name bytes → s ≡ state n.history
-    → (next n i).history ≡ n.history ++ took_fresh s p number name bytes ∷ []
-grown_to n i x s p number key name bytes is t here =
-    ap (λ (j : Input). (next n j).history) is ∙ grown_by n x p number key name bytes t
-    ∙ ap (λ (s : State). n.history ++ took_fresh s p number name bytes ∷ []) (sym here)
-
--- what the moments of the taking leave reopens
-pub taken_leaves : (stands : List Entry → List ℕ → Type 0) (n : Situation) (i : Input) (x : List ℕ) (s : State) (p number : ℕ) (key name bytes : List ℕ) (told : ℕ) (old new : View) → i ≡ Datagram x → IsValid n.history
-    → IsValid (next n (Datagram x)).history → TakesOffer n x p number key name bytes → s ≡ state n.history
-    → Leaves old new (λ c k. (k ≡ told) × (HoldsHistory stands n.history c ⊎ HoldsHistory stands (n.history ++ took_fresh s p number name bytes ∷ []) c))
+-- what the moments of making the change leave reopens
+pub made_leaves : (stands : List Entry → List ℕ → Type 0) (n : Situation) (i : Input) (x : List ℕ) (s : State) (p number : ℕ) (key name bytes : List ℕ) (told : ℕ) (old new : View) → i ≡ Datagram x → IsValid n.history
+    → IsValid (next n (Datagram x)).history → MakesChange n x p number key name bytes → s ≡ state n.history
+    → Leaves old new (λ c k. (k ≡ told) × (HoldsHistory stands n.history c ⊎ HoldsHistory stands (n.history ++ made_of s p number name bytes ∷ []) c))
     → Leaves old new (λ c k. (k ≡ told) × (ReopensTo stands n.history c ⊎ ReopensTo stands (next n i).history c))
-taken_leaves stands n i x s p number key name bytes told old new is valid later t here run =
-    let change = took_fresh s p number name bytes in
-    let grown : (next n i).history ≡ n.history ++ change ∷ [] = grown_to n i x s p number key name bytes is t here in
+made_leaves stands n i x s p number key name bytes told old new is valid later m here run =
+    let change = made_of s p number name bytes in
+    let grown : (next n i).history ≡ n.history ++ change ∷ [] = grown_to n i x s p number key name bytes is m here in
     let after_valid : IsValid (next n i).history = subst (λ (j : Input). IsValid (next n j).history) (sym is) later in
     weakened old new (λ c k. (k ≡ told) × (HoldsHistory stands n.history c ⊎ HoldsHistory stands (n.history ++ change ∷ []) c)) (λ c k. (k ≡ told) × (ReopensTo stands n.history c ⊎ ReopensTo stands (next n i).history c))
     (λ c k both. (
@@ -96,3 +276,79 @@ taken_leaves stands n i x s p number key name bytes told old new is valid later 
           (λ h. inr (reopened stands (next n i).history c after_valid (subst (λ (l : List Change). HoldsHistory stands l c) (sym grown) h))) both.1,
     ))
     run
+
+-- ---- what a call leaves of what a node knows
+
+-- a node whose ledger and settings stay knows what it knew
+pub knows_still : {L : Type 0} (old new : Node L) (n : Situation) → new.ledger.state ≡ old.ledger.state → SameOwner old new → Knows old n → Knows new n
+knows_still old new n same rest k = record {
+  valid = k.valid;
+  ledger = same ∙ k.ledger;
+  settings = record {
+    settings = k.settings.settings;
+    present = k.settings.present;
+    own = rest.own ∙ k.settings.own;
+    seed = rest.seed ∙ k.settings.seed;
+    keys = rest.keys ∙ k.settings.keys;
+  };
+}
+
+-- the change of an offer was made, and a letter tells of it
+pub made_of_offer : {L : Type 0} (old new : Node L) (n : Situation) (p number : ℕ) (key name bytes : List ℕ) (letters : List (ℕ × List ℕ)) (c : Change) → Knows old n → c ≡ made_of old.ledger.state p number name bytes
+    → new.ledger.state ≡ after old.ledger.state c → SameOwner old new → TellsOf letters old.own old.seed key p number c → Made old new n p number key name bytes letters
+made_of_offer old new n p number key name bytes letters c k is grown rest tells =
+    let change : c ≡ made_of (state n.history) p number name bytes = is ∙ ap (λ (s : State). made_of s p number name bytes) k.ledger in
+    record {
+      ledger = grown ∙ ap (λ (s : State). after s c) k.ledger ∙ ap (λ (x : Change). after (state n.history) x) change;
+      rest = rest;
+      told = λ settings present.
+          let same : k.settings.settings ≡ settings = same_some (state n.history).settings k.settings.settings settings k.settings.present present in
+          tells
+          ∙ ap (λ (own : ℕ). (p, datagram key own p number (reply_of old.seed c)) ∷ []) (k.settings.own ∙ ap (λ (st : Settings). st.id) same)
+          ∙ ap (λ (seed : List ℕ). (p, datagram key settings.id p number (reply_of seed c)) ∷ []) (k.settings.seed ∙ ap (λ (st : Settings). st.seed) same)
+          ∙ ap (λ (x : Change). reply settings key p number x ∷ []) change;
+    }
+
+-- what was made again answers the last deal
+pub told_again : {L : Type 0} (holds : L → List Entry → List ℕ → Type 0) (one : OneChangeEach) (node : Node L) (n : Situation) (v : View) (p number change : ℕ) (key : List ℕ) (o : Option Frame) (letters : List (ℕ × List ℕ)) → Knows node n → Stored holds node n.history v
+    → ((es : List Entry) → Shows (holds node.log es) v → IfSome (slice_get es change) (λ e. IsAnswerOf o node.seed e.head))
+    → ((frame : Frame) → o ≡ Some frame → letters ≡ (p, datagram key node.own p number frame) ∷ []) → IsToldAgain n p number change key letters
+told_again holds one node n v p number change key o letters k s answers tells = λ last some settings present.
+    let h = n.history in
+    let there = subst (λ (m : ℕ). LastIs h (row (state h) p).last.number m) last (last_there h p k.valid some) in
+    let a = answer_is one h s.records node.seed p o (row (state h) p).last.number change s.decoded there (answers s.records s.shows) in
+    let same : k.settings.settings ≡ settings = same_some (state h).settings k.settings.settings settings k.settings.present present in
+    tells (reply_of node.seed a.0) a.2
+    ∙ ap (λ (own : ℕ). (p, datagram key own p number (reply_of node.seed a.0)) ∷ []) (k.settings.own ∙ ap (λ (st : Settings). st.id) same)
+    ∙ ap (λ (seed : List ℕ). (p, datagram key settings.id p number (reply_of seed a.0)) ∷ []) (k.settings.seed ∙ ap (λ (st : Settings). st.seed) same)
+    ∙ ap (λ (x : Option Change). option_to_list (option_map (reply settings key p number) x)) (sym a.1)
+
+-- the machine tells again, and changes nothing
+pub again_next : {L : Type 0} (old new : Node L) (n : Situation) (i : Input) (x : List ℕ) (p number change : ℕ) (key : List ℕ) (letters : List (ℕ × List ℕ)) → i ≡ Datagram x → Knows old n → new.ledger.state ≡ old.ledger.state → SameOwner old new
+    → TellsAgain n x p number change key → IsToldAgain n p number change key letters → Knows new (next n i) × (letters ≡ (react n i).letters)
+again_next old new n i x p number change key letters is k same rest t told =
+    let here : react n i ≡ tells_again (option_map (reply t.settings key p number) (slice_get n.history change)) = ap (λ (j : Input). react n j) is ∙ t.reaction in
+    let history : (next n i).history ≡ n.history = ap (λ (r : Reaction). n.history ++ r.grown) here ∙ append-nil n.history in (
+      subst (λ (m : Situation). Knows new m) (sym (λ j. record { history = history j; volatile = tt })) (knows_still old new n same rest k),
+      told t.last t.some t.settings t.present ∙ sym (ap (λ (r : Reaction). r.letters) here),
+    )
+
+pub again_history : (n : Situation) (i : Input) (x : List ℕ) (p number change : ℕ) (key : List ℕ) → i ≡ Datagram x → TellsAgain n x p number change key → (next n i).history ≡ n.history
+again_history n i x p number change key is t = ap (λ (j : Input). (next n j).history) is ∙ ap (λ (r : Reaction). n.history ++ r.grown) t.reaction ∙ append-nil n.history
+
+pub stored_still : {L : Type 0} (holds : L → List Entry → List ℕ → Type 0) (old new : Node L) (h : List Change) (v w : View) → new.log ≡ old.log → Keeps v w → Stored holds old h v → Stored holds new h w
+stored_still holds old new h v w same keeps s = record {
+  records = s.records;
+  decoded = s.decoded;
+  shows = subst (λ l. Shows (holds l s.records) w) (sym same) (shows_keeps (holds old.log s.records) v w keeps s.shows);
+}
+
+-- the one letter
+pub one_letter_is : (out : List Letter) (letter : Letter) (p : ℕ) (frame : List ℕ) → out ≡ letter ∷ [] → letter.to ≡ p → letter.frame ≡ frame → letters_of out ≡ (p, frame) ∷ []
+one_letter_is out letter p frame is to has = ap letters_of is ∙ (λ i. (to i, has i) ∷ [])
+
+pub makes_none_dropped : (n : Situation) (i : Input) (x : List ℕ) (p number : ℕ) (key name bytes : List ℕ) → i ≡ Datagram x → MakesChange n x p number key name bytes → (react n i).dropped ≡ None
+makes_none_dropped n i x p number key name bytes is m = ap (λ (j : Input). (react n j).dropped) is ∙ ap (λ (r : Reaction). r.dropped) m.reaction
+
+pub makes_numbered : (n : Situation) (i : Input) (x : List ℕ) (p number : ℕ) (key name bytes : List ℕ) (size : ℕ) → i ≡ Datagram x → MakesChange n x p number key name bytes → numbered (react n i).grown size ≡ Some size
+makes_numbered n i x p number key name bytes size is m = ap (λ (j : Input). numbered (react n j).grown size) is ∙ ap (λ (r : Reaction). numbered r.grown size) m.reaction

@@ -29,3 +29,11 @@ ok_map (Err e) P Q f h = tt
 pub ok_then : {A E : Type 0} (r : Result A E) (P Q : Type 0) → (P → Q) → OnOk r P → OnOk r Q
 ok_then (Ok x) P Q f h = f h
 ok_then (Err e) P Q f h = tt
+
+pub if_then : {A E : Type 0} (r : Result A E) (P : A → Type 0) (Q : Type 0) → ((x : A) → P x → Q) → IfOk r P → OnOk r Q
+if_then (Ok x) P Q f h = f x h
+if_then (Err e) P Q f h = tt
+
+pub on_ok : {A E : Type 0} (r : Result A E) (Q : Type 0) → Q → OnOk r Q
+on_ok (Ok x) Q h = h
+on_ok (Err e) Q h = tt

@@ -5,4 +5,5 @@ pub mod Stands
 pub mod Stored
 pub mod Offers
 pub mod Making
+pub mod Again
 pub mod Taking

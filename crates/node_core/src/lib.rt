@@ -1,12 +1,13 @@
 //! A node over a log: it opens the history that a disk holds, and absorbs one input at a time.
 #![tactic(auto)]
 
+mod decision;
 mod fault;
 mod history;
 mod node;
 mod offer;
 mod outcome;
-mod taking;
+mod replies;
 
 pub use fault::Fault;
 pub use node::{Input, Node};

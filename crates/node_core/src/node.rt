@@ -1,26 +1,27 @@
-ghost use Rattle.std.specs.Prelude.{◌≡◌, ◌⊎◌, ◌↔◌, ◌≤◌, ◌<◌, ◌+◌, ◌^◌, [], ◌∷◌, ◌++◌, List, ℕ, true, false, length, map, Some, None, IfSome, IfNone, IfOk, OnOk, OnErr, if◌then◌else◌};
-ghost use Rattle.psb_bytes.specs.Units.{units};
+ghost use Rattle.std.specs.Prelude.{◌≡◌, ◌⊎◌, ◌↔◌, ◌≤◌, ◌<◌, ◌+◌, ◌^◌, [], ◌∷◌, ◌++◌, List, ℕ, true, false, length, map, Some, None, IsSome, IfSome, IfOk, OnOk, OnErr};
 ghost use Rattle.psb_settings.specs.Settings.{have_distinct_ids};
 ghost use Rattle.psb_model.specs.Effects.{after};
 ghost use Rattle.psb_station.specs.Calls.{Rose};
 ghost use Rattle.psb_station.specs.Span.{Tells_bytes, Leaves, DiskWorks, Keeps};
 ghost use Rattle.psb_model.specs.Needed.{IsValid};
 ghost use Rattle.psb_model.specs.declared.change.Change.{Change};
-ghost use Rattle.psb_machine.specs.Machine.{Situation, Datagram, react, next, key_of_row, passed_over, took_fresh};
-ghost use Rattle.node_core.specs.Making.{CanTake, MayMake};
+ghost use Rattle.psb_machine.specs.Machine.{Situation, Datagram, react, next, key_of_row};
+ghost use Rattle.node_core.specs.Making.{CanMake, MayMake, made_of};
 
+use crate::decision::Decision;
 use crate::history::read_history;
-use crate::offer::{Offer, is_taken, offer_of};
-use crate::taking::{change_for, letter_for};
+use crate::offer::{Offer, Reading, read};
+use crate::replies::{judged, letter_with, reply_again, reply_to};
 use crate::{Fault, Letter, Outbox, Outcome};
 use node_journal::Log;
 use psb_bytes::{Digest, Items, PeerId};
 use psb_ledger::{Ledger, encode_change};
+use psb_machine::Standing;
 use psb_model::Change;
 use psb_settings::PeerRow;
 use psb_station::Disk;
 use std::alloc::Global;
-use wire_codec::{KeyError, Keys};
+use wire_codec::{Dropped, KeyError, Keys};
 
 /// What is fed to a node.
 #[derive(Drop)]
@@ -57,11 +58,17 @@ fn keys_of(alloc: Global, peers: &[PeerRow]) -> Result<Keys, Fault>
     Ok(keys)
 }
 
-/// No letters.
-fn no_letters(alloc: Global) -> Outbox
-    ensures { result ≡ [] }
+/// What came of an input that made no change and is not answered.
+fn quiet(alloc: Global, dropped: Option<Dropped>) -> Outcome
+    ensures change { result.change ≡ None }
+    ensures dropped { result.dropped ≡ dropped }
+    ensures out { result.out ≡ [] }
 {
-    Items::from_vec(Vec::new(alloc))
+    Outcome {
+        change: None,
+        dropped,
+        out: Items::from_vec(Vec::new(alloc)),
+    }
 }
 
 /// One letter.
@@ -78,7 +85,7 @@ impl<L: Log> Node<L> {
     ghost use Rattle.node_core.specs.Letters.{letters_of, input_of};
     ghost use Rattle.node_core.specs.Stands.{HoldsHistory, ReopensTo};
     ghost use Rattle.node_core.specs.Stored.{Knows, Stored};
-    ghost use Rattle.node_core.specs.Taking.{TakesOffer, Took, SameOwner};
+    ghost use Rattle.node_core.specs.Taking.{Decides, CanDo, Made, IsToldAgain, TellsOf, SameOwner, numbered};
 
     /// Opens the node that the disk holds. It syncs once, reads each record once, and changes nothing.
     pub fn open<D: Disk>(alloc: Global, disk: &mut D) -> Result<Node<L>, Fault>
@@ -120,14 +127,16 @@ impl<L: Log> Node<L> {
         requires known { (n : Situation) × Knows self.old n }
         requires counted { self.old.ledger.state.changes ≡ L.size self.old.log }
 
-        ensures machine { IfOk result (λ o. (n : Situation) → Knows self.old n
+        // Where the disk tells its bytes: the node is as the machine has it, and so are the letters.
+        ensures machine { IfOk result (λ o. (n : Situation) → Knows self.old n → Stored L.holds self.old n.history (D.view disk.old)
             → Knows self.new (next n (input_of input.now)) × (letters_of o.out ≡ (react n (input_of input.now)).letters)) }
-        ensures dropped { IfOk result (λ o. (n : Situation) → Knows self.old n → o.dropped ≡ (react n (input_of input.now)).dropped) }
-        ensures few { IfOk result (λ o. length o.out ≤ 1) }
-        ensures number { IfOk result (λ o. o.change ≡ (if o.dropped then None else Some (L.size self.old.log))) }
-        ensures counted { OnOk result (self.new.ledger.state.changes ≡ L.size self.new.log) }
         ensures disk { OnOk result ((n : Situation) → Knows self.old n → Stored L.holds self.old n.history (D.view disk.old)
             → Stored L.holds self.new (next n (input_of input.now)).history (D.view disk.new)) }
+        ensures dropped { IfOk result (λ o. (n : Situation) → Knows self.old n → o.dropped ≡ (react n (input_of input.now)).dropped) }
+        ensures number { IfOk result (λ o. (n : Situation) → Knows self.old n → o.change ≡ numbered (react n (input_of input.now)).grown (L.size self.old.log)) }
+        ensures few { IfOk result (λ o. length o.out ≤ 1) }
+        ensures known { OnOk result ((n : Situation) → Knows self.old n → (m : Situation) × Knows self.new m) }
+        ensures counted { OnOk result (self.new.ledger.state.changes ≡ L.size self.new.log) }
 
         // A crash at any moment of the call leaves the history from before it or after it.
         ensures any_moment { L.is_broken self.old.log ≡ false → (n : Situation) → Knows self.old n → Stored L.holds self.old n.history (D.view disk.old)
@@ -136,25 +145,24 @@ impl<L: Log> Node<L> {
 
         ensures works { DiskWorks (D.view disk.old) (D.view disk.new) }
         ensures disk_cause { result ≡ Err Fault.DiskFault → Rose (D.view disk.old).disk_faults (D.view disk.new).disk_faults }
-        ensures write_cause { result ≡ Err Fault.DiskFault → Rose (D.view disk.old).write_faults (D.view disk.new).write_faults }
         ensures refused { (result ≡ Err Fault.Broken) ↔ (L.is_broken self.old.log ≡ true) }
-        ensures breaks { L.is_broken self.new.log ≡ true → (L.is_broken self.old.log ≡ true) ⊎ (result ≡ Err Fault.DiskFault) }
-        ensures memory { result ≡ Err Fault.Memory → ((n : Situation) → Knows self.old n → Knows self.new n)
-            × ((h : List Change) → Stored L.holds self.old h (D.view disk.old) → Stored L.holds self.new h (D.view disk.new)) }
+        ensures breaks { L.is_broken self.new.log ≡ true → (L.is_broken self.old.log ≡ true)
+            ⊎ ((result ≡ Err Fault.DiskFault) × Rose (D.view disk.old).write_faults (D.view disk.new).write_faults) }
+
+        // After a failure that did not break the node it can be used, and is as it was.
+        ensures kept { OnErr result (L.is_broken self.new.log ≡ false → ((n : Situation) → Knows self.old n → Knows self.new n)
+            × ((h : List Change) → Stored L.holds self.old h (D.view disk.old) → Stored L.holds self.new h (D.view disk.new))) }
         ensures only { OnErr result ((result ≡ Err Fault.DiskFault) ⊎ (result ≡ Err Fault.Broken) ⊎ (result ≡ Err Fault.Memory)) }
     {
         if self.log.broken() {
             return Err(Fault::Broken);
         }
-        match input {
-            Input::Frame(datagram) => match self.offer_in(datagram) {
-                None => Ok(Outcome {
-                    change: None,
-                    dropped: true,
-                    out: no_letters(self.alloc),
-                }),
-                Some(offer) => self.take(disk, &offer),
-            },
+        let Input::Frame(datagram) = input;
+        match self.decide(datagram) {
+            Decision::Drop(why) => Ok(quiet(self.alloc, Some(why))),
+            Decision::Pass => Ok(quiet(self.alloc, None)),
+            Decision::Make(offer) => self.take(disk, &offer),
+            Decision::Again(offer, change) => self.tell_again(disk, &offer, change),
         }
     }
 
@@ -165,61 +173,113 @@ impl<L: Log> Node<L> {
         &self.ledger
     }
 
-    /// The offer that a datagram makes, where it is taken.
-    fn offer_in<'a>(&self, datagram: &'a [u8]) -> Option<Offer<'a>>
+    /// What is to be done with a datagram.
+    fn decide<'a>(&self, datagram: &'a [u8]) -> Decision<'a>
         requires known { (n : Situation) × Knows self.now n }
         requires few { self.now.ledger.state.changes < 2 ^ 62 }
-        ensures none { IfNone result ((n : Situation) → Knows self.now n → react n (Datagram datagram.now) ≡ passed_over) }
-        ensures some { IfSome result (λ o. (n : Situation) → Knows self.now n → TakesOffer n datagram.now o.peer o.number o.key o.name o.bytes.now) }
-        ensures can { IfSome result (λ o. CanTake self.now.ledger.state o.peer o.number o.name o.bytes.now) }
-        ensures short { IfSome result (λ o. length o.bytes.now ≤ 32768) }
-        ensures claims { IfSome result (λ o. self.now.ledger.state.issued + units (length o.bytes.now) < 2 ^ 32) }
+        ensures decides { (n : Situation) → Knows self.now n → Decides result n datagram.now }
+        ensures can { CanDo result self.now.ledger.state }
         ensures valid { (n : Situation) → IsValid n.history → IsValid (next n (Datagram datagram.now)).history }
     {
-        let Some(offer) = offer_of(datagram, self.own, &self.keys) else {
-            return None;
+        let offer = match read(datagram, self.own, &self.keys) {
+            Reading::Fails(why) => return Decision::Drop(why),
+            Reading::Other => return Decision::Pass,
+            Reading::Offer(offer) => offer,
         };
-        let settings = self.ledger.settings()?;
-        if is_taken(&offer, &self.ledger, settings) {
-            Some(offer)
-        } else {
-            None
+        let last = self.ledger.last(offer.peer);
+        match Standing::of(last.number, offer.number) {
+            Standing::Fresh => Decision::Make(offer),
+            Standing::Repeat => Decision::Again(offer, last.change),
+            Standing::Stale | Standing::Gap => Decision::Pass,
         }
     }
 
-    /// Takes an offer: its change is appended, and then told of by the letter.
+    /// The change of a fresh offer, and the letter that tells of it.
+    fn answer(&self, offer: &Offer<'_>) -> Result<(Change, Outbox), Fault>
+        requires short { length offer.now.bytes.now ≤ 32768 }
+        requires can { CanMake self.now.ledger.state offer.now.peer offer.now.number offer.now.name offer.now.bytes.now }
+        requires present { IsSome self.now.ledger.state.settings }
+        ensures change { IfOk result (λ a. a.0 ≡ made_of self.now.ledger.state offer.now.peer offer.now.number offer.now.name offer.now.bytes.now) }
+        ensures letter { IfOk result (λ a. TellsOf (letters_of a.1) self.now.own self.now.seed offer.now.key offer.now.peer offer.now.number a.0) }
+        ensures only { OnErr result (result ≡ Err Fault.Memory) }
+    {
+        let alloc = self.alloc;
+        let Some(settings) = self.ledger.settings() else {
+            unreachable!()
+        };
+        let change = judged(alloc, offer, &self.ledger, settings)?;
+        let Some(reply) = reply_to(alloc, &self.seed, &change)? else {
+            unreachable!()
+        };
+        let out = one_letter(alloc, letter_with(alloc, &reply, self.own, offer)?)?;
+        Ok((change, out))
+    }
+
+    /// Makes the change of a fresh offer, which is appended and then told of by the letter.
     fn take<D: Disk>(&mut self, disk: &mut D, offer: &Offer<'_>) -> Result<Outcome, Fault>
         requires whole { L.is_broken self.old.log ≡ false }
         requires fits { Tells_bytes (D.view disk.old) → (h : List Change) × Stored L.holds self.old h (D.view disk.old) }
         requires short { length offer.now.bytes.now ≤ 32768 }
-        requires claims { self.old.ledger.state.issued + units (length offer.now.bytes.now) < 2 ^ 32 }
-        requires can { CanTake self.old.ledger.state offer.now.peer offer.now.number offer.now.name offer.now.bytes.now }
-        ensures took { IfOk result (λ o. (n : Situation) → Knows self.old n → Took self.old self.new n offer.now.peer offer.now.number offer.now.key offer.now.name offer.now.bytes.now (letters_of o.out)) }
-        ensures taken { IfOk result (λ o. (o.dropped ≡ false) × (length o.out ≤ 1)) }
-        ensures number { IfOk result (λ o. o.change ≡ Some (L.size self.old.log)) }
+        requires can { CanMake self.old.ledger.state offer.now.peer offer.now.number offer.now.name offer.now.bytes.now }
+        requires present { IsSome self.old.ledger.state.settings }
+        ensures made { IfOk result (λ o. (n : Situation) → Knows self.old n → Made self.old self.new n offer.now.peer offer.now.number offer.now.key offer.now.name offer.now.bytes.now (letters_of o.out)) }
+        ensures outcome { IfOk result (λ o. (o.dropped ≡ None) × (length o.out ≤ 1) × (o.change ≡ Some (L.size self.old.log))) }
+        ensures counted { OnOk result (self.new.ledger.state.changes ≡ self.old.ledger.state.changes + 1) }
         ensures size { OnOk result (L.size self.new.log ≡ L.size self.old.log + 1) }
         ensures disk { OnOk result ((h : List Change) → Stored L.holds self.old h (D.view disk.old)
-            → Stored L.holds self.new (h ++ took_fresh self.old.ledger.state offer.now.peer offer.now.number offer.now.name offer.now.bytes.now ∷ []) (D.view disk.new)) }
+            → Stored L.holds self.new (h ++ made_of self.old.ledger.state offer.now.peer offer.now.number offer.now.name offer.now.bytes.now ∷ []) (D.view disk.new)) }
         ensures any_moment { (h : List Change) → Stored L.holds self.old h (D.view disk.old)
             → Leaves (D.view disk.old) (D.view disk.new) (λ c k. (k ≡ (D.view disk.old).told)
-            × (HoldsHistory L.stands h c ⊎ HoldsHistory L.stands (h ++ took_fresh self.old.ledger.state offer.now.peer offer.now.number offer.now.name offer.now.bytes.now ∷ []) c)) }
+            × (HoldsHistory L.stands h c ⊎ HoldsHistory L.stands (h ++ made_of self.old.ledger.state offer.now.peer offer.now.number offer.now.name offer.now.bytes.now ∷ []) c)) }
         ensures works { DiskWorks (D.view disk.old) (D.view disk.new) }
         ensures disk_cause { result ≡ Err Fault.DiskFault → Rose (D.view disk.old).disk_faults (D.view disk.new).disk_faults }
-        ensures write_cause { result ≡ Err Fault.DiskFault → Rose (D.view disk.old).write_faults (D.view disk.new).write_faults }
-        ensures breaks { L.is_broken self.new.log ≡ true → result ≡ Err Fault.DiskFault }
-        ensures memory { result ≡ Err Fault.Memory → ((n : Situation) → Knows self.old n → Knows self.new n)
-            × ((h : List Change) → Stored L.holds self.old h (D.view disk.old) → Stored L.holds self.new h (D.view disk.new)) }
+        ensures breaks { L.is_broken self.new.log ≡ true → (result ≡ Err Fault.DiskFault) × Rose (D.view disk.old).write_faults (D.view disk.new).write_faults }
+        ensures kept { OnErr result (L.is_broken self.new.log ≡ false → ((n : Situation) → Knows self.old n → Knows self.new n)
+            × ((h : List Change) → Stored L.holds self.old h (D.view disk.old) → Stored L.holds self.new h (D.view disk.new))) }
+        ensures only { OnErr result ((result ≡ Err Fault.DiskFault) ⊎ (result ≡ Err Fault.Memory)) }
+    {
+        let (change, out) = match self.answer(offer) {
+            Ok(answer) => answer,
+            Err(fault) => return Err(fault),
+        };
+        match self.make(disk, &change) {
+            Ok(number) => Ok(Outcome {
+                change: Some(number),
+                dropped: None,
+                out,
+            }),
+            Err(fault) => Err(fault),
+        }
+    }
+
+    /// Answers a deal that comes again as the change that it made was answered.
+    fn tell_again<D: Disk>(
+        &mut self,
+        disk: &mut D,
+        offer: &Offer<'_>,
+        change: u64,
+    ) -> Result<Outcome, Fault>
+        requires whole { L.is_broken self.old.log ≡ false }
+        requires below { change < L.size self.old.log }
+        ensures told { IfOk result (λ o. (n : Situation) → Knows self.old n → Stored L.holds self.old n.history (D.view disk.old)
+            → IsToldAgain n offer.now.peer offer.now.number change offer.now.key (letters_of o.out)) }
+        ensures outcome { IfOk result (λ o. (o.dropped ≡ None) × (length o.out ≤ 1) × (o.change ≡ None)) }
+        ensures ledger { self.new.ledger ≡ self.old.ledger }
+        ensures log { self.new.log ≡ self.old.log }
+        ensures rest { SameOwner self.old self.new }
+        ensures keeps { Keeps (D.view disk.old) (D.view disk.new) }
+        ensures disk_cause { result ≡ Err Fault.DiskFault → Rose (D.view disk.old).disk_faults (D.view disk.new).disk_faults }
         ensures only { OnErr result ((result ≡ Err Fault.DiskFault) ⊎ (result ≡ Err Fault.Memory)) }
     {
         let alloc = self.alloc;
-        let change = change_for(alloc, offer, &self.ledger)?;
-        let letter = letter_for(alloc, offer, &self.ledger, self.own, &self.seed)?;
-        let out = one_letter(alloc, letter)?;
-        let number = self.make(disk, &change)?;
+        let Some(reply) = reply_again(alloc, &mut self.log, disk, &self.seed, change)? else {
+            return Ok(quiet(alloc, None));
+        };
+        let letter = letter_with(alloc, &reply, self.own, offer)?;
         Ok(Outcome {
-            change: Some(number),
-            dropped: false,
-            out,
+            change: None,
+            dropped: None,
+            out: one_letter(alloc, letter)?,
         })
     }
 
@@ -229,7 +289,7 @@ impl<L: Log> Node<L> {
         requires fits { Tells_bytes (D.view disk.old) → (h : List Change) × Stored L.holds self.old h (D.view disk.old) }
         requires may { MayMake self.old.ledger.state change.now }
         ensures ledger { OnOk result (self.new.ledger.state ≡ after self.old.ledger.state change.now) }
-        ensures kept { OnErr result (self.new.ledger.state ≡ self.old.ledger.state) }
+        ensures same { OnErr result (self.new.ledger.state ≡ self.old.ledger.state) }
         ensures number { IfOk result (λ n. n ≡ L.size self.old.log) }
         ensures rest { SameOwner self.old self.new }
         ensures size { OnOk result (L.size self.new.log ≡ L.size self.old.log + 1) }
@@ -240,9 +300,8 @@ impl<L: Log> Node<L> {
             × (HoldsHistory L.stands h c ⊎ HoldsHistory L.stands (h ++ change.now ∷ []) c)) }
         ensures works { DiskWorks (D.view disk.old) (D.view disk.new) }
         ensures disk_cause { result ≡ Err Fault.DiskFault → Rose (D.view disk.old).disk_faults (D.view disk.new).disk_faults }
-        ensures write_cause { result ≡ Err Fault.DiskFault → Rose (D.view disk.old).write_faults (D.view disk.new).write_faults }
-        ensures breaks { L.is_broken self.new.log ≡ true → result ≡ Err Fault.DiskFault }
-        ensures stored { result ≡ Err Fault.Memory → (h : List Change) → Stored L.holds self.old h (D.view disk.old) → Stored L.holds self.new h (D.view disk.new) }
+        ensures breaks { L.is_broken self.new.log ≡ true → (result ≡ Err Fault.DiskFault) × Rose (D.view disk.old).write_faults (D.view disk.new).write_faults }
+        ensures stored { OnErr result (L.is_broken self.new.log ≡ false → (h : List Change) → Stored L.holds self.old h (D.view disk.old) → Stored L.holds self.new h (D.view disk.new)) }
         ensures only { OnErr result ((result ≡ Err Fault.DiskFault) ⊎ (result ≡ Err Fault.Memory)) }
     {
         let head = encode_change(self.alloc, change)?;

@@ -1,19 +1,19 @@
-//! A Store fresh that came, and whether it is taken.
+//! A Store without slots that came, and why it is refused where it is fresh.
 
-ghost use Rattle.std.specs.Prelude.{◌≡◌, ◌==◌, ◌≤◌, ◌+◌, length, IfSome, IfNone};
+ghost use Rattle.std.specs.Prelude.{◌≡◌, ◌≤◌, false, length, Some};
 ghost use Rattle.psb_settings.specs.declared.settings.Settings.{Settings};
-ghost use Rattle.psb_model.specs.State.{State};
-ghost use Rattle.psb_model.specs.Words.{all_of};
+ghost use Rattle.psb_model.specs.declared.change.Change.{Change as AnyChange};
 ghost use Rattle.wire_codec.specs.Frames.{read_frame};
-ghost use Rattle.psb_machine.specs.Machine.{keys_of, on_read, passed_over, store_tests};
+ghost use Rattle.psb_machine.specs.Deals.{first_that_holds, store_reasons};
 ghost use Rattle.psb_machine.specs.Stores.{StoreFits};
-ghost use Rattle.node_core.specs.Offers.{IsOffer};
+ghost use Rattle.node_core.specs.Offers.{IsOffer, Reads};
 
 use psb_bytes::{Digest, Object, PeerId, units_of};
 use psb_digest::sha;
 use psb_ledger::Ledger;
+use psb_machine::{Reason, Refusal};
 use psb_settings::Settings;
-use wire_codec::{BodyView, FrameView, Keys, decode};
+use wire_codec::{BodyView, Dropped, FrameView, Keys, decode};
 
 /// A peer's request to keep these sealed bytes under their name, against claims.
 #[derive(Drop)]
@@ -25,24 +25,34 @@ pub(crate) struct Offer<'a> {
     pub bytes: &'a [u8],
 }
 
-/// The Store fresh that a datagram is.
-pub(crate) fn offer_of<'a>(datagram: &'a [u8], own: PeerId, keys: &Keys) -> Option<Offer<'a>>
-    ensures some { IfSome result (λ o. IsOffer own keys.now datagram.now o.peer o.number o.key o.name o.bytes.now) }
-    ensures fits { IfSome result (λ o. StoreFits o.peer o.number o.name o.bytes.now) }
-    ensures none { IfNone result ((settings : Settings) (s : State) → keys_of settings ≡ keys.now
-        → on_read settings s (read_frame own keys.now datagram.now) ≡ passed_over) }
+/// What a datagram is read as.
+#[derive(Drop)]
+pub(crate) enum Reading<'a> {
+    /// The first test of its format that it fails.
+    Fails(Dropped),
+    /// A frame that is not served yet.
+    Other,
+    Offer(Offer<'a>),
+}
+
+/// Reads a datagram.
+pub(crate) fn read<'a>(datagram: &'a [u8], own: PeerId, keys: &Keys) -> Reading<'a>
+    ensures { Reads result own keys.now datagram.now }
 {
-    let Ok(FrameView { from, number, body }) = decode(datagram, own, keys) else {
-        return None;
+    let FrameView { from, number, body } = match decode(datagram, own, keys) {
+        Ok(frame) => frame,
+        Err(why) => return Reading::Fails(why),
     };
     let BodyView::Store { name, slots, bytes } = body else {
-        return None;
+        return Reading::Other;
     };
     if slots.len() != 0 {
-        return None;
+        return Reading::Other;
     }
-    let key = keys.key_of(from)?;
-    Some(Offer {
+    let Some(key) = keys.key_of(from) else {
+        return Reading::Other;
+    };
+    Reading::Offer(Offer {
         peer: from,
         number,
         key: *key,
@@ -51,24 +61,35 @@ pub(crate) fn offer_of<'a>(datagram: &'a [u8], own: PeerId, keys: &Keys) -> Opti
     })
 }
 
-/// Whether the offer is taken: it is the peer's next deal, its bytes have its name, the peer has no
-/// such chunk here and no debt, and there are room and claims for it.
-pub(crate) fn is_taken(offer: &Offer<'_>, ledger: &Ledger, settings: &Settings) -> bool
-    requires { length offer.now.bytes.now ≤ 32768 }
-    ensures { result ≡ all_of (store_tests settings.now ledger.now.state offer.now.peer offer.now.number offer.now.name offer.now.bytes.now) }
+/// A refusal without a detail.
+fn bare(why: Reason) -> Refusal
+    ensures { result ≡ record { why = why; detail = 0 } }
 {
-    let units = u64::from(units_of(offer.bytes.len() as u32));
-    is_next(offer.number, ledger.last(offer.peer).number)
-        && sha(offer.bytes) == offer.name
-        && !ledger.has_held(offer.peer, &Object::Chunk(offer.name))
-        && ledger.debt_of(offer.peer) == 0
-        && u64::from(ledger.used()) + units <= u64::from(settings.capacity)
-        && u64::from(ledger.issued()) + units <= u64::from(u32::MAX)
+    Refusal { why, detail: 0 }
 }
 
-/// Whether a deal's number is one above the last.
-fn is_next(number: u64, last: u64) -> bool
-    ensures { result ≡ (number == last + 1) }
+/// Why a fresh offer is refused: the first reason that holds.
+pub(crate) fn refusal_of(offer: &Offer<'_>, ledger: &Ledger, settings: &Settings) -> Option<Refusal>
+    requires { length offer.now.bytes.now ≤ 32768 }
+    ensures { result ≡ first_that_holds (store_reasons settings.now ledger.now.state offer.now.peer offer.now.name offer.now.bytes.now false) }
 {
-    number != 0 && number - 1 == last
+    let units = u64::from(units_of(offer.bytes.len() as u32));
+    let (used, issued) = (u64::from(ledger.used()), u64::from(ledger.issued()));
+    let debt = u64::from(ledger.debt_of(offer.peer));
+    if sha(offer.bytes) != offer.name {
+        return Some(bare(Reason::BadName));
+    }
+    if ledger.has_held(offer.peer, &Object::Chunk(offer.name)) {
+        return Some(bare(Reason::Already));
+    }
+    let (why, detail) = if debt > 0 {
+        (Reason::Indebted, debt)
+    } else if used + units > u64::from(settings.capacity) {
+        (Reason::Full, used)
+    } else if issued + units > u64::from(u32::MAX) {
+        (Reason::Spent, issued)
+    } else {
+        return None;
+    };
+    Some(Refusal { why, detail })
 }

@@ -1,5 +1,5 @@
 -- The runs that a turn is made of.
-use Rattle.std.proofs.Common.{◌≡◌, ◌⊎◌, inl, ⊎_elim, ℕ, ◌+◌, ◌≤◌, Bool, false, if◌then◌else◌, List, [], ◌∷◌, ◌++◌, length, take, Option, is_some, refl, sym, ◌∙◌, ap, subst, arith}
+use Rattle.std.proofs.Common.{◌≡◌, ◌⊎◌, inl, ⊎_elim, ℕ, ◌+◌, ◌≤◌, false, if◌then◌else◌, List, [], ◌∷◌, ◌++◌, length, take, Option, is_some, refl, sym, ◌∙◌, ap, subst, arith}
 use Rattle.std.proofs.lemmas.List.{append-nil}
 use Rattle.psb_station.specs.View.{View, Outside, Heard}
 use Rattle.psb_station.specs.View.Heard.{Frame}
@@ -8,6 +8,7 @@ use Rattle.psb_station.specs.Span.{Leaves, DiskWorks}
 use Rattle.psb_station.proofs.Spans.{at_start, rests_on, weakened, then_run, shows_rest}
 use Rattle.node_journal.specs.Entry.{Entry}
 use Rattle.psb_model.specs.Needed.{IsValid}
+use Rattle.wire_codec.specs.declared.frame.Dropped.{Dropped}
 use Rattle.psb_machine.specs.Machine.{Situation, Input, Datagram, Reaction, react, next}
 use Rattle.psb_machine.specs.Course.{letters_all}
 use Rattle.node_core.specs.declared.node.Node.{Node}
@@ -34,7 +35,7 @@ pub record Now (v : View) : Type 0 where
 
 -- what an input is taken for
 abbrev pub tally_of : Reaction → ℕ → Tally
-tally_of r lost = record { taken = if r.dropped then 0 else 1; dropped = if r.dropped then 1 else 0; lost = lost }
+tally_of r lost = record { taken = if is_some r.dropped then 0 else 1; dropped = if is_some r.dropped then 1 else 0; lost = lost }
 
 -- what was written over the front of a vector is there
 written_front : (l rest : List ℕ) → take (length l) (l ++ rest) ≡ l
@@ -58,11 +59,11 @@ received v0 v1 a listens kept heard none =
     }
 
 -- the counts of a turn
-pub tally_is : (n : Situation) (i : Input) (x : List ℕ) (taken dropped lost : ℕ) (d : Bool) → d ≡ (react n i).dropped → taken ≡ (if d then 0 else 1) → dropped ≡ (if d then 1 else 0) → i ≡ Datagram x
+pub tally_is : (n : Situation) (i : Input) (x : List ℕ) (taken dropped lost : ℕ) (d : Option Dropped) → d ≡ (react n i).dropped → taken ≡ (if is_some d then 0 else 1) → dropped ≡ (if is_some d then 1 else 0) → i ≡ Datagram x
     → tally_of (react n (Datagram x)) lost ≡ record { taken = taken; dropped = dropped; lost = lost }
 tally_is n i x taken dropped lost d is t e input =
     let same : (react n (Datagram x)).dropped ≡ d = ap (λ (j : Input). (react n j).dropped) (sym input) ∙ sym is in
-    ap (λ (b : Bool). record { taken = if b then 0 else 1; dropped = if b then 1 else 0; lost = lost }) same
+    ap (λ (o : Option Dropped). record { taken = if is_some o then 0 else 1; dropped = if is_some o then 1 else 0; lost = lost }) same
     ∙ (λ k. record { taken = sym t k; dropped = sym e k; lost = lost })
 
 module _ {L : Type 0} (holds : L → List Entry → List ℕ → Type 0) (stands : List Entry → List ℕ → Type 0) (law : (log : L) (es : List Entry) (c : List ℕ) → holds log es c → stands es c) where

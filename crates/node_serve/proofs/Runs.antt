@@ -1,11 +1,13 @@
 -- A run goes on with another.
-use Rattle.std.proofs.Common.{◌≡◌, ℕ, ◌+◌, Bool, false, List, [], ◌∷◌, ◌++◌, length, refl, sym, ◌∙◌, ap, subst, arith, length-append, append_assoc}
+use Rattle.std.proofs.Common.{◌≡◌, ℕ, ◌+◌, Bool, false, is_some, List, [], ◌∷◌, ◌++◌, length, refl, sym, ◌∙◌, ap, subst, arith, length-append, append_assoc}
+use Rattle.std.proofs.lemmas.Bool.{false≢true}
 use Rattle.std.proofs.lemmas.List.{append-nil}
 use Rattle.psb_station.specs.View.{View, Heard}
 use Rattle.psb_station.specs.View.Heard.{Frame, Nothing, Clock, Joined, Fault}
 use Rattle.psb_station.specs.Span.{Leaves}
 use Rattle.psb_station.proofs.Spans.{at_start, weakened, then_run}
 use Rattle.node_journal.specs.Entry.{Entry}
+use Rattle.psb_model.proofs.ByObject.{by_cases}
 use Rattle.psb_machine.specs.Machine.{Situation, Input, Datagram}
 use Rattle.psb_machine.specs.Course.{after_all, letters_all}
 use Rattle.psb_machine.proofs.Courses.{after_all-append, letters_all-append, taken_in-append, dropped_in-append}
@@ -14,7 +16,7 @@ use Rattle.node_core.specs.Stored.{Knows, Stored}
 use Rattle.node_core.proofs.Reopened.{stored_reopens}
 use Rattle.node_serve.specs.Sends.{AreSent}
 use Rattle.node_serve.specs.Hears.{inputs_of, ends_in_fault}
-use Rattle.node_serve.specs.Spans.{IsPrefixSoon, IsReady, Tally, no_tally, tally_sum, Ran}
+use Rattle.node_serve.specs.Spans.{IsPrefixSoon, IsReady, Counts, Tally, no_tally, tally_sum, Ran}
 use Rattle.node_serve.proofs.Tries.{grows_none, grows_then, told_none, told_then, told_as, sent_none, sent_then, causes_sum}
 use Rattle.node_serve.proofs.Prefixes.{earlier, later_part, whole_has_all, later_has_all}
 
@@ -31,6 +33,16 @@ ends-append [] b is = refl
 ends-append (x ∷ []) [] is = is
 ends-append (x ∷ []) (y ∷ b) is = refl
 ends-append (x ∷ y ∷ a) b is = ends-append (y ∷ a) b is
+
+pub counts_same : (v : View) → Counts v v
+counts_same v = record { disk_faults = omega arith; link_faults = omega arith; send_faults = omega arith }
+
+pub counts_then : (v0 v1 v2 : View) → Counts v0 v1 → Counts v1 v2 → Counts v0 v2
+counts_then v0 v1 v2 a b = record {
+  disk_faults = omega (arith, a.disk_faults, b.disk_faults);
+  link_faults = omega (arith, a.link_faults, b.link_faults);
+  send_faults = omega (arith, a.send_faults, b.send_faults);
+}
 
 module _ {L : Type 0} (holds : L → List Entry → List ℕ → Type 0) (stands : List Entry → List ℕ → Type 0) (law : (log : L) (es : List Entry) (c : List ℕ) → holds log es c → stands es c) where
   pub ran_none : (node : Node L) (n : Situation) (v : View) (ok : Type 0) → Knows node n → Ran holds stands node node v v n [] 0 no_tally false ok
@@ -159,13 +171,14 @@ module _ {L : Type 0} (holds : L → List Entry → List ℕ → Type 0) (stands
     tells = r.tells;
   }
 
-  -- a node that was ready is ready after a run
-  pub ready_after : (n0 n1 : Node L) (v0 v1 : View) (js : List (ℕ × List ℕ)) (i : ℕ) (t : Tally) (link : Bool) → IsReady holds n0 v0 → ((n : Situation) → Knows n0 n → Ran holds stands n0 n1 v0 v1 n js i t link (Unit {0})) → IsReady holds n1 v1
-  ready_after n0 n1 v0 v1 js i t link ready run =
-      let r = run ready.0 ready.1 in
-      (after_all ready.0 r.done, r.knows tt, λ tells. r.stored tt (ready.2 (sym r.tells ∙ tells)))
+  -- a node that was ready is ready after a run that ended well
+  pub ready_after : (n0 n1 : Node L) (v0 v1 : View) (i : ℕ) (t : Tally) (link : Bool) (ok : Type 0) → ok → IsReady holds n0 v0 → is_some v1.bytes ≡ is_some v0.bytes → ((n : Situation) → Knows n0 n → (m : Situation) × Knows n1 m)
+      → ((n : Situation) → Knows n0 n → Stored holds n0 n.history v0 → Ran holds stands n0 n1 v0 v1 n [] i t link ok) → IsReady holds n1 v1
+  ready_after n0 n1 v0 v1 i t link ok well ready same goes run = by_cases (is_some v0.bytes)
+      (λ yes. let st = ready.2 yes in let r = run ready.0 ready.1 st in (after_all ready.0 r.done, r.knows well, λ tells. r.stored well st))
+      (λ no. let m = goes ready.0 ready.1 in (m.0, m.1, λ tells. absurd (false≢true (sym (same ∙ no) ∙ tells))))
 
   -- a run of turns, and one turn more
-  pub turn_more : (n0 n1 n2 : Node L) (v0 v1 v2 : View) (n : Situation) (i : ℕ) (t u : Tally) (link : Bool) (ok : Type 0) → Ran holds stands n0 n1 v0 v1 n [] i t false (Unit {0})
-      → ((m : Situation) → Knows n1 m → Ran holds stands n1 n2 v1 v2 m [] 1 u link ok) → Ran holds stands n0 n2 v0 v2 n [] (i + 1) (tally_sum t u) link ok
-  turn_more n0 n1 n2 v0 v1 v2 n i t u link ok r run = ran_then n0 n1 n2 v0 v1 v2 n [] [] i 1 t u link ok r (run (after_all n r.done) (r.knows tt))
+  pub turn_more : (n0 n1 n2 : Node L) (v0 v1 v2 : View) (n : Situation) (i : ℕ) (t u : Tally) (link : Bool) (ok : Type 0) → Stored holds n0 n.history v0 → Ran holds stands n0 n1 v0 v1 n [] i t false (Unit {0})
+      → ((m : Situation) → Knows n1 m → Stored holds n1 m.history v1 → Ran holds stands n1 n2 v1 v2 m [] 1 u link ok) → Ran holds stands n0 n2 v0 v2 n [] (i + 1) (tally_sum t u) link ok
+  turn_more n0 n1 n2 v0 v1 v2 n i t u link ok st r run = ran_then n0 n1 n2 v0 v1 v2 n [] [] i 1 t u link ok r (run (after_all n r.done) (r.knows tt) (r.stored tt st))

@@ -1,9 +1,9 @@
-ghost use Rattle.std.specs.Prelude.{◌≡◌, ◌⊎◌, ◌+◌, ◌≤◌, [], true, false, IfOk, IsOk, OnOk, OnErr, length};
+ghost use Rattle.std.specs.Prelude.{◌≡◌, ◌⊎◌, ◌+◌, ◌≤◌, [], true, false, if◌then◌else◌, is_some, IfOk, IsOk, OnOk, OnErr, length};
 ghost use Rattle.psb_station.specs.Calls.{Rose};
 ghost use Rattle.psb_machine.specs.Machine.{Situation};
 ghost use Rattle.node_core.specs.declared.fault.Fault.TheVariants as fault;
-ghost use Rattle.node_core.specs.Stored.{Knows};
-ghost use Rattle.node_serve.specs.Spans.{IsReady, Ran, Tally};
+ghost use Rattle.node_core.specs.Stored.{Knows, Stored};
+ghost use Rattle.node_serve.specs.Spans.{IsReady, Counts, Ran, Tally};
 ghost use Rattle.node_serve.specs.Turns.{is_link, turned_tally, total_tally};
 
 use crate::Buffer;
@@ -12,6 +12,7 @@ use node_core::{Fault, Input, Node};
 use node_journal::Log;
 use psb_station::Station;
 use std::alloc::Global;
+use wire_codec::Dropped;
 
 /// What came of a turn.
 #[derive(Clone, Copy, Debug, PartialEq, Eq)]
@@ -40,6 +41,17 @@ pub enum ServeFault {
     Memory,
 }
 
+/// How many datagrams were taken, and how many dropped, by what the one was dropped for.
+fn tallied(dropped: Option<Dropped>) -> (u32, u32)
+    ensures taken { result.0 ≡ (if is_some dropped then 0 else 1) }
+    ensures dropped { result.1 ≡ (if is_some dropped then 1 else 0) }
+{
+    match dropped {
+        None => (1, 0),
+        Some(_) => (0, 1),
+    }
+}
+
 /// Makes one turn: takes a datagram where one is ready, absorbs it, and sends its letters. A letter
 /// that cannot be sent is lost, and counted.
 pub fn turn<L: Log, S: Station>(
@@ -50,8 +62,11 @@ pub fn turn<L: Log, S: Station>(
     requires ready { IsReady L.holds node.old (S.view station.old) }
     requires whole { L.is_broken node.old.log ≡ false }
     requires counted { node.old.ledger.state.changes ≡ L.size node.old.log }
-    ensures ran { (n : Situation) → Knows node.old n
+    ensures ran { (n : Situation) → Knows node.old n → Stored L.holds node.old n.history (S.view station.old)
         → Ran L.holds L.stands node.old node.new (S.view station.old) (S.view station.new) n [] 1 (turned_tally result) (is_link result) (IsOk result) }
+    ensures ready { OnOk result (IsReady L.holds node.new (S.view station.new)) }
+    ensures counts { Counts (S.view station.old) (S.view station.new) }
+    ensures unsaid { (S.view station.new).outside.say_faults ≡ (S.view station.old).outside.say_faults }
     ensures whole { OnOk result (L.is_broken node.new.log ≡ false) }
     ensures counted { OnOk result (node.new.ledger.state.changes ≡ L.size node.new.log) }
     ensures small { IfOk result (λ t. (t.taken + t.dropped ≤ 1) × (t.lost ≤ 1)) }
@@ -77,9 +92,10 @@ pub fn turn<L: Log, S: Station>(
         Err(_) => unreachable!(),
     };
     let lost = send_all(station, outcome.out.as_slice());
+    let (taken, dropped) = tallied(outcome.dropped);
     Ok(Turned {
-        taken: if outcome.dropped { 0 } else { 1 },
-        dropped: if outcome.dropped { 1 } else { 0 },
+        taken,
+        dropped,
         lost,
     })
 }
@@ -94,9 +110,11 @@ pub fn serve<L: Log, S: Station>(
     requires ready { IsReady L.holds node.old (S.view station.old) }
     requires whole { L.is_broken node.old.log ≡ false }
     requires counted { node.old.ledger.state.changes ≡ L.size node.old.log }
-    ensures ran { (n : Situation) → Knows node.old n → (t : Tally)
+    ensures ran { (n : Situation) → Knows node.old n → Stored L.holds node.old n.history (S.view station.old) → (t : Tally)
         × Ran L.holds L.stands node.old node.new (S.view station.old) (S.view station.new) n [] turns t (is_link result) (IsOk result)
         × IfOk result (λ total. t ≡ total_tally total) }
+    ensures ready { OnOk result (IsReady L.holds node.new (S.view station.new)) }
+    ensures unsaid { (S.view station.new).outside.say_faults ≡ (S.view station.old).outside.say_faults }
     ensures turns { IfOk result (λ total. total.turns ≡ turns) }
     ensures disk_cause { result ≡ Err (ServeFault.Node fault.DiskFault) → Rose (S.view station.old).disk_faults (S.view station.new).disk_faults }
     ensures link_cause { result ≡ Err ServeFault.Link → Rose (S.view station.old).outside.link_faults (S.view station.new).outside.link_faults }

@@ -3,3 +3,4 @@ pub mod Objects
 pub mod Numbers
 pub mod Pages
 pub mod Hex
+pub mod Tickets

@@ -10,14 +10,14 @@ mod units;
 mod writing;
 
 pub use hex::{digest_text, hex_text, read_digest};
-pub use ids::{Digest, Object, PeerId, Ref, Seat, Ticket};
+pub use ids::{Digest, MOST_LEVELS, Object, PeerId, Ref, Seat, Ticket};
 pub use lists::{
     Bytes, ClaimList, DigestList, Items, Memory, ObjectList, PlaceList, RefList, Short, SlotClaim,
     SlotList, Text,
 };
 pub use numbers::numbers_have_one_spelling;
 pub use reading::Cursor;
-pub use units::{UNIT, units_of};
+pub use units::{LONGEST_CHUNK, UNIT, units_of};
 pub use writing::Page;
 
 #[cfg(test)]

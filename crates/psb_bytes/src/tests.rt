@@ -1,5 +1,6 @@
 use crate::{
-    Bytes, Cursor, Digest, Memory, Page, Short, Text, digest_text, hex_text, read_digest, units_of,
+    Bytes, Cursor, Digest, Memory, Page, Ref, Short, Text, Ticket, digest_text, hex_text,
+    read_digest, units_of,
 };
 use std::test::Fail;
 
@@ -83,4 +84,41 @@ fn copies_are_what_was_copied(rt: HostRuntime) -> Result<(), Memory> {
     assert_eq!(rt; Text::copy(rt.alloc(), "two")?.as_str(), "two");
     assert_eq!(rt; hex_text(rt.alloc(), b"\x0f\xa0")?.as_str(), "0fa0");
     Ok(())
+}
+
+fn ticket(len: u32, levels: u8) -> Ticket {
+    let name = Digest([0x11; 32]);
+    let handle = Digest([0x22; 32]);
+    let reference = Ref { name, handle, len };
+    Ticket { reference, levels }
+}
+
+#[test]
+fn a_ticket_is_its_name_handle_length_and_levels(rt: HostRuntime) {
+    let ticket = ticket(0x0001_0203, 4);
+    let bytes = ticket.bytes();
+    assert_eq!(rt; &bytes[..32], [0x11; 32].as_slice());
+    assert_eq!(rt; &bytes[32..64], [0x22; 32].as_slice());
+    assert_eq!(rt; &bytes[64..], [0, 1, 2, 3, 4].as_slice());
+    assert_eq!(rt; &bytes[..68], ticket.reference.bytes().as_slice());
+}
+
+#[test]
+fn a_ticket_is_read_exactly_within_its_bounds(rt: HostRuntime) {
+    let rows = [
+        (0, 0, false),
+        (1, 0, true),
+        (1, 4, true),
+        (1, 5, false),
+        (258, 3, true),
+        (32_768, 4, true),
+        (32_768, 255, false),
+        (32_769, 0, false),
+        (u32::MAX, 0, false),
+    ];
+    for (len, levels, within) in rows {
+        let ticket = ticket(len, levels);
+        let want = within.then_some(ticket);
+        assert_eq!(rt; Ticket::read(&ticket.bytes()), want, "{len}, {levels}");
+    }
 }

@@ -1,4 +1,5 @@
-ghost use Rattle.std.specs.Prelude.{◌≡◌, ◌+◌, ◌%◌, ◌^◌};
+ghost use Rattle.std.specs.Prelude.{◌≡◌, ℕ, ◌+◌, ◌%◌, ◌^◌, ◌<◌, ◌≤◌, length, slice_index, bit_xor};
+ghost use Rattle.std.specs.Int.{w32, to_le_bytes};
 ghost use Rattle.psb_digest.specs.Words.{word, words_key, masked};
 
 use crate::sha_two;
@@ -62,11 +63,23 @@ pub fn mask(key: &Digest, stream: u64, bytes: &mut [u8])
     ensures { bytes.new ≡ masked key.now stream bytes.old }
 {
     let mut words = Words::new(key, stream);
-    let mut word = [0; 4];
-    for (j, byte) in bytes.iter_mut().enumerate() {
-        if j % 4 == 0 {
-            word = words.next().to_le_bytes();
-        }
-        *byte ^= word[j % 4];
+    let whole = bytes.len() / 4;
+    for i in 0..whole {
+        xor_word(&mut bytes[4 * i..4 * i + 4], words.next());
+    }
+    if 4 * whole < bytes.len() {
+        xor_word(&mut bytes[4 * whole..], words.next());
+    }
+}
+
+// Xors the bytes of the word, low byte first, onto at most four bytes.
+fn xor_word(bytes: &mut [u8], word: u32)
+    requires { length bytes.old ≤ 4 }
+    ensures { (k : ℕ) → k < length bytes.old
+        → slice_index bytes.new k ≡ bit_xor (slice_index bytes.old k) (slice_index (to_le_bytes w32 word) k) }
+{
+    let word = word.to_le_bytes();
+    for (k, byte) in bytes.iter_mut().enumerate() {
+        *byte ^= word[k];
     }
 }

@@ -84,6 +84,69 @@ fn masks_with_the_keystream_of_the_zero_key(rt: HostRuntime) {
 }
 
 #[test]
+fn words_drawn_one_by_one_are_the_mask_of_zeros(rt: HostRuntime) -> Result<(), Fail> {
+    let mut bytes = [0; 150];
+    mask(&seed()?, 3, &mut bytes);
+    let mut words = Words::new(&seed()?, 3);
+    for four in bytes.chunks(4) {
+        let word = words.next().to_le_bytes();
+        assert_eq!(rt; Some(four), word.get(..four.len()));
+    }
+    Ok(())
+}
+
+#[test]
+fn masks_of_any_length_are_those_of_the_stream(rt: HostRuntime) -> Result<(), Fail> {
+    let rows = [
+        (
+            1,
+            "4fb733bedb74fec8d65bedf056b935189a289e928b3302bec38a281814de523a",
+        ),
+        (
+            3,
+            "78a0d5d5eff9fdbf97344d4ea51df71be252291263bbfd8190d09d47407e3947",
+        ),
+        (
+            4,
+            "d1aac8aa1d2a1d6e2fc09673833ed130f4b9f8d4b6d475fc9798eea93537e7cd",
+        ),
+        (
+            63,
+            "1e921ce3bb224c14a321961b3ae940679e7e6cbc89c16091c7d9d7e2e3fb5931",
+        ),
+        (
+            64,
+            "cb0dcb43443dc4318756ffc69d629753f88c38eb8f83682620bc0ad5e19b3274",
+        ),
+        (
+            67,
+            "76ba0878703ef29bcc0a56e7020bf60ac59026e0dd8ddd618a8308941ec1ed85",
+        ),
+        (
+            130,
+            "c284f406994bf9d2838285be44286ca01ba68bf61641643d79e23d03709d67db",
+        ),
+        (
+            257,
+            "05a40db6e8bb65ea71c22dab3a27bab33b4a683f0a4f720c79a06673d70bdbdd",
+        ),
+        (
+            515,
+            "2344385fd6a03350fc3582dd04864692970c282a602240a967c45ac8c55905b3",
+        ),
+    ];
+    for (len, want) in rows {
+        let mut bytes = [0; 515];
+        for (i, byte) in bytes.iter_mut().enumerate() {
+            *byte = (7 * i % 256) as u8;
+        }
+        mask(&seed()?, (1 << 40) + 9, &mut bytes[..len]);
+        assert_eq!(rt; sha(&bytes[..len]), digest(want)?, "{len} bytes");
+    }
+    Ok(())
+}
+
+#[test]
 fn claims_are_those_of_the_seed(rt: HostRuntime) -> Result<(), Fail> {
     let rows = [
         (

@@ -1,6 +1,9 @@
 pub mod Courses
 pub mod Peers
+pub mod Standings
+pub mod Lasts
 pub mod Valid
+pub mod Alone
 pub mod Steps
 pub mod ClaimRuns
 pub mod Whole

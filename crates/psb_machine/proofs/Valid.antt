@@ -1,35 +1,41 @@
 -- What the machine makes of a valid history is valid.
-use Rattle.std.proofs.Common.{◌≡◌, ℕ, ◌+◌, ◌≤◌, ◌^◌, Bool, true, false, not, ◌&&◌, ◌==◌, nat_le, nat_lt, cond, List, [], ◌∷◌, ◌++◌, length, Option, Some, None, Result, Ok, Err, refl, sym, subst, arith}
+use Rattle.std.proofs.Common.{◌≡◌, ℕ, ◌+◌, ◌≤◌, ◌^◌, Bool, true, false, not, ◌&&◌, ◌==◌, nat_le, nat_lt, cond, sum_by, List, [], ◌∷◌, ◌++◌, length, Option, Some, None, Result, Ok, Err, refl, sym, ap, subst, arith}
 use Rattle.std.specs.List.{list_all}
-use Rattle.std.proofs.lemmas.Bool.{and_parts, leb-true, lt-ltb, eq-eqb, le-leb}
+use Rattle.std.proofs.lemmas.Bool.{and_parts, leb-true, lt-ltb, ltb-false, eq-eqb, le-leb}
 use Rattle.std.proofs.lemmas.List.{append-nil}
 use Rattle.psb_bytes.specs.Units.{units}
 use Rattle.psb_bytes.specs.Objects.{name_eq}
 use Rattle.psb_bytes.specs.declared.ids.Object.TheVariants.{Chunk}
 use Rattle.psb_digest.specs.Hashes.{sha}
 use Rattle.psb_settings.specs.declared.settings.Settings.{Settings}
-use Rattle.psb_model.specs.State.{State, row, in_key, debt_of, is_held, is_peer, used}
-use Rattle.psb_model.specs.Words.{all_of, has}
+use Rattle.psb_model.specs.State.{State, row, in_key, debt_size, debt_of, is_held, is_peer, used}
+use Rattle.psb_model.specs.Words.{has}
 use Rattle.psb_model.specs.Grammar.{fits, in_grammar, is_u8, is_u32, is_u64, are_bytes, body_fits}
 use Rattle.psb_model.specs.Conditions.{most_claims, is_next_deal, capacity, allowed}
 use Rattle.psb_model.specs.History.{state}
 use Rattle.psb_model.specs.Needed.{brings_right, IsValid}
 use Rattle.psb_model.specs.declared.change.Change.{Change}
-use Rattle.psb_model.specs.declared.change.Change.TheVariants.{TookFresh}
-use Rattle.psb_model.proofs.ByObject.{by_cases}
-use Rattle.psb_model.proofs.Steps.{parts}
+use Rattle.psb_model.specs.declared.change.Change.TheVariants.{TookFresh, Refused}
 use Rattle.psb_model.proofs.Prefixes.{changes_counted}
-use Rattle.psb_model.proofs.Built.{valid_snoc}
+use Rattle.psb_model.proofs.Built.{valid_snoc, plain_state, plain_row, used_plain}
 use Rattle.wire_codec.specs.Fields.{within, is_digest as is_wire_digest, are_slots, is_text, are_bytes as are_wire_bytes}
 use Rattle.wire_codec.specs.Frames.{Incoming, read_frame, key_in, fits as frame_fits}
 use Rattle.wire_codec.specs.declared.frame.Dropped.{Dropped}
 use Rattle.wire_codec.specs.declared.frame.Frame.{Frame}
 use Rattle.wire_codec.specs.declared.frame.Frame.TheVariants.{Store}
-use Rattle.psb_machine.specs.Machine.{keys_of, store_tests, took_fresh, store_fresh, on_frame, on_read, on_keyed, on_datagram}
+use Rattle.psb_machine.specs.Deals.{standing, code_of, first_that_holds, store_reasons, took_fresh, judged, judged_store, meets_others}
+use Rattle.psb_machine.specs.Machine.{keys_of, by_standing, on_deal, on_store, on_frame, on_read, on_keyed, on_datagram}
+use Rattle.psb_machine.specs.declared.deals.Standing.{Standing}
+use Rattle.psb_machine.specs.declared.deals.Standing.TheVariants.{Fresh, Repeat, Stale, Gap}
+use Rattle.psb_machine.specs.declared.deals.Reason.{Reason}
+use Rattle.psb_machine.specs.declared.deals.Reason.TheVariants.{Busy, BadName, Already, Clash, NotThere, Unequal, Indebted, Full, Spent}
+use Rattle.psb_machine.specs.declared.deals.Refusal.{Refusal}
 use Rattle.psb_machine.specs.Stores.{StoreFits}
+use Rattle.psb_machine.proofs.Standings.{fresh_is_next, none_holds, detail_fits, first_fits}
+use Rattle.psb_machine.proofs.Lasts.{drawn}
 use Rattle.psb_machine.proofs.Peers.{keyed_is_peer}
 
--- what a taken Store meets
+-- what a Store meets that is the peer's next deal and is not refused
 pub record IsTaken (settings : Settings) (s : State) (p number : ℕ) (name bytes : List ℕ) : Type 0 where
   pub next_deal : is_next_deal s p number ≡ true
   pub named : name_eq (sha bytes) name ≡ true
@@ -38,10 +44,27 @@ pub record IsTaken (settings : Settings) (s : State) (p number : ℕ) (name byte
   pub room : nat_le (used s + units (length bytes)) settings.capacity ≡ true
   pub claims : nat_le (s.issued + units (length bytes)) most_claims ≡ true
 
-pub is_taken : (settings : Settings) (s : State) (p number : ℕ) (name bytes : List ℕ) → all_of (store_tests settings s p number name bytes) ≡ true → IsTaken settings s p number name bytes
-is_taken settings s p number name bytes h =
-    let t = parts (store_tests settings s p number name bytes) h in
-    record { next_deal = t.0; named = t.1.0; new_here = t.1.1.0; no_debt = t.1.1.1.0; room = t.1.1.1.1.0; claims = t.1.1.1.1.1.0 }
+not_false : (b : Bool) → not b ≡ false → b ≡ true
+not_false true h = refl
+not_false false h = absurd (cc)
+
+not_less : (a b : ℕ) → nat_lt a b ≡ false → nat_le b a ≡ true
+not_less a b h = le-leb b a (ltb-false a b h)
+
+not_some : (a : ℕ) → nat_lt 0 a ≡ false → (a == 0) ≡ true
+not_some a h = eq-eqb a 0 (omega (arith, ltb-false 0 a h))
+
+pub is_taken : (settings : Settings) (s : State) (p number : ℕ) (name bytes : List ℕ) (clash : Bool) → is_next_deal s p number ≡ true → first_that_holds (store_reasons settings s p name bytes clash) ≡ None → IsTaken settings s p number name bytes
+is_taken settings s p number name bytes clash next_deal none =
+    let t = none_holds (store_reasons settings s p name bytes clash) none in
+    record {
+      next_deal = next_deal;
+      named = not_false (name_eq (sha bytes) name) t.0;
+      new_here = ap not t.1.0;
+      no_debt = not_some (debt_of (row s p)) t.1.1.1.0;
+      room = not_less settings.capacity (used s + units (length bytes)) t.1.1.1.1.0;
+      claims = not_less most_claims (s.issued + units (length bytes)) t.1.1.1.1.1.0;
+    }
 
 flag_same : (held : Bool) → (cond held (not (not held)) (not held)) ≡ true
 flag_same true = refl
@@ -118,30 +141,80 @@ store_fits p number name slots bytes f =
 unchanged : (h : List Change) → IsValid h → IsValid (h ++ [])
 unchanged h v = subst IsValid (sym (append-nil h)) v
 
+pub codes_are : (why : Reason) → (nat_le 1 (code_of why) ≡ true) × (nat_le (code_of why) 9 ≡ true) × (is_u8 (code_of why) ≡ true)
+codes_are Busy = (refl, refl, refl)
+codes_are BadName = (refl, refl, refl)
+codes_are Already = (refl, refl, refl)
+codes_are Clash = (refl, refl, refl)
+codes_are NotThere = (refl, refl, refl)
+codes_are Unequal = (refl, refl, refl)
+codes_are Indebted = (refl, refl, refl)
+codes_are Full = (refl, refl, refl)
+codes_are Spent = (refl, refl, refl)
+
+-- a refusal answers the next deal of a peer
+pub allows_refused : (h : List Change) (p number : ℕ) (r : Refusal) → 1 ≤ length h → is_peer (state h) p ≡ true → is_next_deal (state h) p number ≡ true → allowed (state h) (Refused p number (code_of r.why) r.detail) ≡ true
+allows_refused h p number r some peer next_deal =
+    let begun : nat_lt 0 (state h).changes ≡ true = lt-ltb 0 (state h).changes (omega (arith, changes_counted h, some)) in
+    let code = codes_are r.why in
+    rw (begun, peer, next_deal, code.0, code.1) refl
+
+refused_valid : (h : List Change) (p number : ℕ) (r : Refusal) → IsValid h → is_peer (state h) p ≡ true → is_u32 p ≡ true → is_u64 number ≡ true → is_next_deal (state h) p number ≡ true → is_u64 r.detail ≡ true
+    → IsValid (h ++ Refused p number (code_of r.why) r.detail ∷ [])
+refused_valid h p number r v peer p_fits number_fits next_deal small =
+    let code = codes_are r.why in
+    valid_snoc h (Refused p number (code_of r.why) r.detail) v refl (allows_refused h p number r v.some peer next_deal) (rw (p_fits, number_fits, code.2, small) refl) refl refl
+
+-- the details of what is looked at fit their field
+details_fit : (settings : Settings) (h : List Change) (p : ℕ) (name bytes : List ℕ) (clash : Bool) → IsValid h → list_all detail_fits (store_reasons settings (state h) p name bytes clash) ≡ true
+details_fit settings h p name bytes clash v =
+    let s = state h in
+    let issued : is_u64 s.issued ≡ true = lt-ltb s.issued (2 ^ 64) (omega (arith, drawn h v)) in
+    let used_fits : is_u64 (used s) ≡ true = lt-ltb (used s) (2 ^ 64) (omega (arith, drawn h v, used_plain s (plain_state h v.lawful v.built))) in
+    let none : debt_of (row s p) ≡ 0 = ap (sum_by debt_size) (plain_row h p v.lawful v.built).debts in
+    let debt : is_u64 (debt_of (row s p)) ≡ true = ap is_u64 none in
+    rw (issued, used_fits, debt) refl
+
+pub judged_valid : (settings : Settings) (h : List Change) (p number : ℕ) (name bytes : List ℕ) (clash : Bool) → IsValid h → (state h).settings ≡ Some settings → is_peer (state h) p ≡ true
+    → StoreFits p number name bytes → is_next_deal (state h) p number ≡ true → IsValid (h ++ judged_store settings (state h) p number name bytes clash ∷ [])
+judged_valid settings h p number name bytes clash v present peer f next_deal = by_refusal (first_that_holds (store_reasons settings (state h) p name bytes clash)) refl
+  where
+    by_refusal : (o : Option Refusal) → first_that_holds (store_reasons settings (state h) p name bytes clash) ≡ o → IsValid (h ++ judged p number (took_fresh (state h) p number name bytes) o ∷ [])
+    by_refusal None is = taken_valid settings h p number name bytes v present peer f (is_taken settings (state h) p number name bytes clash next_deal is)
+    by_refusal (Some r) is = refused_valid h p number r v peer f.peer f.number_fits next_deal (first_fits (store_reasons settings (state h) p name bytes clash) r (details_fit settings h p name bytes clash v) is)
+
+deal_valid : (settings : Settings) (h : List Change) (p number : ℕ) (key : List ℕ) (c : Change) → IsValid h → (is_next_deal (state h) p number ≡ true → IsValid (h ++ c ∷ [])) → IsValid (h ++ (on_deal settings h p number key c).grown)
+deal_valid settings h p number key c v made = by_how (standing (row (state h) p).last.number number) refl
+  where
+    by_how : (how : Standing) → standing (row (state h) p).last.number number ≡ how → IsValid (h ++ (by_standing how settings h p number key c).grown)
+    by_how Fresh is = made (fresh_is_next (row (state h) p).last.number number is)
+    by_how Repeat is = unchanged h v
+    by_how Stale is = unchanged h v
+    by_how Gap is = unchanged h v
+
 store_valid : (settings : Settings) (h : List Change) (p number : ℕ) (key name bytes : List ℕ) → IsValid h → (state h).settings ≡ Some settings → is_peer (state h) p ≡ true
-    → StoreFits p number name bytes → IsValid (h ++ (store_fresh settings (state h) p number key name bytes).grown)
+    → StoreFits p number name bytes → IsValid (h ++ (on_store settings h p number key name bytes).grown)
 store_valid settings h p number key name bytes v present peer f =
-    by_cases (all_of (store_tests settings (state h) p number name bytes))
-    (λ k. rw k (taken_valid settings h p number name bytes v present peer f (is_taken settings (state h) p number name bytes k)))
-    (λ k. rw k (unchanged h v))
+    let clash = meets_others h name bytes in
+    deal_valid settings h p number key (judged_store settings (state h) p number name bytes clash) v (judged_valid settings h p number name bytes clash v present peer f)
 
 frame_valid : (settings : Settings) (h : List Change) (p number : ℕ) (key : List ℕ) (frame : Frame) → IsValid h → (state h).settings ≡ Some settings → is_peer (state h) p ≡ true
-    → FrameFits p number frame → IsValid (h ++ (on_frame settings (state h) p number key frame).grown)
+    → FrameFits p number frame → IsValid (h ++ (on_frame settings h p number key frame).grown)
 frame_valid settings h p number key (Store name [] bytes) v present peer f = store_valid settings h p number key name bytes v present peer (store_fits p number name [] bytes f)
 frame_valid settings h p number key (Store name (slot ∷ slots) bytes) v present peer f = unchanged h v
 frame_valid settings h p number key _ v present peer f = unchanged h v
 
 keyed_valid : (settings : Settings) (h : List Change) (i : Incoming) (o : Option (List ℕ)) → o ≡ key_in (keys_of settings) i.from → IsValid h → (state h).settings ≡ Some settings
-    → FrameFits i.from i.number i.frame → IsValid (h ++ (on_keyed settings (state h) i o).grown)
+    → FrameFits i.from i.number i.frame → IsValid (h ++ (on_keyed settings h i o).grown)
 keyed_valid settings h i None is v present f = unchanged h v
 keyed_valid settings h i (Some key) is v present f = frame_valid settings h i.from i.number key i.frame v present (keyed_is_peer h settings i.from key v.built present (sym is)) f
 
 read_valid : (settings : Settings) (h : List Change) (r : Result Incoming Dropped) → IsValid h → (state h).settings ≡ Some settings
-    → ((i : Incoming) → r ≡ Ok i → FrameFits i.from i.number i.frame) → IsValid (h ++ (on_read settings (state h) r).grown)
+    → ((i : Incoming) → r ≡ Ok i → FrameFits i.from i.number i.frame) → IsValid (h ++ (on_read settings h r).grown)
 read_valid settings h (Err why) v present f = unchanged h v
 read_valid settings h (Ok i) v present f = keyed_valid settings h i (key_in (keys_of settings) i.from) refl v present (f i refl)
 
 pub datagram_valid : (h : List Change) (x : List ℕ) (o : Option Settings) → o ≡ (state h).settings → IsValid h
-    → ((own : ℕ) (keys : List (ℕ × List ℕ)) (i : Incoming) → read_frame own keys x ≡ Ok i → FrameFits i.from i.number i.frame) → IsValid (h ++ (on_datagram o (state h) x).grown)
+    → ((own : ℕ) (keys : List (ℕ × List ℕ)) (i : Incoming) → read_frame own keys x ≡ Ok i → FrameFits i.from i.number i.frame) → IsValid (h ++ (on_datagram o h x).grown)
 datagram_valid h x None is v f = unchanged h v
 datagram_valid h x (Some settings) is v f = read_valid settings h (read_frame settings.id (keys_of settings) x) v (sym is) (λ i e. f settings.id (keys_of settings) i e)

@@ -1,18 +1,21 @@
 -- The laws of the machine.
-use Rattle.std.proofs.Common.{◌≡◌, ℕ, ◌≤◌, ◌^◌, false, List, [], ◌∷◌, length, Option, Some, None, Result, Ok, Err, refl, arith}
+use Rattle.std.proofs.Common.{◌≡◌, ℕ, ◌≤◌, ◌^◌, true, slice_get, option_map, is_some, List, [], ◌∷◌, length, Option, Some, None, Result, Ok, Err, refl, arith}
 use Rattle.std.proofs.lemmas.Bool.{lt-ltb}
 use Rattle.psb_bytes.specs.Numbers.{AreBytes}
 use Rattle.psb_settings.specs.declared.settings.Settings.{Settings}
-use Rattle.psb_model.specs.State.{State}
-use Rattle.psb_model.specs.Words.{all_of}
+use Rattle.psb_model.specs.State.{row}
 use Rattle.psb_model.specs.History.{state}
-use Rattle.psb_model.proofs.ByObject.{by_cases}
+use Rattle.psb_model.specs.declared.change.Change.{Change}
 use Rattle.wire_codec.specs.Frames.{Incoming, read_frame, key_in}
 use Rattle.wire_codec.specs.declared.frame.Dropped.{Dropped}
 use Rattle.wire_codec.specs.declared.frame.Frame.{Frame}
 use Rattle.wire_codec.specs.declared.frame.Frame.TheVariants.{Store}
 use Rattle.wire_codec.proofs.FrameLaws.{takes}
-use Rattle.psb_machine.specs.Machine.{Reaction, keys_of, store_tests, store_fresh, on_frame, on_keyed, on_read, on_datagram}
+use Rattle.psb_machine.specs.Deals.{standing, meets_others, judged_store}
+use Rattle.psb_machine.specs.Replies.{reply}
+use Rattle.psb_machine.specs.Machine.{Reaction, quiet, tells_again, keys_of, by_standing, on_frame, on_keyed, on_read, on_datagram}
+use Rattle.psb_machine.specs.declared.deals.Standing.{Standing}
+use Rattle.psb_machine.specs.declared.deals.Standing.TheVariants.{Fresh, Repeat, Stale, Gap}
 use Rattle.psb_machine.specs.Laws.{KeepsValid, TellsOfItsChange}
 use Rattle.psb_machine.proofs.Valid.{FrameFits, datagram_valid}
 
@@ -28,34 +31,41 @@ frame_read_fits own keys x i bytes read =
 pub keeps_valid : KeepsValid
 keeps_valid n x v bytes = datagram_valid n.history x (state n.history).settings refl v (λ own keys i read. frame_read_fits own keys x i bytes read)
 
--- a reaction with a letter for each change
+-- a reaction with a letter for each change, and without any where the datagram is dropped
 record Once (r : Reaction) : Type 0 where
-  most : length r.grown ≤ 1
-  letters : length r.letters ≡ length r.grown
-  taken : r.dropped ≡ false → length r.grown ≡ 1
+  most : length r.letters ≤ 1
+  told : length r.grown ≤ length r.letters
+  dropped : is_some r.dropped ≡ true → r.letters ≡ []
 
-store_once : (settings : Settings) (s : State) (p number : ℕ) (key name bytes : List ℕ) → Once (store_fresh settings s p number key name bytes)
-store_once settings s p number key name bytes =
-    by_cases (all_of (store_tests settings s p number name bytes))
-    (λ k. rw k (record { most = omega arith; letters = refl; taken = λ is. refl }))
-    (λ k. rw k (record { most = omega arith; letters = refl; taken = λ is. absurd (cc) }))
+quiet_once : Once quiet
+quiet_once = record { most = omega arith; told = omega arith; dropped = λ is. refl }
 
-frame_once : (settings : Settings) (s : State) (p number : ℕ) (key : List ℕ) (frame : Frame) → Once (on_frame settings s p number key frame)
-frame_once settings s p number key (Store name [] bytes) = store_once settings s p number key name bytes
-frame_once settings s p number key (Store name (slot ∷ slots) bytes) = record { most = omega arith; letters = refl; taken = λ is. absurd (cc) }
-frame_once settings s p number key _ = record { most = omega arith; letters = refl; taken = λ is. absurd (cc) }
+deal_once : (how : Standing) (settings : Settings) (h : List Change) (p number : ℕ) (key : List ℕ) (c : Change) → Once (by_standing how settings h p number key c)
+deal_once Fresh settings h p number key c = record { most = omega arith; told = omega arith; dropped = λ is. absurd (cc) }
+deal_once Repeat settings h p number key c = again (option_map (reply settings key p number) (slice_get h (row (state h) p).last.change))
+  where
+    again : (o : Option (ℕ × List ℕ)) → Once (tells_again o)
+    again None = record { most = omega arith; told = omega arith; dropped = λ is. refl }
+    again (Some letter) = record { most = omega arith; told = omega arith; dropped = λ is. absurd (cc) }
+deal_once Stale settings h p number key c = quiet_once
+deal_once Gap settings h p number key c = quiet_once
 
-keyed_once : (settings : Settings) (s : State) (i : Incoming) (o : Option (List ℕ)) → Once (on_keyed settings s i o)
-keyed_once settings s i None = record { most = omega arith; letters = refl; taken = λ is. absurd (cc) }
-keyed_once settings s i (Some key) = frame_once settings s i.from i.number key i.frame
+frame_once : (settings : Settings) (h : List Change) (p number : ℕ) (key : List ℕ) (frame : Frame) → Once (on_frame settings h p number key frame)
+frame_once settings h p number key (Store name [] bytes) = deal_once (standing (row (state h) p).last.number number) settings h p number key (judged_store settings (state h) p number name bytes (meets_others h name bytes))
+frame_once settings h p number key (Store name (slot ∷ slots) bytes) = quiet_once
+frame_once settings h p number key _ = quiet_once
 
-read_once : (settings : Settings) (s : State) (r : Result Incoming Dropped) → Once (on_read settings s r)
-read_once settings s (Err why) = record { most = omega arith; letters = refl; taken = λ is. absurd (cc) }
-read_once settings s (Ok i) = keyed_once settings s i (key_in (keys_of settings) i.from)
+keyed_once : (settings : Settings) (h : List Change) (i : Incoming) (o : Option (List ℕ)) → Once (on_keyed settings h i o)
+keyed_once settings h i None = quiet_once
+keyed_once settings h i (Some key) = frame_once settings h i.from i.number key i.frame
 
-datagram_once : (o : Option Settings) (s : State) (x : List ℕ) → Once (on_datagram o s x)
-datagram_once None s x = record { most = omega arith; letters = refl; taken = λ is. absurd (cc) }
-datagram_once (Some settings) s x = read_once settings s (read_frame settings.id (keys_of settings) x)
+read_once : (settings : Settings) (h : List Change) (r : Result Incoming Dropped) → Once (on_read settings h r)
+read_once settings h (Err why) = record { most = omega arith; told = omega arith; dropped = λ is. refl }
+read_once settings h (Ok i) = keyed_once settings h i (key_in (keys_of settings) i.from)
+
+datagram_once : (o : Option Settings) (h : List Change) (x : List ℕ) → Once (on_datagram o h x)
+datagram_once None h x = quiet_once
+datagram_once (Some settings) h x = read_once settings h (read_frame settings.id (keys_of settings) x)
 
 pub tells_once : TellsOfItsChange
-tells_once n x = let o = datagram_once (state n.history).settings (state n.history) x in record { most = o.most; letters = o.letters; taken = o.taken }
+tells_once n x = let o = datagram_once (state n.history).settings n.history x in record { most = o.most; told = o.told; dropped = o.dropped }

@@ -1,5 +1,5 @@
 -- The course of a serving: what the answers of the outside make of a node, and what of it was told.
-use Rattle.std.specs.Prelude.{ℕ, zero, suc, ◌+◌, ◌-◌, if◌then◌else◌, List, [], ◌∷◌, ◌++◌, length}
+use Rattle.std.specs.Prelude.{ℕ, zero, suc, ◌+◌, ◌-◌, if◌then◌else◌, is_some, List, [], ◌∷◌, ◌++◌, length}
 use Rattle.psb_machine.specs.Machine.{Situation, Input, react, next}
 
 -- a node after these inputs
@@ -12,14 +12,14 @@ abbrev pub letters_all : Situation → List Input → List (ℕ × List ℕ)
 letters_all n [] = []
 letters_all n (x ∷ xs) = (react n x).letters ++ letters_all (next n x) xs
 
--- how many of them are taken, and how many dropped
+-- how many of them pass the tests of their format, and how many are dropped
 abbrev pub taken_in : Situation → List Input → ℕ
 taken_in n [] = 0
-taken_in n (x ∷ xs) = (if (react n x).dropped then 0 else 1) + taken_in (next n x) xs
+taken_in n (x ∷ xs) = (if is_some (react n x).dropped then 0 else 1) + taken_in (next n x) xs
 
 abbrev pub dropped_in : Situation → List Input → ℕ
 dropped_in n [] = 0
-dropped_in n (x ∷ xs) = (if (react n x).dropped then 1 else 0) + dropped_in (next n x) xs
+dropped_in n (x ∷ xs) = (if is_some (react n x).dropped then 1 else 0) + dropped_in (next n x) xs
 
 -- this many, but none before the first telling
 abbrev pub unless_first : ℕ → ℕ → ℕ

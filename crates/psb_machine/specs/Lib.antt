@@ -1,3 +1,5 @@
+pub mod Deals
+pub mod Replies
 pub mod Machine
 pub mod Stores
 pub mod Course

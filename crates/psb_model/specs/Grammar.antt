@@ -5,6 +5,7 @@ use Rattle.psb_bytes.specs.declared.ids.Object.{Object}
 use Rattle.psb_bytes.specs.declared.ids.Object.TheVariants.{Chunk, Slot}
 use Rattle.psb_model.specs.declared.entries.Candidate.{Candidate}
 use Rattle.psb_bytes.specs.declared.ids.Ticket.{Ticket}
+pub use Rattle.psb_bytes.specs.Tickets.{is_chunk_len, is_ticket}
 use Rattle.psb_model.specs.declared.deals.DealWhat.{DealWhat}
 use Rattle.psb_model.specs.declared.deals.DealWhat.TheVariants.{Fresh, Swap, Cancel, PutBack, Forward, Return}
 use Rattle.psb_model.specs.declared.change.Change.{Change}
@@ -34,17 +35,9 @@ abbrev pub body_fits : ℕ → Option (List ℕ) → Bool
 body_fits n None = true
 body_fits n (Some bytes) = length bytes == n
 
--- the sealed bytes of a chunk are 1 to 32,768
-abbrev pub is_chunk_len : ℕ → Bool
-is_chunk_len len = nat_le 1 len && nat_le len 32768
-
 -- a chunk's length, and its sealed bytes exactly where they are new
 abbrev pub chunk_fits : ℕ → Bool → Option (List ℕ) → Bool
 chunk_fits len new body = is_chunk_len len && body_fits (if new then len else 0) body
-
--- the length of a chunk, and at most 4 levels
-abbrev pub is_ticket : Ticket → Bool
-is_ticket t = is_chunk_len t.reference.len && nat_le t.levels 4
 
 -- the slots of an own deal ascend
 abbrev pub what_in_grammar : DealWhat → Bool

@@ -5,6 +5,7 @@ use Rattle.std.specs.Int.{to_be_bytes, w16, w32, w64}
 use Rattle.psb_bytes.specs.declared.ids.Object.{Object}
 use Rattle.psb_bytes.specs.declared.ids.Object.TheVariants.{Chunk, Slot}
 use Rattle.psb_bytes.specs.declared.ids.Ticket.{Ticket}
+use Rattle.psb_bytes.specs.Tickets.{ticket_bytes}
 use Rattle.psb_model.specs.declared.entries.Candidate.{Candidate}
 use Rattle.psb_model.specs.declared.deals.DealWhat.{DealWhat}
 use Rattle.psb_model.specs.declared.deals.DealWhat.TheVariants.{Fresh, Swap, Cancel, PutBack, Forward, Return}
@@ -33,7 +34,7 @@ object (Slot number) = 1 ∷ u32 number
 
 -- a snapshot's last ref (name, handle, length), and how many levels follow
 abbrev pub ticket : Ticket → List ℕ
-ticket t = t.reference.name ++ t.reference.handle ++ u32 t.reference.len ++ t.levels ∷ []
+ticket = ticket_bytes
 
 abbrev pub candidate : Candidate → List ℕ
 candidate c = u32 c.peer ++ u32 c.got ++ u32 c.of ++ u32 c.hops

@@ -2,6 +2,8 @@ use super::*;
 use psb_station::{Disk, MemFolder, MemStation};
 use std::test::Fail;
 
+mod deals;
+
 /// The settings of node 1 with the one peer 2.
 const SETTINGS: &str = r#"id = 1
 address = "127.0.0.1:7001"
@@ -97,6 +99,24 @@ fn words_of(alloc: Global, line: &str) -> Result<Vec<String>, Fail> {
     Ok(words)
 }
 
+/// Runs `serve` over an image, with a turn for each of these datagrams, where the calls of these
+/// numbers fail.
+fn served_all(
+    alloc: Global,
+    image: Vec<u8>,
+    arrivals: Vec<Vec<u8>>,
+    faults: Vec<u64>,
+) -> Result<(MemStation, Status), Fail> {
+    if arrivals.iter().any(|frame| frame.len() > 65_507) {
+        return Err(Fail::from("datagrams of at most 65,507 bytes"));
+    }
+    let words = words_of(alloc, &format!(in alloc; "serve {}", arrivals.len())?)?;
+    let mut station = MemStation::new(alloc, image, arrivals, Vec::new(alloc), faults);
+    let mut folder = MemFolder::new(alloc, Vec::new(alloc));
+    let status = run(alloc, &mut station, &mut folder, &words);
+    Ok((station, status))
+}
+
 /// Runs `serve 1` over an image, where this frame arrives and the calls of these numbers fail.
 fn served(
     alloc: Global,
@@ -105,14 +125,8 @@ fn served(
     faults: Vec<u64>,
 ) -> Result<(MemStation, Status), Fail> {
     let mut arrivals = Vec::new(alloc);
-    if frame.len() <= 65_507 {
-        arrivals.push(frame)?;
-    }
-    let mut station = MemStation::new(alloc, image, arrivals, Vec::new(alloc), faults);
-    let mut folder = MemFolder::new(alloc, Vec::new(alloc));
-    let words = words_of(alloc, "serve 1")?;
-    let status = run(alloc, &mut station, &mut folder, &words);
-    Ok((station, status))
+    arrivals.push(frame)?;
+    served_all(alloc, image, arrivals, faults)
 }
 
 /// All bytes of a disk.
@@ -183,7 +197,7 @@ fn each_call_that_fails_decides_the_status(rt: HostRuntime) -> Result<(), Fail> 
     for (i, code) in codes.iter().enumerate() {
         let mut faults = Vec::new(alloc);
         faults.push(i as u64 + 1)?;
-        let (station, status) = served(alloc, begun(alloc)?, store(alloc)?, faults)?;
+        let (mut station, status) = served(alloc, begun(alloc)?, store(alloc)?, faults)?;
         assert_eq!(rt; status.code(), *code, "call {i}");
         let said: &[u8] = match status {
             Status::Done => b"peer 2 held 1 back 1 debt 0\nturns 1 taken 1 dropped 0 lost 1\n",
@@ -193,6 +207,15 @@ fn each_call_that_fails_decides_the_status(rt: HostRuntime) -> Result<(), Fail> 
             _ => b"peer 2 held 1 back 1 debt 0\n",
         };
         assert_eq!(rt; station.said_bytes(), said, "call {i}");
+        let sent = if status == Status::SayFault { 1 } else { 0 };
+        assert_eq!(rt; station.sent_count(), sent, "call {i}");
+        if i >= 14 {
+            assert_eq!(rt;
+                image_of(alloc, &mut station)?.as_slice(),
+                taken(alloc)?.as_slice(),
+                "call {i}"
+            );
+        }
     }
     Ok(())
 }

@@ -1,12 +1,12 @@
-use Rattle.std.proofs.Common.{◌≡◌, ℕ, ◌+◌, true, false, [], refl, sym, subst, arith}
+use Rattle.std.proofs.Common.{◌≡◌, ℕ, ◌+◌, true, false, [], refl, sym, subst, arith, ◌∙◌}
 use Rattle.std.proofs.lemmas.Bool.{false≢true}
 use Rattle.node_serve.specs.Spans.{Ran, Tally, no_tally, tally_sum}
 use Rattle.node_serve.specs.Turns.{turn_tally, total_tally}
-use Rattle.node_serve.proofs.Runs.{ran_none, under, unfinished, ready_after, turn_more}
+use Rattle.node_serve.proofs.Runs.{counts_same, counts_then, ran_none, under, unfinished, turn_more}
 use Rattle.node_serve.proofs.serving.serve.Goals as goal
 
 pub returns-in-Err-clause-ran : goal.returns-in-Err-clause-ran
-returns-in-Err-clause-ran g c = λ n k.
+returns-in-Err-clause-ran g c = λ n k st.
     let v = g.S.Disk.view c.args.station.now in (
       no_tally,
       unfinished g.L.Log.holds g.L.Log.stands g.met.L.Log.holds_stands c.args.node.now c.args.node.now v v n [] 0 c.args.turns no_tally false (Unit {0}) (false ≡ true) false≢true
@@ -16,7 +16,10 @@ returns-in-Err-clause-ran g c = λ n k.
 
 pub loop-turn-init : goal.loop-turn-init
 loop-turn-init g c = record {
-  ran = λ n k. ran_none g.L.Log.holds g.L.Log.stands g.met.L.Log.holds_stands c.args.node.now n (g.S.Disk.view c.args.station.now) (Unit {0}) k;
+  ran = λ n k st. ran_none g.L.Log.holds g.L.Log.stands g.met.L.Log.holds_stands c.args.node.now n (g.S.Disk.view c.args.station.now) (Unit {0}) k;
+  ready = c.requires.ready;
+  counts = counts_same (g.S.Disk.view c.args.station.now);
+  unsaid = refl;
   whole = c.requires.whole;
   counted = c.requires.counted;
   turns = refl;
@@ -24,13 +27,8 @@ loop-turn-init g c = record {
   few = omega arith;
 }
 
-pub turn-requires-clause-ready : goal.turn-requires-clause-ready
-turn-requires-clause-ready g c =
-    ready_after g.L.Log.holds g.L.Log.stands g.met.L.Log.holds_stands c.args.node.now c.loop-turn.node (g.S.Disk.view c.args.station.now) (g.S.Disk.view c.loop-turn.station) [] c.loop-turn._turn (total_tally c.loop-turn.total) false
-    c.requires.ready (λ n k. c.loop-turn.invariant.ran n k)
-
 pub returns-in-Err-turn-clause-ran : goal.returns-in-Err-turn-clause-ran
-returns-in-Err-turn-clause-ran g c = λ n k.
+returns-in-Err-turn-clause-ran g c = λ n k st.
     let v0 = g.S.Disk.view c.args.station.now in
     let v1 = g.S.Disk.view c.loop-turn.station in
     let v2 = g.S.Disk.view c.turn.new.station in
@@ -38,7 +36,7 @@ returns-in-Err-turn-clause-ran g c = λ n k.
     let t : Tally = total_tally c.loop-turn.total in (
       tally_sum t no_tally,
       unfinished g.L.Log.holds g.L.Log.stands g.met.L.Log.holds_stands c.args.node.now c.turn.new.node v0 v2 n [] (i + 1) c.args.turns (tally_sum t no_tally) _ (false ≡ true) (false ≡ true) false≢true
-          (turn_more g.L.Log.holds g.L.Log.stands g.met.L.Log.holds_stands c.args.node.now c.loop-turn.node c.turn.new.node v0 v1 v2 n i t no_tally _ (false ≡ true) (c.loop-turn.invariant.ran n k) (λ m known. c.in-Err-turn.ensures.ran m known)),
+          (turn_more g.L.Log.holds g.L.Log.stands g.met.L.Log.holds_stands c.args.node.now c.loop-turn.node c.turn.new.node v0 v1 v2 n i t no_tally _ (false ≡ true) st (c.loop-turn.invariant.ran n k st) (λ m known held. c.in-Err-turn.ensures.ran m known held)),
       tt,
     )
 
@@ -53,10 +51,13 @@ loop-turn-preserved g c =
     let sum : tally_sum t u ≡ record { taken = t.taken + c.from.result; dropped = t.dropped + c.from-in-loop-turn.result; lost = t.lost + c.from-in-loop-turn-2.result } =
     λ j. record { taken = t.taken + sym c.from.ensures j; dropped = t.dropped + sym c.from-in-loop-turn.ensures j; lost = t.lost + sym c.from-in-loop-turn-2.ensures j } in
     record {
-      ran = λ n k.
+      ran = λ n k st.
           subst (λ (s : Tally). Ran g.L.Log.holds g.L.Log.stands c.args.node.now c.turn.new.node v0 v2 n [] (i + 1) s false (Unit {0})) sum
           (under g.L.Log.holds g.L.Log.stands g.met.L.Log.holds_stands c.args.node.now c.turn.new.node v0 v2 n [] (i + 1) (tally_sum t u) false (true ≡ true) (Unit {0}) (λ is. refl)
-          (turn_more g.L.Log.holds g.L.Log.stands g.met.L.Log.holds_stands c.args.node.now c.loop-turn.node c.turn.new.node v0 v1 v2 n i t u false (true ≡ true) (c.loop-turn.invariant.ran n k) (λ m known. c.in-Ok-turn.ensures.ran m known)));
+          (turn_more g.L.Log.holds g.L.Log.stands g.met.L.Log.holds_stands c.args.node.now c.loop-turn.node c.turn.new.node v0 v1 v2 n i t u false (true ≡ true) st (c.loop-turn.invariant.ran n k st) (λ m known held. c.in-Ok-turn.ensures.ran m known held)));
+      ready = c.in-Ok-turn.ensures.ready;
+      counts = counts_then v0 v1 v2 c.loop-turn.invariant.counts c.in-Ok-turn.ensures.counts;
+      unsaid = c.in-Ok-turn.ensures.unsaid ∙ c.loop-turn.invariant.unsaid;
       whole = c.in-Ok-turn.ensures.whole;
       counted = c.in-Ok-turn.ensures.counted;
       turns = c.loop-turn.invariant.turns;
@@ -65,13 +66,13 @@ loop-turn-preserved g c =
     }
 
 pub returns-clause-ran : goal.returns-clause-ran
-returns-clause-ran g c = λ n k.
+returns-clause-ran g c = λ n k st.
     let v0 = g.S.Disk.view c.args.station.now in
     let v1 = g.S.Disk.view c.loop-turn.station in
     let t : Tally = total_tally c.loop-turn.total in
     let all : c.loop-turn._turn ≡ c.args.turns = omega (arith, c.loop-turn-test.false, c.loop-turn.auto._turn-end) in (
       t,
       subst (λ (i : ℕ). Ran g.L.Log.holds g.L.Log.stands c.args.node.now c.loop-turn.node v0 v1 n [] i t false (true ≡ true)) all
-          (under g.L.Log.holds g.L.Log.stands g.met.L.Log.holds_stands c.args.node.now c.loop-turn.node v0 v1 n [] c.loop-turn._turn t false (Unit {0}) (true ≡ true) (λ is. tt) (c.loop-turn.invariant.ran n k)),
+          (under g.L.Log.holds g.L.Log.stands g.met.L.Log.holds_stands c.args.node.now c.loop-turn.node v0 v1 n [] c.loop-turn._turn t false (Unit {0}) (true ≡ true) (λ is. tt) (c.loop-turn.invariant.ran n k st)),
       refl,
     )

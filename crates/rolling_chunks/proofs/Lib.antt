@@ -1,0 +1,6 @@
+pub mod Rolling
+pub mod Places
+pub mod TextCuts
+pub mod Pushing
+pub mod Covering
+pub mod Behind

@@ -1,0 +1,5 @@
+pub mod Fingerprints
+pub mod Cuts
+pub mod Pushes
+pub mod Spans
+pub mod Laws

@@ -1,0 +1,9 @@
+pub mod PathLemmas
+pub mod Lists
+pub mod Order
+pub mod StepLemmas
+pub mod Found
+pub mod FieldLaws
+pub mod RunLaws
+pub mod EntryLaws
+pub mod TextLaws

@@ -1,0 +1,74 @@
+//! Paths: which are valid, and what lies above them.
+ghost use Rattle.std.specs.Prelude.{◌≡◌, MatchOption, true, false};
+ghost use Rattle.skeleton.specs.Paths.{within, is_name, parts, is_path, is_below, has_no_slash, IsParent};
+ghost use Rattle.std.specs.List.{list_all};
+ghost use Rattle.skeleton.specs.declared.limits.TheConstants.{MOST_PATH_BYTES};
+
+use crate::limits::{MOST_PATH_BYTES, SLASH};
+use std::cmp::Ordering;
+use std::str::from_utf8;
+
+/// Whether a part of a path is a valid name.
+fn is_valid_name(part: &str) -> bool
+    ensures { result ≡ is_name part.now }
+{
+    let bytes = part.as_bytes();
+    !bytes.is_empty()
+        && !bytes.contains(&0)
+        && bytes != b".".as_slice()
+        && bytes != b"..".as_slice()
+}
+
+/// Whether each part of a path is a valid name.
+fn has_valid_names(path: &str) -> bool
+    ensures { result ≡ list_all is_name (parts path.now) }
+{
+    path.split('/').all(|part| is_valid_name(part))
+}
+
+/// Whether a path may have so many bytes.
+fn is_path_len(len: usize) -> bool
+    ensures { result ≡ within 1 MOST_PATH_BYTES len }
+{
+    1 <= len && len <= usize::from(MOST_PATH_BYTES)
+}
+
+/// Whether a text is a valid path.
+#[tactic(auto, using(crate::proofs::PathLemmas::path_of_text), unfolding(crate::specs::Paths::is_path))]
+pub(crate) fn is_valid_path(path: &str) -> bool
+    ensures { result ≡ is_path path.now }
+{
+    is_path_len(path.len()) && has_valid_names(path)
+}
+
+/// The path that these bytes are, where they are one.
+pub(crate) fn valid_path(bytes: &[u8]) -> Option<&str>
+    ensures { MatchOption result (is_path bytes.now ≡ false) (λ path. (path.now ≡ bytes.now) × (is_path bytes.now ≡ true)) }
+{
+    match from_utf8(bytes) {
+        Ok(path) if is_valid_path(path) => Some(path),
+        Ok(_) => None,
+        Err(_) => None,
+    }
+}
+
+/// Whether a path comes before another.
+pub(crate) fn comes_before(a: &[u8], b: &[u8]) -> bool
+    ensures { result ≡ is_below a.now b.now }
+{
+    a.cmp(b) == Ordering::Less
+}
+
+/// What stands before the last slash, where there is one.
+pub(crate) fn parent(path: &[u8]) -> Option<&[u8]>
+    ensures { MatchOption result (has_no_slash path.now ≡ true) (λ p. IsParent path.now p.now) }
+{
+    let mut end = path.len();
+    while end > 0 {
+        end -= 1;
+        if path[end] == SLASH {
+            return Some(&path[..end]);
+        }
+    }
+    None
+}

@@ -1,0 +1,275 @@
+#!/usr/bin/env python3
+"""Runs the built program over a real file and real sockets on the loopback.
+
+    tests/loopback.py [PROGRAM ..]        tries each program; crates/psb/out/psb where none is named
+    tests/loopback.py --image FILE        writes the image of the program's stored run
+
+This script is the node's one peer. It stores 512 bytes with the node, sends a forged frame, compares
+the answer byte for byte, the lines said, the exit status and the file afterwards, and opens the node
+again. It works all values out by itself, from the formats of docs/FORMATS.md. It ends within about half
+a minute for each program, with status 0 where all is well and 1 where something is not.
+"""
+
+import hashlib
+import hmac
+import os
+import signal
+import socket
+import struct
+import subprocess
+import sys
+import tempfile
+import time
+
+TOP = os.path.dirname(os.path.dirname(os.path.abspath(__file__)))
+PROGRAM = os.path.join(TOP, "crates", "psb", "out", "psb")
+STORED_IMAGE = os.path.join(TOP, "crates", "psb", "data", "node.img")
+SECONDS = 30
+
+NODE, PEER = 1, 2
+SEED = bytes(range(32))
+KEY = bytes(range(32, 64))
+BODY = bytes(i % 251 for i in range(512))
+STORE, ACCEPTED = 1, 4
+MASK = 0xFFFFFFFF
+
+
+class Wrong(Exception):
+    """The program did something else than it should."""
+
+
+def sha(data):
+    return hashlib.sha256(data).digest()
+
+
+# The disk: a magic, records with open gates, and one closed gate.
+
+
+def record(head, body):
+    return b"\x01" + struct.pack(">II", len(head), len(body)) + head + body
+
+
+def image(*records):
+    return b"PSBLOG01" + bytes(8) + b"".join(records) + b"\x00"
+
+
+def begun(own_address, peer_address):
+    """The first record of a node with one peer: its settings."""
+    settings = f'''id = {NODE}
+address = "{own_address}"
+seed = "{SEED.hex()}"
+capacity = 64
+[[peer]]
+id = {PEER}
+address = "{peer_address}"
+key = "{KEY.hex()}"
+'''
+    return record(b"\x01", settings.encode())
+
+
+def took_fresh(deal, slot):
+    """The record of a Store that was taken."""
+    head = struct.pack(">BIQ", 5, PEER, deal) + sha(BODY) + struct.pack(">IIB", slot, len(BODY), 1)
+    return record(head, BODY)
+
+
+def stored_image():
+    """The image of the stored run: port 0 binds any free one, and nothing is sent to the peer."""
+    return image(begun("127.0.0.1:0", "127.0.0.1:47102"))
+
+
+# Frames: a header, a body and a tag.
+
+
+def frame(kind, sender, receiver, number, body):
+    head = struct.pack(">4sB3xIIQI", b"PSB1", kind, sender, receiver, number, len(body))
+    return head + body + hmac.new(KEY, head + body, hashlib.sha256).digest()
+
+
+def store(deal):
+    body = sha(BODY) + struct.pack(">HI", 0, len(BODY)) + BODY
+    return frame(STORE, PEER, NODE, deal, body)
+
+
+def accepted(deal, slot):
+    body = struct.pack(">HI", 1, slot) + claim(slot)
+    return frame(ACCEPTED, NODE, PEER, deal, body)
+
+
+# Claims: sixteen links of a chain of hashes, under a keystream of ChaCha20.
+
+
+def rotated(word, by):
+    return (word << by | word >> 32 - by) & MASK
+
+
+def quarter(state, a, b, c, d):
+    for x, y, z, by in ((a, b, d, 16), (c, d, b, 12), (a, b, d, 8), (c, d, b, 7)):
+        state[x] = (state[x] + state[y]) & MASK
+        state[z] = rotated(state[z] ^ state[x], by)
+
+
+ROUNDS = (
+    (0, 4, 8, 12), (1, 5, 9, 13), (2, 6, 10, 14), (3, 7, 11, 15),
+    (0, 5, 10, 15), (1, 6, 11, 12), (2, 7, 8, 13), (3, 4, 9, 14),
+)
+
+
+def block(key, stream, place):
+    """One block of 64 bytes."""
+    first = list(struct.unpack("<16I", b"expand 32-byte k" + key + struct.pack("<QQ", place, stream)))
+    state = list(first)
+    for _ in range(10):
+        for places in ROUNDS:
+            quarter(state, *places)
+    return struct.pack("<16I", *((a + b) & MASK for a, b in zip(first, state)))
+
+
+def claim(number):
+    secret = sha(b"psb claim secret" + SEED)
+    mask = sha(b"psb claim mask" + SEED)
+    links = [sha(secret)]
+    while len(links) < 16 * (number + 1):
+        links.append(sha(secret + links[-1]))
+    plain = b"".join(links[16 * number :])
+    stream = b"".join(block(mask, number, place) for place in range(8))
+    return bytes(a ^ b for a, b in zip(plain, stream))
+
+
+# What the program does.
+
+
+def same(what, found, wanted):
+    if found != wanted:
+        raise Wrong(f"{what} is {found!r}, and not {wanted!r}")
+
+
+def left(deadline):
+    rest = deadline - time.monotonic()
+    if rest <= 0:
+        raise Wrong(f"{SECONDS} seconds were not enough")
+    return rest
+
+
+def free_port():
+    with socket.socket(socket.AF_INET, socket.SOCK_DGRAM) as it:
+        it.bind(("127.0.0.1", 0))
+        return it.getsockname()[1]
+
+
+def is_bound(port):
+    """Whether some socket has this port, as the system's table of them says."""
+    with open("/proc/net/udp") as table:
+        return any(line.split()[1].endswith(f":{port:04X}") for line in table.readlines()[1:])
+
+
+def start(program, *words):
+    streams = {"stdin": subprocess.DEVNULL, "stdout": subprocess.PIPE}
+    return subprocess.Popen([program, *words], start_new_session=True, **streams)
+
+
+def end(process, deadline, status, said):
+    """Waits for the program to end, and compares how it does."""
+    what = b" ".join([b"psb", *map(os.fsencode, process.args[1:])])
+    try:
+        out, _ = process.communicate(timeout=left(deadline))
+    except subprocess.TimeoutExpired:
+        raise Wrong(f"{what!r} had not ended after {SECONDS} seconds") from None
+    same(f"what {what!r} said", out, said)
+    same(f"the status of {what!r}", process.returncode, status)
+
+
+def stop(process):
+    if process.poll() is None:
+        os.killpg(process.pid, signal.SIGKILL)
+    process.communicate()
+
+
+def run(deadline, program, words, status, said):
+    process = start(program, *words)
+    try:
+        end(process, deadline, status, said)
+    finally:
+        stop(process)
+
+
+def read(path):
+    with open(path, "rb") as file:
+        return file.read()
+
+
+def refusals(program, folder, deadline):
+    """Command lines that are none, and disks that hold no node."""
+    made = os.path.join(folder, "made.img")
+    for words, status, said in (
+        ([], 2, b"usage\n"),
+        ([made], 2, b"usage\n"),
+        ([made, "serve", "0"], 2, b"usage\n"),
+        ([b"\xff.img", "serve", "1"], 2, b"usage\n"),
+        ([made, "serve", b"\xff"], 2, b"usage\n"),
+        ([os.path.join(folder, "missing", "node.img"), "serve", "1"], 3, b"disk fault\n"),
+    ):
+        run(deadline, program, words, status, said)
+    same("whether a usage made the file", os.path.exists(made), False)
+    run(deadline, program, [made, "serve", "1"], 7, b"not a node\n")
+    same("the file that was made", read(made), b"")
+
+
+def serving(program, folder, deadline):
+    """A Store is taken and a forged frame is not; the node opens again with what it took."""
+    path = os.path.join(folder, "node.img")
+    with socket.socket(socket.AF_INET, socket.SOCK_DGRAM) as peer:
+        peer.bind(("127.0.0.1", 0))
+        port = free_port()
+        first = begun(f"127.0.0.1:{port}", f"127.0.0.1:{peer.getsockname()[1]}")
+        with open(path, "wb") as file:
+            file.write(image(first))
+        node = start(program, path, "serve", "40")
+        try:
+            while not is_bound(port):
+                left(deadline)
+                if node.poll() is not None:
+                    end(node, deadline, None, None)
+                time.sleep(0.01)
+            forged = store(1)
+            peer.sendto(forged[:-1] + bytes([forged[-1] ^ 1]), ("127.0.0.1", port))
+            peer.sendto(store(1), ("127.0.0.1", port))
+            peer.settimeout(left(deadline))
+            same("the answer", peer.recvfrom(65536), (accepted(1, 0), ("127.0.0.1", port)))
+            said = b"peer 2 held 1 back 1 debt 0\nturns 40 taken 1 dropped 1 lost 0\n"
+            end(node, deadline, 0, said)
+        except socket.timeout:
+            raise Wrong("no answer came") from None
+        finally:
+            stop(node)
+        peer.setblocking(False)
+        try:
+            raise Wrong(f"a second answer came: {peer.recv(65536)!r}")
+        except BlockingIOError:
+            pass
+    same("the file", read(path), image(first, took_fresh(1, 0)))
+    said = b"peer 2 held 1 back 1 debt 0\nturns 1 taken 0 dropped 0 lost 0\n"
+    run(deadline, program, [path, "serve", "1"], 0, said)
+
+
+def main(words):
+    if words[:1] == ["--image"]:
+        with open(words[1], "wb") as file:
+            file.write(stored_image())
+        return 0
+    try:
+        same("the image of the stored run", read(STORED_IMAGE), stored_image())
+        for program in words or [PROGRAM]:
+            deadline = time.monotonic() + SECONDS
+            with tempfile.TemporaryDirectory(prefix="psb-loopback-") as folder:
+                refusals(os.path.abspath(program), folder, deadline)
+                serving(os.path.abspath(program), folder, deadline)
+    except (Wrong, OSError) as error:
+        print(f"loopback: FAILED: {error}")
+        return 1
+    print("loopback: a Store was taken, answered byte for byte and found again; a forged frame was dropped")
+    return 0
+
+
+if __name__ == "__main__":
+    sys.exit(main(sys.argv[1:]))
