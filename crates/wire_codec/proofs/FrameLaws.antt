@@ -274,7 +274,7 @@ one_key a b None e h = absurd cc
 
 -- ---- the length of a frame that is written
 
-pub written_size : (key head body tag out start : List ℕ) (kind from to number len : ℕ) (text : List ℕ) → start ≡ [] → head ≡ start ++ header kind from to number len → length body ≤ 33062 → out ≡ head ++ body ++ tag → tag ≡ hmac key text → length out ≤ MOST_FRAME_BYTES
+pub written_size : (key head body tag out start : List ℕ) (kind from to number len : ℕ) (text : List ℕ) → start ≡ [] → head ≡ start ++ header kind from to number len → HEADER_BYTES + length body + TAG_BYTES ≤ MOST_FRAME_BYTES → out ≡ head ++ body ++ tag → tag ≡ hmac key text → length out ≤ MOST_FRAME_BYTES
 written_size key head body tag out start kind from to number len text none is-head short is-out is-tag =
     let first : length head ≡ HEADER_BYTES = ap (λ (l : List ℕ). length l) (is-head ∙ ap (λ (l : List ℕ). l ++ header kind from to number len) none) ∙ length-header kind from to number len in
     let last : length tag ≡ TAG_BYTES = ap (λ (l : List ℕ). length l) is-tag ∙ length-hmac key text in

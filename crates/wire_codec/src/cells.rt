@@ -36,10 +36,9 @@ pub(crate) fn u64_in(bytes: &[u8], place: usize) -> u64
     ])
 }
 
-/// Cell j of `count` cells.
-pub(crate) fn cell(bytes: &[u8], width: usize, count: usize, j: usize) -> &[u8]
-    requires whole { length bytes.now ≡ width * count }
-    requires among { j < count }
+/// Cell j, counted from 0, of cells that have `width` bytes each.
+pub(crate) fn cell(bytes: &[u8], width: usize, j: usize) -> &[u8]
+    requires { width * j + width ≤ length bytes.now }
     ensures value { result.now ≡ take width (drop (width * j) bytes.now) }
     ensures len { length result.now ≡ width }
 {

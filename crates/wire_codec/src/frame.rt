@@ -71,7 +71,8 @@ pub enum Frame {
     },
 }
 
-/// Why a datagram is no frame for this node: the first test that it fails.
+/// Why a datagram is no frame for this node: the first test that it fails, in the order in which they
+/// stand here.
 #[derive(Clone, Copy, PartialEq, Eq, Debug)]
 pub enum Dropped {
     /// Fewer bytes than a header and a tag have.

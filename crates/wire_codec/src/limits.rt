@@ -31,4 +31,10 @@ pub const MOST_BYTES: u32 = 32_768;
 pub const LAST_REASON: u8 = 9;
 
 /// The most bytes of a frame: a Store with the most slots and the most bytes has as many.
-pub const MOST_FRAME_BYTES: usize = 33_122;
+pub const MOST_FRAME_BYTES: usize = HEADER_BYTES
+    + DIGEST_BYTES
+    + 2
+    + 4 * MOST_SLOTS as usize
+    + 4
+    + MOST_BYTES as usize
+    + TAG_BYTES;

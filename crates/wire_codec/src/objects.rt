@@ -81,7 +81,7 @@ fn object_of(bytes: &[u8]) -> Option<(Object, usize)>
         }
         1 => {
             let (slot, _) = take_u32(rest)?;
-            Some((Object::Slot(slot), 5))
+            Some((Object::Slot(slot), 1 + 4))
         }
         _ => None,
     }

@@ -12,6 +12,17 @@ use crate::view::FrameView;
 use psb_bytes::PeerId;
 use psb_digest::hmac;
 
+// Where the fields of a header begin, behind the magic.
+const KIND_AT: usize = 4;
+
+const SENDER_AT: usize = 8;
+
+const RECEIVER_AT: usize = 12;
+
+const NUMBER_AT: usize = 16;
+
+const LENGTH_AT: usize = 24;
+
 /// Whether the magic and the padding stand where they must.
 fn is_magic(bytes: &[u8]) -> bool
     requires { HEADER_BYTES ≤ length bytes.now }
@@ -29,13 +40,13 @@ fn tagged(bytes: &[u8]) -> Result<FrameView<'_>, Dropped>
 {
     let (signed, _) = bytes.split_at(bytes.len() - TAG_BYTES);
     let (_, body) = signed.split_at(HEADER_BYTES);
-    if u32_in(bytes, 24) as usize != body.len() {
+    if u32_in(bytes, LENGTH_AT) as usize != body.len() {
         return Err(Dropped::BadBody);
     }
-    match body_of_kind(bytes[4], body) {
+    match body_of_kind(bytes[KIND_AT], body) {
         Some(body) => Ok(FrameView {
-            from: PeerId(u32_in(bytes, 8)),
-            number: u64_in(bytes, 16),
+            from: PeerId(u32_in(bytes, SENDER_AT)),
+            number: u64_in(bytes, NUMBER_AT),
             body,
         }),
         None => Err(Dropped::BadBody),
@@ -43,7 +54,8 @@ fn tagged(bytes: &[u8]) -> Result<FrameView<'_>, Dropped>
 }
 
 /// The frame that a datagram holds for the node `own`, or the first test that it fails. It takes no
-/// memory, and lends parts of the datagram.
+/// memory, and lends parts of the datagram. The tag is computed once, behind the tests of the header,
+/// and the body is taken apart only where the tag is right.
 #[tactic(auto, unfolding(crate::specs::Frames::read_frame, crate::specs::Frames::read_keyed))]
 pub fn decode<'a>(bytes: &'a [u8], own: PeerId, keys: &Keys) -> Result<FrameView<'a>, Dropped>
     ensures exact { MatchResult result (λ v. read_frame own keys.now bytes.now ≡ Ok (incoming_of v)) (λ d. read_frame own keys.now bytes.now ≡ Err d) }
@@ -55,13 +67,13 @@ pub fn decode<'a>(bytes: &'a [u8], own: PeerId, keys: &Keys) -> Result<FrameView
     if !is_magic(bytes) {
         return Err(Dropped::BadMagic);
     }
-    if bytes[4] < 1 || bytes[4] > LAST_KIND {
+    if bytes[KIND_AT] < 1 || bytes[KIND_AT] > LAST_KIND {
         return Err(Dropped::BadKind);
     }
-    if u32_in(bytes, 12) != own.0 {
+    if u32_in(bytes, RECEIVER_AT) != own.0 {
         return Err(Dropped::NotForMe);
     }
-    let Some(key) = keys.key_of(PeerId(u32_in(bytes, 8))) else {
+    let Some(key) = keys.key_of(PeerId(u32_in(bytes, SENDER_AT))) else {
         return Err(Dropped::Stranger);
     };
     let (signed, tag) = bytes.split_at(bytes.len() - TAG_BYTES);

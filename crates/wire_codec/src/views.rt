@@ -49,7 +49,7 @@ impl<'a> SlotsView<'a> {
         requires { j < length self.now }
         ensures { result ≡ slice_index self.now j }
     {
-        u32_in(cell(self.bytes, 4, self.count, j), 0)
+        u32_in(cell(self.bytes, 4, j), 0)
     }
 
     /// A copy of the items.
@@ -106,7 +106,7 @@ impl<'a> ClaimsView<'a> {
         ensures value { slice_get self.now j ≡ Some (record { slot = result.0; bytes = result.1.now }) }
         ensures len { length result.1.now ≡ CLAIM_BYTES }
     {
-        let claim = cell(self.bytes, 4 + CLAIM_BYTES, self.count, j);
+        let claim = cell(self.bytes, 4 + CLAIM_BYTES, j);
         (u32_in(claim, 0), &claim[4..])
     }
 
@@ -137,54 +137,6 @@ impl<'a> ClaimsView<'a> {
         }
         Ok(ClaimList::from_vec(items))
     }
-}
-
-/// Whether each slot is below the next.
-pub(crate) fn slots_ascend(slots: &SlotsView<'_>) -> bool
-    ensures { result ≡ ascends slots.now }
-{
-    for j in 1..slots.len() {
-        if slots.at(j) <= slots.at(j - 1) {
-            return false;
-        }
-    }
-    true
-}
-
-/// Whether each slot is below the next.
-pub(crate) fn claims_ascend(claims: &ClaimsView<'_>) -> bool
-    ensures { result ≡ ascends (map (λ c. c.slot) claims.now) }
-{
-    for j in 1..claims.len() {
-        if claims.slot_at(j) <= claims.slot_at(j - 1) {
-            return false;
-        }
-    }
-    true
-}
-
-/// Whether each place is below the next.
-pub(crate) fn places_ascend(places: &PlacesView<'_>) -> bool
-    ensures { result ≡ ascends places.now }
-{
-    for j in 1..places.len() {
-        if places.at(j) <= places.at(j - 1) {
-            return false;
-        }
-    }
-    true
-}
-
-/// Whether each place can be one of a question.
-pub(crate) fn places_fit(places: &PlacesView<'_>) -> bool
-    ensures { result ≡ list_all (λ place. nat_lt place MOST_OBJECTS) places.now }
-{
-    for j in 0..places.len() {
-        if places.at(j) >= MOST_OBJECTS {
-            return false;
-        }
-    }
-    true
 }
 
 /// Places in a question, as they stand in the datagram.
@@ -226,7 +178,7 @@ impl<'a> PlacesView<'a> {
         requires { j < length self.now }
         ensures { result ≡ slice_index self.now j }
     {
-        u16_in(cell(self.bytes, 2, self.count, j), 0)
+        u16_in(cell(self.bytes, 2, j), 0)
     }
 
     /// A copy of the items.
@@ -281,7 +233,7 @@ impl<'a> NamesView<'a> {
         requires { j < length self.now }
         ensures { slice_get self.now j ≡ Some result }
     {
-        digest_in(cell(self.bytes, DIGEST_BYTES, self.count, j))
+        digest_in(cell(self.bytes, DIGEST_BYTES, j))
     }
 
     /// A copy of the items.
@@ -294,4 +246,52 @@ impl<'a> NamesView<'a> {
         }
         Ok(DigestList::from_vec(items))
     }
+}
+
+/// Whether each slot is below the next.
+pub(crate) fn slots_ascend(slots: &SlotsView<'_>) -> bool
+    ensures { result ≡ ascends slots.now }
+{
+    for j in 1..slots.len() {
+        if slots.at(j) <= slots.at(j - 1) {
+            return false;
+        }
+    }
+    true
+}
+
+/// Whether each slot is below the next.
+pub(crate) fn claims_ascend(claims: &ClaimsView<'_>) -> bool
+    ensures { result ≡ ascends (map (λ c. c.slot) claims.now) }
+{
+    for j in 1..claims.len() {
+        if claims.slot_at(j) <= claims.slot_at(j - 1) {
+            return false;
+        }
+    }
+    true
+}
+
+/// Whether each place is below the next.
+pub(crate) fn places_ascend(places: &PlacesView<'_>) -> bool
+    ensures { result ≡ ascends places.now }
+{
+    for j in 1..places.len() {
+        if places.at(j) <= places.at(j - 1) {
+            return false;
+        }
+    }
+    true
+}
+
+/// Whether each place can be one of a question.
+pub(crate) fn places_fit(places: &PlacesView<'_>) -> bool
+    ensures { result ≡ list_all (λ place. nat_lt place MOST_OBJECTS) places.now }
+{
+    for j in 0..places.len() {
+        if places.at(j) >= MOST_OBJECTS {
+            return false;
+        }
+    }
+    true
 }

@@ -219,7 +219,8 @@ fn put_header(
     put_bytes(out, &len.to_be_bytes())
 }
 
-/// The one datagram of a frame from `from` to `to`, under the key that the two share.
+/// The one datagram of a frame from `from` to `to`, under the key that the two share. The frame's
+/// lists and bytes are within the limits of the grammar, and its slots and places ascend.
 pub fn encode(
     alloc: Global,
     frame: &Frame,
