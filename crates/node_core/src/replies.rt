@@ -21,16 +21,10 @@ use psb_model::Change;
 use psb_settings::Settings;
 use psb_station::Disk;
 use std::alloc::Global;
-use wire_codec::{Frame, encode};
-
-/// The most sealed bytes of a chunk.
-const MOST_BYTES: u32 = 32_768;
+use wire_codec::{Frame, LAST_REASON, MOST_BYTES, encode};
 
 /// The claims of a node, as many as there are.
-const MOST_CLAIMS: u64 = 4_294_967_295;
-
-/// The reasons of a refusal are 1 to this.
-const LAST_REASON: u8 = 9;
+const MOST_CLAIMS: u64 = u32::MAX as u64;
 
 /// The change that takes an offer.
 fn taken(alloc: Global, offer: &Offer<'_>, ledger: &Ledger) -> Result<Change, Memory>

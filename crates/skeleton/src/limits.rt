@@ -1,5 +1,7 @@
 //! The marks, the kinds and the limits of the two texts.
 
+use psb_bytes::LONGEST_CHUNK;
+
 /// What the text of a skeleton begins with.
 pub const SKELETON_MARK: [u8; 8] = *b"PSBSKEL1";
 
@@ -16,7 +18,7 @@ pub const MOST_TEXT_BYTES: usize = 67_108_864;
 pub const MOST_PATH_BYTES: u16 = 4_096;
 
 /// The most bytes of a chunk. The least is 1.
-pub const MOST_CHUNK_BYTES: u32 = 32_768;
+pub const MOST_CHUNK_BYTES: u32 = LONGEST_CHUNK;
 
 /// The bytes of a name and of a handle.
 pub const DIGEST_BYTES: usize = 32;

@@ -1,5 +1,7 @@
 //! The limits of the frame grammar.
 
+use psb_bytes::LONGEST_CHUNK;
+
 /// What a frame begins with.
 pub const MAGIC: [u8; 4] = *b"PSB1";
 
@@ -25,7 +27,7 @@ pub const MOST_SLOTS: u16 = 64;
 pub const MOST_OBJECTS: u16 = 32;
 
 /// The most sealed bytes of a chunk.
-pub const MOST_BYTES: u32 = 32_768;
+pub const MOST_BYTES: u32 = LONGEST_CHUNK;
 
 /// The reasons of a refusal are 1 to this.
 pub const LAST_REASON: u8 = 9;
