@@ -220,6 +220,59 @@ fn each_call_that_fails_decides_the_status(rt: HostRuntime) -> Result<(), Fail> 
     Ok(())
 }
 
+/// Whether the change is there after a crash right after each call from the append's first on, by
+/// what the crash leaves of what was unsynced: nothing, all of it, or bytes of 0xff.
+const LEFT: [[u64; 3]; 7] = [
+    [0, 0, 0],
+    [0, 0, 0],
+    [0, 1, 1],
+    [1, 1, 1],
+    [1, 1, 1],
+    [1, 1, 1],
+    [1, 1, 1],
+];
+
+#[test]
+fn a_crash_leaves_the_change_or_not_and_the_deal_can_come_again(
+    rt: HostRuntime,
+) -> Result<(), Fail> {
+    let alloc = rt.alloc();
+    let (station, _) = served(alloc, begun(alloc)?, store(alloc)?, Vec::new(alloc))?;
+    // The append's write, sync, write and sync; the send; and two sayings.
+    assert_eq!(rt; station.call_count(), 17);
+    for (i, held) in LEFT.iter().enumerate() {
+        let call = i as u64 + 11;
+        for outcome in 0..3u8 {
+            if call > station.call_count() {
+                return Err(Fail::from("17 calls"));
+            }
+            let image = station.left(call, outcome).ok().ok_or("memory")?;
+            let copy = Vec::from_slice(alloc, &image)?;
+            let (quiet, _) = served(alloc, copy, Vec::new(alloc), Vec::new(alloc))?;
+            let there = held[usize::from(outcome)];
+            let said = format!(in alloc;
+                "peer 2 held {there} back {there} debt 0\nturns 1 taken 0 dropped 1 lost 0\n"
+            )?;
+            assert_eq!(rt;
+                quiet.said_bytes(),
+                said.as_bytes(),
+                "call {call}, {outcome}"
+            );
+            let (mut again, _) = served(alloc, image, store(alloc)?, Vec::new(alloc))?;
+            assert_eq!(rt; again.sent_count(), 1, "call {call}, {outcome}");
+            assert_eq!(rt;
+                again.sent_frame(0),
+                bytes_of(alloc, ACCEPTED)?.as_slice(),
+                "call {call}, {outcome}"
+            );
+            // One change in all.
+            let len = image_of(alloc, &mut again)?.len();
+            assert_eq!(rt; len, taken(alloc)?.len(), "call {call}, {outcome}");
+        }
+    }
+    Ok(())
+}
+
 #[test]
 fn no_part_of_an_image_is_a_node(rt: HostRuntime) -> Result<(), Fail> {
     let alloc = rt.alloc();

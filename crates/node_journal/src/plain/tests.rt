@@ -36,6 +36,25 @@ fn add<L: Log, D: Disk>(
     log.append(disk, head, body)
 }
 
+/// Whether the log has a record of this number with this head and this body.
+fn has_record(
+    alloc: Global,
+    log: &mut PlainLog,
+    disk: &mut MemStation,
+    number: u64,
+    head: &[u8],
+    body: &[u8],
+) -> Result<bool, LogError> {
+    if number >= log.count() {
+        return Ok(false);
+    }
+    let mut into = Vec::new(alloc);
+    log.head(disk, number, &mut into)?;
+    let same = into.as_slice() == head;
+    log.body(disk, number, &mut into)?;
+    Ok(same && into.as_slice() == body)
+}
+
 /// What the disk reads.
 fn bytes_of(alloc: Global, disk: &mut MemStation) -> Result<Vec<u8>, Fail> {
     let mut bytes = vec![in alloc; 0u8; 100]?;
@@ -69,6 +88,97 @@ fn records_are_written_and_read(rt: HostRuntime) -> Result<(), Fail> {
     assert_eq!(rt; log.body(&mut disk, 0, &mut into), Ok(()));
     assert_eq!(rt; into.as_slice(), b"ab".as_slice());
     assert!(rt; log.has_body(1));
+    Ok(())
+}
+
+#[test]
+fn each_call_makes_its_calls_of_the_disk(rt: HostRuntime) -> Result<(), Fail> {
+    let alloc = rt.alloc();
+    let mut disk = disk_with(alloc, Vec::new(alloc), Vec::new(alloc));
+    let mut log = PlainLog::create(alloc, &mut disk, &[1], b"ab").expect(&rt, "a new log");
+    let created = disk.call_count();
+    assert_eq!(rt; add(&mut log, &mut disk, &[2], &[]), Ok(1));
+    let appended = disk.call_count();
+    assert_eq!(rt;
+        has_record(alloc, &mut log, &mut disk, 0, &[1], b"ab"),
+        Ok(true)
+    );
+    let read = disk.call_count();
+    // four calls for each record that is written, and one for each head or body that is read
+    assert_eq!(rt; [created, appended, read], [4, 8, 10]);
+
+    // the first of the calls of `open` is the sync: what was written before is safe after it
+    let mut disk = disk_with(alloc, Vec::new(alloc), Vec::new(alloc));
+    assert!(rt; disk.write_at(0, &TWO_RECORDS).is_ok());
+    assert!(rt; PlainLog::open(alloc, &mut disk).is_ok());
+    assert_eq!(rt; disk.call_count(), 7);
+    assert!(rt; disk.left(1, 0)?.is_empty());
+    assert_eq!(rt; disk.left(2, 0)?.as_slice(), TWO_RECORDS.as_slice());
+    Ok(())
+}
+
+/// How many records a crash right after the calls 5 to 8, which are those of an append to a log of
+/// one record, leaves: where nothing, all, or other bytes of what is unsynced then are left.
+const RECORDS_LEFT: [[u64; 3]; 4] = [[1, 1, 1], [1, 1, 1], [1, 2, 2], [2, 2, 2]];
+
+#[test]
+fn a_crash_leaves_an_append_whole_or_not_at_all(rt: HostRuntime) -> Result<(), Fail> {
+    let alloc = rt.alloc();
+    // as long as the record of a stored chunk of 512 bytes
+    let (head, body) = (vec![in alloc; 0x34; 54]?, vec![in alloc; 0x61; 512]?);
+    let mut disk = disk_with(alloc, Vec::new(alloc), Vec::new(alloc));
+    let mut log = PlainLog::create(alloc, &mut disk, &[1], b"ab").expect(&rt, "a new log");
+    assert_eq!(rt; add(&mut log, &mut disk, &head, &body), Ok(1));
+    assert_eq!(rt; disk.call_count(), 8);
+    for call in 5..9 {
+        for outcome in 0..3 {
+            let count = RECORDS_LEFT[call - 5][outcome];
+            let image = disk.left(call as u64, outcome as u8)?;
+            let mut left = disk_with(alloc, image, Vec::new(alloc));
+            let mut log = PlainLog::open(alloc, &mut left).expect(&rt, "the log again");
+            assert_eq!(rt; log.count(), count, "at {call}, {outcome}");
+            assert_eq!(rt;
+                has_record(alloc, &mut log, &mut left, 0, &[1], b"ab"),
+                Ok(true),
+                "at {call}, {outcome}"
+            );
+            assert_eq!(rt;
+                has_record(alloc, &mut log, &mut left, 1, &head, &body),
+                Ok(count == 2),
+                "at {call}, {outcome}"
+            );
+        }
+    }
+    Ok(())
+}
+
+#[test]
+fn bytes_behind_the_closed_gate_are_no_part_of_the_log(rt: HostRuntime) -> Result<(), Fail> {
+    let alloc = rt.alloc();
+    let records: [(&[u8], &[u8]); 3] = [(&[1], b"ab"), (&[2], b""), (&[3], b"c")];
+    for len in [0, 1, 8, 9, 10, 100, 1000] {
+        for byte in [0xff, 1] {
+            let mut image = TWO_RECORDS.to_vec(alloc)?;
+            image.extend_from_slice(&vec![in alloc; byte; len]?)?;
+            let mut disk = disk_with(alloc, image, Vec::new(alloc));
+            let mut log = PlainLog::open(alloc, &mut disk).expect(&rt, "a log");
+            assert_eq!(rt; log.count(), 2, "{len} bytes {byte}");
+            assert_eq!(rt;
+                add(&mut log, &mut disk, &[3], b"c"),
+                Ok(2),
+                "{len} bytes {byte}"
+            );
+            let mut log = PlainLog::open(alloc, &mut disk).expect(&rt, "the log again");
+            assert_eq!(rt; log.count(), 3, "{len} bytes {byte}");
+            for (number, (head, body)) in records.iter().enumerate() {
+                assert_eq!(rt;
+                    has_record(alloc, &mut log, &mut disk, number as u64, head, body),
+                    Ok(true),
+                    "record {number} before {len} bytes {byte}"
+                );
+            }
+        }
+    }
     Ok(())
 }
 
@@ -115,31 +225,63 @@ fn count_in(
     Ok(PlainLog::open(alloc, &mut disk).map(|log| log.count()))
 }
 
+/// Values of one byte, from a place with the least and the greatest, with which the two records are
+/// still a log, and of how many records. With each other value they are none.
+const STILL_A_LOG: [(usize, u8, u8, u64); 14] = [
+    // the first gate closed, or open
+    (16, 0, 0, 0),
+    (16, 2, 255, 2),
+    // another length of the first head, and a byte 0 where the next gate then stands
+    (20, 2, 4, 1),
+    (20, 6, 9, 1),
+    (20, 11, 11, 1),
+    // and of the first body
+    (24, 3, 5, 1),
+    (24, 7, 10, 1),
+    (24, 12, 12, 1),
+    // the first head and body
+    (25, 0, 255, 2),
+    (26, 0, 255, 2),
+    (27, 0, 255, 2),
+    // the second gate closed, or open
+    (28, 0, 0, 1),
+    (28, 2, 255, 2),
+    // the second head
+    (37, 0, 255, 2),
+];
+
+/// How many records there are with one byte changed.
+fn count_with(place: usize, byte: u8) -> Result<u64, LogError> {
+    for (at, least, greatest, count) in STILL_A_LOG {
+        if at == place && least <= byte && byte <= greatest {
+            return Ok(count);
+        }
+    }
+    Err(LogError::NotLog)
+}
+
 #[test]
 fn opening_reads_the_grammar(rt: HostRuntime) -> Result<(), Fail> {
     let alloc = rt.alloc();
-    let rows = [
-        (39, 99, 0, Ok(2)),
-        // another open gate
-        (39, 28, 7, Ok(2)),
-        // a closed gate, and bytes behind it
-        (39, 28, 0, Ok(1)),
-        // no gate at the end
-        (38, 99, 0, Err(LogError::NotLog)),
-        (28, 99, 0, Err(LogError::NotLog)),
-        // a head of more than 67,108,864 bytes
-        (39, 17, 4, Err(LogError::NotLog)),
-        // another magic
-        (39, 7, 0x32, Err(LogError::NotLog)),
-        (15, 99, 0, Err(LogError::NotLog)),
-        (0, 99, 0, Err(LogError::NotLog)),
-    ];
-    for (len, place, byte, want) in rows {
+    assert_eq!(rt; count_in(alloc, 39, 99, 0, Vec::new(alloc))?, Ok(2));
+    for len in 0..39 {
         assert_eq!(rt;
-            count_in(alloc, len, place, byte, Vec::new(alloc))?,
-            want,
-            "{len} bytes, {byte} at {place}"
+            count_in(alloc, len, 99, 0, Vec::new(alloc))?,
+            Err(LogError::NotLog),
+            "{len} bytes"
         );
+    }
+    for (place, was) in TWO_RECORDS.iter().enumerate() {
+        for byte in 0..=255 {
+            if byte == *was {
+                continue;
+            }
+            assert_eq!(rt;
+                count_in(alloc, 39, place, byte, Vec::new(alloc))?,
+                count_with(place, byte),
+                "{byte} at {place}"
+            );
+        }
     }
     for call in 1..7 {
         let mut faults = Vec::new(alloc);
