@@ -32,12 +32,18 @@ fn key() -> Result<Digest, Fail> {
     Ok(read_digest(KEY).ok_or("64 digits")?)
 }
 
+/// How many bytes there are, as a field of four bytes.
+fn length(bytes: &[u8]) -> Result<[u8; 4], Fail> {
+    let count = u32::try_from(bytes.len()).ok().ok_or("few bytes")?;
+    Ok(count.to_be_bytes())
+}
+
 /// A frame of peer 2 to the node, of this kind and with this body.
 fn framed(alloc: Global, kind: u8, number: u64, body: &[u8]) -> Result<Vec<u8>, Fail> {
     let mut frame = Vec::from_slice(alloc, b"PSB1")?;
     frame.extend_from_slice(&[kind, 0, 0, 0, 0, 0, 0, 2, 0, 0, 0, 1])?;
     frame.extend_from_slice(&number.to_be_bytes())?;
-    frame.extend_from_slice(&(body.len() as u32).to_be_bytes())?;
+    frame.extend_from_slice(&length(body)?)?;
     frame.extend_from_slice(body)?;
     tagged(frame)
 }
@@ -53,7 +59,7 @@ fn tagged(mut frame: Vec<u8>) -> Result<Vec<u8>, Fail> {
 fn store_body(alloc: Global, name: &Digest, bytes: &[u8]) -> Result<Vec<u8>, Fail> {
     let mut body = Vec::from_slice(alloc, &name.0)?;
     body.extend_from_slice(&[0, 0])?;
-    body.extend_from_slice(&(bytes.len() as u32).to_be_bytes())?;
+    body.extend_from_slice(&length(bytes)?)?;
     body.extend_from_slice(bytes)?;
     Ok(body)
 }
