@@ -3,6 +3,7 @@ pub mod Reading
 pub mod Presence
 pub mod Opened
 pub mod Making
+pub mod Brought
 pub mod ClaimFits
 pub mod KeyTables
 pub mod Again

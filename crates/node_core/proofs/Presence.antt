@@ -1,5 +1,5 @@
 -- What one record is read as.
-use Rattle.std.proofs.Common.{◌≡◌, ℕ, Bool, false, List, Option, Some, None, is_some, Result, Ok, Err, IfSome, IfOk, OnOk, refl, sym, ◌∙◌, ap, subst}
+use Rattle.std.proofs.Common.{◌≡◌, ℕ, Bool, false, List, Option, Some, None, is_some, Result, Ok, Err, IfSome, IfOk, OnOk, OnErr, refl, sym, ◌∙◌, ap, subst}
 use Rattle.std.proofs.lemmas.Bool.{false≢true}
 use Rattle.node_journal.specs.Entry.{Entry}
 use Rattle.psb_model.specs.Needed.{brings_right}
@@ -37,3 +37,7 @@ if_then (Err e) P Q f h = tt
 pub on_ok : {A E : Type 0} (r : Result A E) (Q : Type 0) → Q → OnOk r Q
 on_ok (Ok x) Q h = h
 on_ok (Err e) Q h = tt
+
+pub err_then : {A E : Type 0} (r : Result A E) (P Q : Type 0) → (P → Q) → OnErr r P → OnErr r Q
+err_then (Ok x) P Q f h = tt
+err_then (Err e) P Q f h = f h

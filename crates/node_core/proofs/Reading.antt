@@ -1,5 +1,5 @@
 -- What is known of a node's history while its records are read.
-use Rattle.std.proofs.Common.{◌≡◌, ℕ, ◌+◌, ◌<◌, ◌≤◌, Bool, true, false, ◌&&◌, List, [], ◌∷◌, ◌++◌, length, take, drop, get_or, slice_get, IfSome, refl, sym, ◌∙◌, ap, subst, arith, append_assoc, length-append}
+use Rattle.std.proofs.Common.{◌≡◌, ℕ, ◌+◌, ◌<◌, ◌≤◌, Bool, true, false, ◌&&◌, List, [], ◌∷◌, ◌++◌, length, take, drop, get_or, slice_get, None, IfSome, refl, sym, ◌∙◌, ap, subst, arith, append_assoc, length-append}
 use Rattle.std.specs.List.{list_all}
 use Rattle.std.proofs.lemmas.Bool.{false≢true, and_parts}
 use Rattle.std.proofs.lemmas.List.{take_more, drop_more, take_all}
@@ -20,6 +20,9 @@ use Rattle.psb_model.proofs.Built.{brings_of, sound_is}
 use Rattle.psb_ledger.specs.Records.{IsRecord, OneChangeEach}
 use Rattle.node_core.specs.Readable.{IsReadable}
 use Rattle.node_core.specs.Stands.{AreDecoded}
+use Rattle.node_core.specs.declared.bodies.Bodies.{Bodies}
+use Rattle.node_core.specs.Bodies.{record_of, KnowsBodies, NotesBody}
+use Rattle.node_core.proofs.Brought.{bodies_grown}
 
 -- ---- histories in parts
 
@@ -101,7 +104,7 @@ all_read es number h le read = subst (λ (l : List Entry). AreDecoded h l) (take
 -- ---- the loop
 
 -- the changes that were read so far, and the records that they are
-pub record Reading {L : Type 0} (holds : L → List Entry → List ℕ → Type 0) (log : L) (number : ℕ) (s : State) (first : View) : Type 0 where
+pub record Reading {L : Type 0} (holds : L → List Entry → List ℕ → Type 0) (log : L) (number : ℕ) (s : State) (b : Bodies) (first : View) : Type 0 where
   pub history : List Change
   pub lawful : is_lawful history ≡ true
   pub fit : list_all fits history ≡ true
@@ -109,10 +112,11 @@ pub record Reading {L : Type 0} (holds : L → List Entry → List ℕ → Type 
   pub brings : list_all brings_right history ≡ true
   pub state_is : s ≡ state history
   pub counted : length history ≡ number
+  pub bodies : KnowsBodies b history
   pub reads : (es : List Entry) → Shows (holds log es) first → ReadTo es number history
 
-pub reading_start : {L : Type 0} (holds : L → List Entry → List ℕ → Type 0) (log : L) (s : State) (first : View) → s ≡ nothing_yet → Reading holds log 0 s first
-reading_start holds log s first is = record {
+pub reading_start : {L : Type 0} (holds : L → List Entry → List ℕ → Type 0) (log : L) (s : State) (b : Bodies) (first : View) → s ≡ nothing_yet → ((name : List ℕ) → record_of b name ≡ None) → Reading holds log 0 s b first
+reading_start holds log s b first is none = record {
   history = [];
   lawful = refl;
   fit = refl;
@@ -120,6 +124,7 @@ reading_start holds log s first is = record {
   brings = refl;
   state_is = is;
   counted = refl;
+  bodies = none;
   reads = λ es shows. start es;
 }
 
@@ -127,11 +132,11 @@ nothing : Entry
 nothing = entry [] []
 
 -- one record more was read
-pub reading_more : (one : OneChangeEach) {L : Type 0} (holds : L → List Entry → List ℕ → Type 0) (size : L → ℕ) (log : L) (number : ℕ) (s t : State) (first now : View) (c : Change)
+pub reading_more : (one : OneChangeEach) {L : Type 0} (holds : L → List Entry → List ℕ → Type 0) (size : L → ℕ) (log : L) (number : ℕ) (s t : State) (b d : Bodies) (first now : View) (c : Change)
     → ((es : List Entry) (i : List ℕ) → holds log es i → size log ≡ length es) → number < size log → Keeps first now
     → IsReadable c → ((es : List Entry) → Shows (holds log es) now → IfSome (slice_get es number) (λ e. IsRecord c e.head e.body))
-    → is_built c && allowed s c ≡ true → t ≡ after s c → Reading holds log number s first → Reading holds log (number + 1) t first
-reading_more one holds size log number s t first now c counts lt keeps readable records may next r =
+    → is_built c && allowed s c ≡ true → t ≡ after s c → NotesBody b d c number → Reading holds log number s b first → Reading holds log (number + 1) t d first
+reading_more one holds size log number s t b d first now c counts lt keeps readable records may next notes r =
     let h = r.history in
     let m = and_parts (is_built c) (allowed s c) may in
     let allows : allowed (state h) c ≡ true = subst (λ (x : State). allowed x c ≡ true) r.state_is m.1 in
@@ -143,6 +148,7 @@ reading_more one holds size log number s t first now c counts lt keeps readable 
       brings = all_snoc brings_right h c ∙ rw (r.brings, readable.brings) refl;
       state_is = next ∙ ap (λ (x : State). after x c) r.state_is ∙ sym (state_snoc h c);
       counted = omega (arith, r.counted, length-append h (c ∷ []));
+      bodies = bodies_grown b d h c r.bodies (subst (λ (k : ℕ). NotesBody b d c k) (sym r.counted) notes);
       reads = λ es shows.
           let inside : number < length es = omega (arith, lt, counts es shows.bytes shows.reads) in
           let is : IsRecord c (get_or es number nothing).head (get_or es number nothing).body = at_some (slice_get es number) (λ e. IsRecord c e.head e.body) (get_or es number nothing) (records es (shows_keeps (holds log es) first now keeps shows)) (slice_get-get_or es number nothing inside) in
@@ -150,34 +156,35 @@ reading_more one holds size log number s t first now c counts lt keeps readable 
     }
 
 -- all records were read, at least one
-pub reading_done : {L : Type 0} (holds : L → List Entry → List ℕ → Type 0) (size : L → ℕ) (log : L) (number : ℕ) (s : State) (first : View)
-    → ((es : List Entry) (i : List ℕ) → holds log es i → size log ≡ length es) → size log ≡ number → 1 ≤ number → Reading holds log number s first
-    → (h : List Change) × IsValid h × (s ≡ state h) × ((es : List Entry) → Shows (holds log es) first → AreDecoded h es)
-reading_done holds size log number s first counts all some r = (
+pub reading_done : {L : Type 0} (holds : L → List Entry → List ℕ → Type 0) (size : L → ℕ) (log : L) (number : ℕ) (s : State) (b : Bodies) (first : View)
+    → ((es : List Entry) (i : List ℕ) → holds log es i → size log ≡ length es) → size log ≡ number → 1 ≤ number → Reading holds log number s b first
+    → (h : List Change) × IsValid h × (s ≡ state h) × KnowsBodies b h × ((es : List Entry) → Shows (holds log es) first → AreDecoded h es)
+reading_done holds size log number s b first counts all some r = (
   r.history,
   record { lawful = r.lawful; fit = r.fit; built = r.built; some = omega (arith, some, r.counted); sound = sound_is r.history r.lawful r.built ∙ r.brings },
   r.state_is,
+  r.bodies,
   λ es shows. all_read es number r.history (omega (arith, all, counts es shows.bytes shows.reads)) (r.reads es shows),
 )
 
 -- a record that is no change
-pub no_change : {L : Type 0} (holds : L → List Entry → List ℕ → Type 0) (size : L → ℕ) (log : L) (number : ℕ) (s : State) (first now : View)
+pub no_change : {L : Type 0} (holds : L → List Entry → List ℕ → Type 0) (size : L → ℕ) (log : L) (number : ℕ) (s : State) (b : Bodies) (first now : View)
     → ((es : List Entry) (i : List ℕ) → holds log es i → size log ≡ length es) → number < size log → Keeps first now
     → ((es : List Entry) → Shows (holds log es) now → IfSome (slice_get es number) (λ e. (c : Change) → IsReadable c → is_built c ≡ true → ¬ IsRecord c e.head e.body))
-    → Reading holds log number s first → (es : List Entry) → Shows (holds log es) first → (all : List Change) → IsValid all → ¬ AreDecoded all es
-no_change holds size log number s first now counts lt keeps none r es shows all v are =
+    → Reading holds log number s b first → (es : List Entry) → Shows (holds log es) first → (all : List Change) → IsValid all → ¬ AreDecoded all es
+no_change holds size log number s b first now counts lt keeps none r es shows all v are =
     let inside : number < length es = omega (arith, lt, counts es shows.bytes shows.reads) in
     let not_one = at_some (slice_get es number) (λ e. (c : Change) → IsReadable c → is_built c ≡ true → ¬ IsRecord c e.head e.body) (get_or es number nothing) (none es (shows_keeps (holds log es) first now keeps shows)) (slice_get-get_or es number nothing inside) in
     let n = next_change es number r.history nothing inside (r.reads es shows) all v are in
     not_one n.0 n.3.readable n.3.built n.4
 
 -- a change that may not come next
-pub not_next : (one : OneChangeEach) {L : Type 0} (holds : L → List Entry → List ℕ → Type 0) (size : L → ℕ) (log : L) (number : ℕ) (s : State) (first now : View) (c : Change)
+pub not_next : (one : OneChangeEach) {L : Type 0} (holds : L → List Entry → List ℕ → Type 0) (size : L → ℕ) (log : L) (number : ℕ) (s : State) (b : Bodies) (first now : View) (c : Change)
     → ((es : List Entry) (i : List ℕ) → holds log es i → size log ≡ length es) → number < size log → Keeps first now
     → IsReadable c → ((es : List Entry) → Shows (holds log es) now → IfSome (slice_get es number) (λ e. IsRecord c e.head e.body))
     → is_built c && allowed s c ≡ false
-    → Reading holds log number s first → (es : List Entry) → Shows (holds log es) first → (all : List Change) → IsValid all → ¬ AreDecoded all es
-not_next one holds size log number s first now c counts lt keeps readable records may r es shows all v are =
+    → Reading holds log number s b first → (es : List Entry) → Shows (holds log es) first → (all : List Change) → IsValid all → ¬ AreDecoded all es
+not_next one holds size log number s b first now c counts lt keeps readable records may r es shows all v are =
     let inside : number < length es = omega (arith, lt, counts es shows.bytes shows.reads) in
     let is : IsRecord c (get_or es number nothing).head (get_or es number nothing).body = at_some (slice_get es number) (λ e. IsRecord c e.head e.body) (get_or es number nothing) (records es (shows_keeps (holds log es) first now keeps shows)) (slice_get-get_or es number nothing inside) in
     let n = next_change es number r.history nothing inside (r.reads es shows) all v are in

@@ -2,6 +2,7 @@ pub mod Faults
 pub mod Letters
 pub mod Readable
 pub mod Stands
+pub mod Bodies
 pub mod Stored
 pub mod Offers
 pub mod Making

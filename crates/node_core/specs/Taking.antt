@@ -1,14 +1,16 @@
 -- What a node makes of an offer.
-use Rattle.std.specs.Prelude.{◌≡◌, ◌≤◌, ◌<◌, ℕ, false, ◌==◌, List, [], ◌∷◌, length, Some, None, Option, slice_get, option_map, option_to_list}
+use Rattle.std.specs.Prelude.{◌≡◌, ◌≤◌, ◌<◌, ℕ, Bool, false, ◌==◌, List, [], ◌∷◌, ◌++◌, length, Some, None, Option, slice_get, option_map, option_to_list}
 use Rattle.psb_settings.specs.declared.settings.Settings.{Settings}
 use Rattle.psb_model.specs.State.{State, row}
 use Rattle.psb_model.specs.Effects.{after}
 use Rattle.psb_model.specs.History.{state}
+use Rattle.psb_model.specs.Needed.{IsValid}
 use Rattle.psb_model.specs.declared.change.Change.{Change}
 use Rattle.wire_codec.specs.Frames.{datagram}
 use Rattle.psb_machine.specs.Replies.{reply_of, reply}
 use Rattle.psb_machine.specs.Machine.{Situation, Datagram, react, quiet, drops, makes, tells_again}
-use Rattle.node_core.specs.Making.{CanMake, made_of}
+use Rattle.node_core.specs.Making.{CanMake, made_of, made_in, why_refused}
+use Rattle.node_core.specs.Bodies.{NotesBody}
 use Rattle.node_core.specs.declared.decision.Decision.{Decision}
 use Rattle.node_core.specs.declared.decision.Decision.TheVariants.{Drop, Pass, Make, Again}
 use Rattle.node_core.specs.declared.node.Node.{Node}
@@ -17,7 +19,9 @@ use Rattle.node_core.specs.declared.node.Node.{Node}
 pub record MakesChange (n : Situation) (x : List ℕ) (p number : ℕ) (key name bytes : List ℕ) : Type 0 where
   pub settings : Settings
   pub present : (state n.history).settings ≡ Some settings
-  pub reaction : react n (Datagram x) ≡ makes (made_of (state n.history) p number name bytes) (reply settings key p number (made_of (state n.history) p number name bytes))
+  pub reaction : react n (Datagram x) ≡ makes (made_in n.history p number name bytes) (reply settings key p number (made_in n.history p number name bytes))
+  -- whether or not other bytes are held under the name, what the offer makes is valid
+  pub valid : (clash : Bool) → IsValid (n.history ++ made_of (state n.history) p number name bytes (why_refused (state n.history) p name bytes clash) ∷ [])
 
 -- the machine tells again of the change of the peer's last deal
 pub record TellsAgain (n : Situation) (x : List ℕ) (p number change : ℕ) (key : List ℕ) : Type 0 where
@@ -57,11 +61,21 @@ pub record SameOwner {L : Type 0} (old new : Node L) : Type 0 where
   pub seed : new.seed ≡ old.seed
   pub keys : new.keys ≡ old.keys
 
--- the node made the change of the offer: its ledger has it, and the letter is the one that tells of it
-pub record Made {L : Type 0} (old new : Node L) (n : Situation) (p number : ℕ) (key name bytes : List ℕ) (letters : List (ℕ × List ℕ)) : Type 0 where
-  pub ledger : new.ledger.state ≡ after (state n.history) (made_of (state n.history) p number name bytes)
+-- the node made this change: its ledger has it, and the table of bodies
+pub record Grew {L : Type 0} (old new : Node L) (h : List Change) (c : Change) : Type 0 where
+  pub ledger : new.ledger.state ≡ after (state h) c
+  pub bodies : NotesBody old.bodies new.bodies c (length h)
   pub rest : SameOwner old new
-  pub told : (settings : Settings) → (state n.history).settings ≡ Some settings → letters ≡ reply settings key p number (made_of (state n.history) p number name bytes) ∷ []
+
+-- and the letter is the one that tells of it
+pub record Made {L : Type 0} (old new : Node L) (h : List Change) (p number : ℕ) (key : List ℕ) (c : Change) (letters : List (ℕ × List ℕ)) : Type 0 where
+  pub grew : Grew old new h c
+  pub told : (settings : Settings) → (state h).settings ≡ Some settings → letters ≡ reply settings key p number c ∷ []
+
+-- the node made a change of the offer, as if other bytes were held under its name or as if none were
+pub record GrewSomehow {L : Type 0} (old new : Node L) (h : List Change) (p number : ℕ) (name bytes : List ℕ) : Type 0 where
+  pub clash : Bool
+  pub grew : Grew old new h (made_of (state h) p number name bytes (why_refused (state h) p name bytes clash))
 
 -- the number of the change that grew, if one did, where it is the next one
 abbrev pub numbered : List Change → ℕ → Option ℕ

@@ -14,10 +14,12 @@ ghost use Rattle.psb_model.specs.declared.change.Change.{Change};
 ghost use Rattle.psb_ledger.specs.Records.{IsRecord};
 ghost use Rattle.node_core.specs.Readable.{IsReadable};
 ghost use Rattle.node_core.specs.Stands.{AreDecoded};
+ghost use Rattle.node_core.specs.Bodies.{KnowsBodies, NotesBody, SameBodies};
 
 use crate::Fault;
+use crate::bodies::Bodies;
 use node_journal::Log;
-use psb_bytes::Digest;
+use psb_bytes::{Digest, Memory};
 use psb_digest::sha;
 use psb_ledger::{ChangeError, Ledger, decode_change};
 use psb_model::Change;
@@ -114,16 +116,35 @@ fn take_up(ledger: &mut Ledger, change: &Change) -> Result<(), Fault>
     }
 }
 
+/// Notes the record that brings the bytes of a name, where the change does.
+pub(crate) fn note_body(bodies: &mut Bodies, change: &Change, number: u64) -> Result<(), Memory>
+    ensures noted { OnOk result (NotesBody bodies.old bodies.new change.now number) }
+    ensures err { OnErr result (SameBodies bodies.old bodies.new) }
+{
+    match brought_name(change) {
+        None => Ok(()),
+        Some(name) => bodies.note(&name, number),
+    }
+}
+
+/// What a node keeps in memory of the changes that its log has: the state that they give, and which
+/// record brought the bytes of each name.
+#[derive(Drop)]
+pub(crate) struct Past {
+    pub ledger: Ledger,
+    pub bodies: Bodies,
+}
+
 /// Reads the history that the records of a log are, once through.
 pub(crate) fn read_history<L: Log, D: Disk>(
     alloc: Global,
     log: &mut L,
     disk: &mut D,
-) -> Result<Ledger, Fault>
+) -> Result<Past, Fault>
     requires whole { L.is_broken log.old ≡ false }
-    ensures read { IfOk result (λ ledger. (h : List Change) × IsValid h × (ledger.state ≡ state h)
+    ensures read { IfOk result (λ past. (h : List Change) × IsValid h × (past.ledger.state ≡ state h) × KnowsBodies past.bodies h
         × ((es : List Entry) → Shows (L.holds log.old es) (D.view disk.old) → AreDecoded h es)) }
-    ensures counted { IfOk result (λ ledger. ledger.state.changes ≡ L.size log.old) }
+    ensures counted { IfOk result (λ past. past.ledger.state.changes ≡ L.size log.old) }
     ensures not_node { result ≡ Err Fault.NotNode → (es : List Entry) → Shows (L.holds log.old es) (D.view disk.old)
         → (h : List Change) → IsValid h → ¬ AreDecoded h es }
     ensures log { log.new ≡ log.old }
@@ -136,11 +157,13 @@ pub(crate) fn read_history<L: Log, D: Disk>(
         return Err(Fault::NotNode);
     }
     let mut ledger = Ledger::new(alloc);
+    let mut bodies = Bodies::new(alloc);
     let mut head = Vec::new(alloc);
     let mut body = Vec::new(alloc);
     for number in 0..count {
         let change = read_change(alloc, log, disk, number, &mut head, &mut body)?;
         take_up(&mut ledger, &change)?;
+        note_body(&mut bodies, &change, number)?;
     }
-    Ok(ledger)
+    Ok(Past { ledger, bodies })
 }

@@ -1,22 +1,25 @@
 ghost use Rattle.std.specs.Prelude.{◌≡◌, ◌⊎◌, ◌↔◌, ◌≤◌, ◌<◌, ◌+◌, ◌^◌, [], ◌∷◌, ◌++◌, List, ℕ, true, false, length, map, Some, None, IsSome, IfSome, IfOk, OnOk, OnErr};
 ghost use Rattle.psb_settings.specs.Settings.{have_distinct_ids};
 ghost use Rattle.psb_model.specs.Effects.{after};
+ghost use Rattle.psb_model.specs.History.{state};
 ghost use Rattle.psb_station.specs.Calls.{Rose};
 ghost use Rattle.psb_station.specs.Span.{Tells_bytes, Leaves, DiskWorks, Keeps};
 ghost use Rattle.psb_model.specs.Needed.{IsValid};
 ghost use Rattle.psb_model.specs.declared.change.Change.{Change};
 ghost use Rattle.psb_machine.specs.Machine.{Situation, Datagram, react, next, key_of_row};
-ghost use Rattle.node_core.specs.Making.{CanMake, MayMake, made_of};
+ghost use Rattle.node_core.specs.Making.{CanMake, CanTell, MayMake, made_of, made_in};
 
+use crate::bodies::Bodies;
 use crate::decision::Decision;
-use crate::history::read_history;
+use crate::history::{Past, note_body, read_history};
 use crate::offer::{Offer, Reading, read};
+use crate::refusal::refusal_of;
 use crate::replies::{judged, letter_with, reply_again, reply_to};
 use crate::{Fault, Letter, Outbox, Outcome};
 use node_journal::Log;
 use psb_bytes::{Digest, Items, PeerId};
 use psb_ledger::{Ledger, encode_change};
-use psb_machine::Standing;
+use psb_machine::{Refusal, Standing};
 use psb_model::Change;
 use psb_settings::PeerRow;
 use psb_station::Disk;
@@ -36,6 +39,7 @@ pub struct Node<L: Log> {
     alloc: Global,
     log: L,
     ledger: Ledger,
+    bodies: Bodies,
     own: PeerId,
     seed: Digest,
     keys: Keys,
@@ -85,7 +89,8 @@ impl<L: Log> Node<L> {
     ghost use Rattle.node_core.specs.Letters.{letters_of, input_of};
     ghost use Rattle.node_core.specs.Stands.{HoldsHistory, ReopensTo};
     ghost use Rattle.node_core.specs.Stored.{Knows, Stored};
-    ghost use Rattle.node_core.specs.Taking.{Decides, CanDo, Made, IsToldAgain, TellsOf, SameOwner, numbered};
+    ghost use Rattle.node_core.specs.Bodies.{NotesBody, SameBodies};
+    ghost use Rattle.node_core.specs.Taking.{Decides, CanDo, Made, GrewSomehow, IsToldAgain, TellsOf, SameOwner, numbered};
 
     /// Opens the node that the disk holds. It syncs once, reads each record once, and changes nothing.
     pub fn open<D: Disk>(alloc: Global, disk: &mut D) -> Result<Node<L>, Fault>
@@ -102,7 +107,7 @@ impl<L: Log> Node<L> {
         ensures only { OnErr result ((result ≡ Err Fault.NotNode) ⊎ (result ≡ Err Fault.DiskFault) ⊎ (result ≡ Err Fault.Memory)) }
     {
         let mut log = L::open(alloc, disk)?;
-        let ledger = read_history(alloc, &mut log, disk)?;
+        let Past { ledger, bodies } = read_history(alloc, &mut log, disk)?;
         let Some(settings) = ledger.settings() else {
             unreachable!()
         };
@@ -113,6 +118,7 @@ impl<L: Log> Node<L> {
             alloc,
             log,
             ledger,
+            bodies,
             own,
             seed,
             keys,
@@ -161,7 +167,7 @@ impl<L: Log> Node<L> {
         match self.decide(datagram) {
             Decision::Drop(why) => Ok(quiet(self.alloc, Some(why))),
             Decision::Pass => Ok(quiet(self.alloc, None)),
-            Decision::Make(offer) => self.take(disk, &offer),
+            Decision::Make(offer) => self.judge(disk, &offer),
             Decision::Again(offer, change) => self.tell_again(disk, &offer, change),
         }
     }
@@ -195,19 +201,15 @@ impl<L: Log> Node<L> {
     }
 
     /// The change of a fresh offer, and the letter that tells of it.
-    fn answer(&self, offer: &Offer<'_>) -> Result<(Change, Outbox), Fault>
+    fn answer(&self, offer: &Offer<'_>, refusal: Option<Refusal>) -> Result<(Change, Outbox), Fault>
         requires short { length offer.now.bytes.now ≤ 32768 }
-        requires can { CanMake self.now.ledger.state offer.now.peer offer.now.number offer.now.name offer.now.bytes.now }
-        requires present { IsSome self.now.ledger.state.settings }
-        ensures change { IfOk result (λ a. a.0 ≡ made_of self.now.ledger.state offer.now.peer offer.now.number offer.now.name offer.now.bytes.now) }
+        requires can { CanTell self.now.ledger.state (made_of self.now.ledger.state offer.now.peer offer.now.number offer.now.name offer.now.bytes.now refusal) }
+        ensures change { IfOk result (λ a. a.0 ≡ made_of self.now.ledger.state offer.now.peer offer.now.number offer.now.name offer.now.bytes.now refusal) }
         ensures letter { IfOk result (λ a. TellsOf (letters_of a.1) self.now.own self.now.seed offer.now.key offer.now.peer offer.now.number a.0) }
         ensures only { OnErr result (result ≡ Err Fault.Memory) }
     {
         let alloc = self.alloc;
-        let Some(settings) = self.ledger.settings() else {
-            unreachable!()
-        };
-        let change = judged(alloc, offer, &self.ledger, settings)?;
+        let change = judged(alloc, offer, &self.ledger, refusal)?;
         let Some(reply) = reply_to(alloc, &self.seed, &change)? else {
             unreachable!()
         };
@@ -215,22 +217,26 @@ impl<L: Log> Node<L> {
         Ok((change, out))
     }
 
-    /// Makes the change of a fresh offer, which is appended and then told of by the letter.
-    fn take<D: Disk>(&mut self, disk: &mut D, offer: &Offer<'_>) -> Result<Outcome, Fault>
+    /// Looks at why a fresh offer is refused, and makes its change.
+    fn judge<D: Disk>(&mut self, disk: &mut D, offer: &Offer<'_>) -> Result<Outcome, Fault>
         requires whole { L.is_broken self.old.log ≡ false }
         requires fits { Tells_bytes (D.view disk.old) → (h : List Change) × Stored L.holds self.old h (D.view disk.old) }
+        requires known { (n : Situation) × Knows self.old n }
+        requires counted { self.old.ledger.state.changes ≡ L.size self.old.log }
         requires short { length offer.now.bytes.now ≤ 32768 }
         requires can { CanMake self.old.ledger.state offer.now.peer offer.now.number offer.now.name offer.now.bytes.now }
-        requires present { IsSome self.old.ledger.state.settings }
-        ensures made { IfOk result (λ o. (n : Situation) → Knows self.old n → Made self.old self.new n offer.now.peer offer.now.number offer.now.key offer.now.name offer.now.bytes.now (letters_of o.out)) }
+
+        // Where the disk tells its bytes the change is the one that the machine makes.
+        ensures made { IfOk result (λ o. (n : Situation) → Knows self.old n → Stored L.holds self.old n.history (D.view disk.old)
+            → Made self.old self.new n.history offer.now.peer offer.now.number offer.now.key (made_in n.history offer.now.peer offer.now.number offer.now.name offer.now.bytes.now) (letters_of o.out)) }
+        ensures disk { OnOk result ((n : Situation) → Knows self.old n → Stored L.holds self.old n.history (D.view disk.old)
+            → Stored L.holds self.new (n.history ++ made_in n.history offer.now.peer offer.now.number offer.now.name offer.now.bytes.now ∷ []) (D.view disk.new)) }
+        ensures grew { OnOk result ((n : Situation) → Knows self.old n → GrewSomehow self.old self.new n.history offer.now.peer offer.now.number offer.now.name offer.now.bytes.now) }
         ensures outcome { IfOk result (λ o. (o.dropped ≡ None) × (length o.out ≤ 1) × (o.change ≡ Some (L.size self.old.log))) }
-        ensures counted { OnOk result (self.new.ledger.state.changes ≡ self.old.ledger.state.changes + 1) }
-        ensures size { OnOk result (L.size self.new.log ≡ L.size self.old.log + 1) }
-        ensures disk { OnOk result ((h : List Change) → Stored L.holds self.old h (D.view disk.old)
-            → Stored L.holds self.new (h ++ made_of self.old.ledger.state offer.now.peer offer.now.number offer.now.name offer.now.bytes.now ∷ []) (D.view disk.new)) }
-        ensures any_moment { (h : List Change) → Stored L.holds self.old h (D.view disk.old)
+        ensures counted { OnOk result (self.new.ledger.state.changes ≡ L.size self.new.log) }
+        ensures any_moment { (n : Situation) → Knows self.old n → Stored L.holds self.old n.history (D.view disk.old)
             → Leaves (D.view disk.old) (D.view disk.new) (λ c k. (k ≡ (D.view disk.old).told)
-            × (HoldsHistory L.stands h c ⊎ HoldsHistory L.stands (h ++ made_of self.old.ledger.state offer.now.peer offer.now.number offer.now.name offer.now.bytes.now ∷ []) c)) }
+            × (HoldsHistory L.stands n.history c ⊎ HoldsHistory L.stands (n.history ++ made_in n.history offer.now.peer offer.now.number offer.now.name offer.now.bytes.now ∷ []) c)) }
         ensures works { DiskWorks (D.view disk.old) (D.view disk.new) }
         ensures disk_cause { result ≡ Err Fault.DiskFault → Rose (D.view disk.old).disk_faults (D.view disk.new).disk_faults }
         ensures breaks { L.is_broken self.new.log ≡ true → (result ≡ Err Fault.DiskFault) × Rose (D.view disk.old).write_faults (D.view disk.new).write_faults }
@@ -238,7 +244,46 @@ impl<L: Log> Node<L> {
             × ((h : List Change) → Stored L.holds self.old h (D.view disk.old) → Stored L.holds self.new h (D.view disk.new))) }
         ensures only { OnErr result ((result ≡ Err Fault.DiskFault) ⊎ (result ≡ Err Fault.Memory)) }
     {
-        let (change, out) = match self.answer(offer) {
+        let refusal = refusal_of(
+            self.alloc,
+            &mut self.log,
+            disk,
+            &self.ledger,
+            &self.bodies,
+            offer,
+        )?;
+        self.take(disk, offer, refusal)
+    }
+
+    /// Makes the change of a fresh offer, which is appended and then told of by the letter.
+    fn take<D: Disk>(
+        &mut self,
+        disk: &mut D,
+        offer: &Offer<'_>,
+        refusal: Option<Refusal>,
+    ) -> Result<Outcome, Fault>
+        requires whole { L.is_broken self.old.log ≡ false }
+        requires fits { Tells_bytes (D.view disk.old) → (h : List Change) × Stored L.holds self.old h (D.view disk.old) }
+        requires counted { self.old.ledger.state.changes ≡ L.size self.old.log }
+        requires short { length offer.now.bytes.now ≤ 32768 }
+        requires can { CanTell self.old.ledger.state (made_of self.old.ledger.state offer.now.peer offer.now.number offer.now.name offer.now.bytes.now refusal) }
+        ensures made { IfOk result (λ o. (n : Situation) → Knows self.old n
+            → Made self.old self.new n.history offer.now.peer offer.now.number offer.now.key (made_of (state n.history) offer.now.peer offer.now.number offer.now.name offer.now.bytes.now refusal) (letters_of o.out)) }
+        ensures outcome { IfOk result (λ o. (o.dropped ≡ None) × (length o.out ≤ 1) × (o.change ≡ Some (L.size self.old.log))) }
+        ensures counted { OnOk result (self.new.ledger.state.changes ≡ L.size self.new.log) }
+        ensures disk { OnOk result ((h : List Change) → Stored L.holds self.old h (D.view disk.old)
+            → Stored L.holds self.new (h ++ made_of self.old.ledger.state offer.now.peer offer.now.number offer.now.name offer.now.bytes.now refusal ∷ []) (D.view disk.new)) }
+        ensures any_moment { (h : List Change) → Stored L.holds self.old h (D.view disk.old)
+            → Leaves (D.view disk.old) (D.view disk.new) (λ c k. (k ≡ (D.view disk.old).told)
+            × (HoldsHistory L.stands h c ⊎ HoldsHistory L.stands (h ++ made_of self.old.ledger.state offer.now.peer offer.now.number offer.now.name offer.now.bytes.now refusal ∷ []) c)) }
+        ensures works { DiskWorks (D.view disk.old) (D.view disk.new) }
+        ensures disk_cause { result ≡ Err Fault.DiskFault → Rose (D.view disk.old).disk_faults (D.view disk.new).disk_faults }
+        ensures breaks { L.is_broken self.new.log ≡ true → (result ≡ Err Fault.DiskFault) × Rose (D.view disk.old).write_faults (D.view disk.new).write_faults }
+        ensures kept { OnErr result (L.is_broken self.new.log ≡ false → ((n : Situation) → Knows self.old n → Knows self.new n)
+            × ((h : List Change) → Stored L.holds self.old h (D.view disk.old) → Stored L.holds self.new h (D.view disk.new))) }
+        ensures only { OnErr result ((result ≡ Err Fault.DiskFault) ⊎ (result ≡ Err Fault.Memory)) }
+    {
+        let (change, out) = match self.answer(offer, refusal) {
             Ok(answer) => answer,
             Err(fault) => return Err(fault),
         };
@@ -266,6 +311,7 @@ impl<L: Log> Node<L> {
         ensures outcome { IfOk result (λ o. (o.dropped ≡ None) × (length o.out ≤ 1) × (o.change ≡ None)) }
         ensures ledger { self.new.ledger ≡ self.old.ledger }
         ensures log { self.new.log ≡ self.old.log }
+        ensures bodies { self.new.bodies ≡ self.old.bodies }
         ensures rest { SameOwner self.old self.new }
         ensures keeps { Keeps (D.view disk.old) (D.view disk.new) }
         ensures disk_cause { result ≡ Err Fault.DiskFault → Rose (D.view disk.old).disk_faults (D.view disk.new).disk_faults }
@@ -289,7 +335,9 @@ impl<L: Log> Node<L> {
         requires fits { Tells_bytes (D.view disk.old) → (h : List Change) × Stored L.holds self.old h (D.view disk.old) }
         requires may { MayMake self.old.ledger.state change.now }
         ensures ledger { OnOk result (self.new.ledger.state ≡ after self.old.ledger.state change.now) }
+        ensures bodies { OnOk result (NotesBody self.old.bodies self.new.bodies change.now (L.size self.old.log)) }
         ensures same { OnErr result (self.new.ledger.state ≡ self.old.ledger.state) }
+        ensures same_bodies { OnErr result (L.is_broken self.new.log ≡ false → SameBodies self.old.bodies self.new.bodies) }
         ensures number { IfOk result (λ n. n ≡ L.size self.old.log) }
         ensures rest { SameOwner self.old self.new }
         ensures size { OnOk result (L.size self.new.log ≡ L.size self.old.log + 1) }
@@ -308,6 +356,7 @@ impl<L: Log> Node<L> {
         let body = change.body().unwrap_or(&[]);
         self.ledger.make_room(change)?;
         self.log.make_room(head.len(), body.len())?;
+        note_body(&mut self.bodies, change, self.log.count())?;
         let number = self.log.append(disk, &head, body)?;
         match self.ledger.apply(change) {
             Ok(()) => Ok(number),

@@ -6,19 +6,19 @@ ghost use Rattle.psb_station.specs.Span.{Shows, Keeps};
 ghost use Rattle.node_journal.specs.Entry.{Entry};
 ghost use Rattle.psb_model.specs.declared.change.Change.{Change};
 ghost use Rattle.wire_codec.specs.Frames.{datagram, fits};
-ghost use Rattle.psb_machine.specs.Deals.{took_fresh, judged_store};
+ghost use Rattle.psb_machine.specs.Deals.{took_fresh};
 ghost use Rattle.psb_machine.specs.Replies.{claims_from, reply_of, is_answerable};
 ghost use Rattle.wire_codec.specs.declared.frame.Frame.TheVariants.{Accepted};
 ghost use Rattle.node_core.specs.Again.{IsAnswerOf};
+ghost use Rattle.node_core.specs.Making.{made_of};
 
-use crate::offer::{Offer, refusal_of};
+use crate::offer::Offer;
 use crate::{Fault, Letter};
 use node_journal::Log;
 use psb_bytes::{Digest, Items, Memory, PeerId, units_of};
 use psb_ledger::{ChangeError, Ledger, decode_change};
-use psb_machine::claims_from;
+use psb_machine::{Refusal, claims_from};
 use psb_model::Change;
-use psb_settings::Settings;
 use psb_station::Disk;
 use std::alloc::Global;
 use wire_codec::{Frame, LAST_REASON, MOST_BYTES, encode};
@@ -44,17 +44,17 @@ fn taken(alloc: Global, offer: &Offer<'_>, ledger: &Ledger) -> Result<Change, Me
     })
 }
 
-/// The change that a fresh offer makes: it is refused by the first reason that holds, else taken.
+/// The change that a fresh offer makes, which is refused or taken.
 pub(crate) fn judged(
     alloc: Global,
     offer: &Offer<'_>,
     ledger: &Ledger,
-    settings: &Settings,
+    refusal: Option<Refusal>,
 ) -> Result<Change, Memory>
     requires { length offer.now.bytes.now ≤ 32768 }
-    ensures { IfOk result (λ c. c ≡ judged_store settings.now ledger.now.state offer.now.peer offer.now.number offer.now.name offer.now.bytes.now false) }
+    ensures { IfOk result (λ c. c ≡ made_of ledger.now.state offer.now.peer offer.now.number offer.now.name offer.now.bytes.now refusal) }
 {
-    match refusal_of(offer, ledger, settings) {
+    match refusal {
         None => taken(alloc, offer, ledger),
         Some(refusal) => Ok(Change::Refused {
             peer: offer.peer,

@@ -12,7 +12,6 @@ use Rattle.psb_model.specs.Words.{units, all_of}
 use Rattle.psb_model.specs.State.{Row, State, row, at_row, held_of, back_of, used, coming, is_peer}
 use Rattle.psb_model.specs.Grammar.{in_grammar}
 use Rattle.psb_model.specs.Conditions.{capacity, tests, allowed, settings_in}
-use Rattle.psb_model.specs.History.{has_one_peer}
 use Rattle.psb_model.specs.Effects.{took_deal, after, blank_rows, first_rows}
 use Rattle.psb_model.proofs.Steps.{parts}
 use Rattle.psb_model.proofs.Balance.{Good, good_after}
@@ -121,10 +120,6 @@ text_capacity (Some text) = of_text (settings_of text) refl
     of_text : (st : Option Settings) → settings_of text ≡ st → capacity st < 2 ^ 32
     of_text None e = omega arith
     of_text (Some x) e = omega (arith, (settings_of-are text x e).capacity)
-
-pub one_peer_some : (st : Option Settings) → has_one_peer st ≡ true → is_some st ≡ true
-one_peer_some None h = h
-one_peer_some (Some x) h = refl
 
 -- Room that is made changes no row.
 pub at_row_none : (p : ℕ) (rows : List (ℕ × Row)) → at_row p (λ r. r) rows ≡ rows

@@ -10,7 +10,7 @@ ghost use Rattle.psb_model.specs.State.{row, row_in, used, is_held, in_key, held
 ghost use Rattle.psb_model.specs.Grammar.{in_grammar};
 ghost use Rattle.psb_model.specs.Conditions.{allowed, settings_in, capacity};
 ghost use Rattle.psb_model.specs.Effects.{after, blank_rows, first_rows};
-ghost use Rattle.psb_model.specs.History.{is_built, has_one_peer};
+ghost use Rattle.psb_model.specs.History.{is_built};
 ghost use Rattle.psb_ledger.specs.View.{named_row, row_of, fresh_tests, refusal_tests, IsSound, HasBegunRoom, HasFreshRoom, HasRoom};
 
 use crate::account::Account;
@@ -70,16 +70,6 @@ fn capacity_of(settings: &Option<Settings>) -> u32
     match settings {
         None => 0,
         Some(x) => x.capacity,
-    }
-}
-
-/// Whether these are the settings of a node with one peer.
-fn has_one_peer(settings: &Option<Settings>) -> bool
-    ensures { result ≡ has_one_peer settings.now }
-{
-    match settings {
-        None => false,
-        Some(x) => x.peers.as_slice().len() == 1,
     }
 }
 
@@ -397,7 +387,7 @@ impl Ledger {
         ensures ok { OnOk result (self.new.state ≡ after self.old.state (Begun body.now)) }
         ensures err { OnErr result (self.new ≡ self.old) }
     {
-        if self.changes != 0 || !has_one_peer(&self.next) {
+        if self.changes != 0 || self.next.is_none() {
             return Err(NotNow);
         }
         self.settings = self.next.take();

@@ -3,7 +3,6 @@ pub mod Peers
 pub mod Standings
 pub mod Lasts
 pub mod Valid
-pub mod Alone
 pub mod Steps
 pub mod ClaimRuns
 pub mod Whole

@@ -19,7 +19,7 @@ use Rattle.psb_model.specs.Grammar.{in_grammar, is_u8, fits}
 use Rattle.psb_model.specs.Conditions.{settings_in, peer_of, is_begun, of_a_peer, tests, allowed}
 use Rattle.psb_model.specs.Move.{moved}
 use Rattle.psb_model.specs.Effects.{move_of, note_of, loosen, blank_rows, first_rows, all_rows_after, after}
-use Rattle.psb_model.specs.History.{state_from, lawful_from, state, is_lawful, has_one_peer, is_built}
+use Rattle.psb_model.specs.History.{state_from, lawful_from, state, is_lawful, is_built}
 use Rattle.psb_model.specs.Needed.{brings_name, is_needed_by, body_is_right, bodies_right, is_sound, brings_right, IsValid}
 use Rattle.psb_model.proofs.ByObject.{by_cases, occurs, units_at-with_all, sum_by-with_all, lacks-units_at, has-occurs, object_eq-refl}
 use Rattle.psb_model.proofs.Steps.{parts}
@@ -98,15 +98,6 @@ held_at_row p f n (x ∷ xs) here g =
     (λ k. rw k (omega (arith, g x.1, sum_by-cons (λ (x : ℕ × Row). held_of x.1) (x.0, f x.1) xs, sum_by-cons (λ (x : ℕ × Row). held_of x.1) x xs)))
     (λ k. let here' = rw k at here in rw k (omega (arith, held_at_row p f n xs here' g, sum_by-cons (λ (x : ℕ × Row). held_of x.1) x (at_row p f xs), sum_by-cons (λ (x : ℕ × Row). held_of x.1) x xs)))
 
--- a row's count stays
-length_at_row : (p : ℕ) (f : Row → Row) (rows : List (ℕ × Row)) → length (at_row p f rows) ≡ length rows
-length_at_row p f [] = refl
-length_at_row p f (x ∷ xs) = by_cases (x.0 == p) (λ k. rw k refl) (λ k. rw k (ap suc (length_at_row p f xs)))
-
-length_blank_rows : (ps : List PeerRow) → length (blank_rows ps) ≡ length ps
-length_blank_rows [] = refl
-length_blank_rows (x ∷ xs) = ap suc (length_blank_rows xs)
-
 -- THE ROWS AFTER EACH KIND
 
 only_none : (l : List InEntry) → only in_key [] l ≡ []
@@ -160,17 +151,16 @@ pub record IsPlain (s : State) : Type 0 where
   pub chosen : s.chosen ≡ []
   pub issued : held_total s.rows ≡ s.issued
   pub before : s.changes ≡ 0 → s.issued ≡ 0
-  pub one : 1 ≤ s.changes → length s.rows ≡ 1
 
 pub plain_nothing : IsPlain nothing_yet
-plain_nothing = record { rows = tt; own = refl; kept = refl; snapped = refl; chosen = refl; issued = refl; before = λ e. refl; one = λ h. absurd (omega (arith, h)) }
+plain_nothing = record { rows = tt; own = refl; kept = refl; snapped = refl; chosen = refl; issued = refl; before = λ e. refl }
 
 -- own loses what is marked, and there is none
 given_none : (s s' : State) → s.own ≡ [] → s'.own ≡ s.own → s'.own ≡ []
 given_none s s' a b = b ∙ a
 
-plain_begun : (s : State) (body : Option (List ℕ)) → IsPlain s → is_built (Begun body) ≡ true → all_of (tests s (Begun body)) ≡ true → IsPlain (after s (Begun body))
-plain_begun s body p b h =
+plain_begun : (s : State) (body : Option (List ℕ)) → IsPlain s → all_of (tests s (Begun body)) ≡ true → IsPlain (after s (Begun body))
+plain_begun s body p h =
     let ts = parts (tests s (Begun body)) h in
     record {
       rows = plain_first_rows (settings_in body);
@@ -180,16 +170,11 @@ plain_begun s body p b h =
       chosen = p.chosen;
       issued = omega (arith, held_first_rows (settings_in body), p.before (eqb-true s.changes 0 ts.0));
       before = λ e. absurd (omega (arith, e));
-      one = λ _. one_row (settings_in body) b;
     }
-  where
-    one_row : (o : Option Settings) → has_one_peer o ≡ true → length (first_rows o) ≡ 1
-    one_row None k = absurd (false≢true k)
-    one_row (Some x) k = length_blank_rows x.peers ∙ eqb-true (length x.peers) 1 k
 
 -- one more step over one row
-plain_changed : (s s' : State) (p u : ℕ) (f : Row → Row) → IsPlain s → s'.rows ≡ at_row p f s.rows → s'.own ≡ [] → s'.kept ≡ s.kept → s'.snapped ≡ s.snapped → s'.chosen ≡ s.chosen → s'.issued ≡ s.issued + u → s'.changes ≡ s.changes + 1 → 1 ≤ s.changes → has_row s.rows p ≡ true → ((r : Row) → IsPlainRow r → IsPlainRow (f r)) → ((r : Row) → held_of (f r) ≡ held_of r + u) → IsPlain s'
-plain_changed s s' p u f was rows own kept snapped chosen issued changes begun here plain held = record {
+plain_changed : (s s' : State) (p u : ℕ) (f : Row → Row) → IsPlain s → s'.rows ≡ at_row p f s.rows → s'.own ≡ [] → s'.kept ≡ s.kept → s'.snapped ≡ s.snapped → s'.chosen ≡ s.chosen → s'.issued ≡ s.issued + u → s'.changes ≡ s.changes + 1 → has_row s.rows p ≡ true → ((r : Row) → IsPlainRow r → IsPlainRow (f r)) → ((r : Row) → held_of (f r) ≡ held_of r + u) → IsPlain s'
+plain_changed s s' p u f was rows own kept snapped chosen issued changes here plain held = record {
   rows = subst AllPlain (sym rows) (plain_at_row p f s.rows plain was.rows);
   own = own;
   kept = kept ∙ was.kept;
@@ -197,7 +182,6 @@ plain_changed s s' p u f was rows own kept snapped chosen issued changes begun h
   chosen = chosen ∙ was.chosen;
   issued = omega (arith, ap held_total rows, held_at_row p f u s.rows here held, was.issued, issued);
   before = λ e. absurd (omega (arith, e, changes));
-  one = λ _. ap length rows ∙ length_at_row p f s.rows ∙ was.one begun;
 }
 
 plain_row_fresh : (s : State) (p deal : ℕ) (name : List ℕ) (first len : ℕ) (new : Bool) (body : Option (List ℕ)) (r : Row) → IsPlainRow r → IsPlainRow (changed s (TookFresh p deal name first len new body) r)
@@ -216,13 +200,13 @@ begun_before s c none h =
     ltb-true 0 s.changes some
 
 pub plain_after : (s : State) (c : Change) → IsPlain s → is_built c ≡ true → allowed s c ≡ true → IsPlain (after s c)
-plain_after s (Begun body) p b h = plain_begun s body p b (allows s (Begun body) h).tests
+plain_after s (Begun body) p b h = plain_begun s body p (allows s (Begun body) h).tests
 plain_after s (TookFresh q deal name first len new body) p b h =
     let c : Change = TookFresh q deal name first len new body in
-    plain_changed s (after s c) q (units len) (changed s c) p (rows_fresh s q deal name first len new body) (rw p.own refl) refl refl refl refl refl (begun_before s c refl h) (allows s c h).peer (plain_row_fresh s q deal name first len new body) (held_fresh s q deal name first len new body)
+    plain_changed s (after s c) q (units len) (changed s c) p (rows_fresh s q deal name first len new body) (rw p.own refl) refl refl refl refl refl (allows s c h).peer (plain_row_fresh s q deal name first len new body) (held_fresh s q deal name first len new body)
 plain_after s (Refused q deal why detail) p b h =
     let c : Change = Refused q deal why detail in
-    plain_changed s (after s c) q 0 (changed s c) p (rows_refused s q deal why detail) (rw p.own refl) refl refl refl (omega arith) refl (begun_before s c refl h) (allows s c h).peer (plain_row_refused s q deal why detail) (held_refused s q deal why detail)
+    plain_changed s (after s c) q 0 (changed s c) p (rows_refused s q deal why detail) (rw p.own refl) refl refl refl (omega arith) refl (allows s c h).peer (plain_row_refused s q deal why detail) (held_refused s q deal why detail)
 plain_after s _ p b h = absurd (false≢true b)
 
 pub plain_from : (s : State) (h : List Change) → IsPlain s → lawful_from s h ≡ true → list_all is_built h ≡ true → IsPlain (state_from s h)
@@ -401,10 +385,10 @@ valid_prefix n h v =
     some_left (c ∷ cs) k = omega arith
 
 -- the history of a beginning alone
-pub valid_begun : (text : List ℕ) (x : Settings) → settings_of text ≡ Some x → length x.peers ≡ 1 → list_all is_u8 text ≡ true → IsValid (Begun (Some text) ∷ [])
-valid_begun text x h one bytes =
+pub valid_begun : (text : List ℕ) (x : Settings) → settings_of text ≡ Some x → list_all is_u8 text ≡ true → IsValid (Begun (Some text) ∷ [])
+valid_begun text x h bytes =
     let lawful : is_lawful (Begun (Some text) ∷ []) ≡ true = rw h refl in
-    let built : list_all is_built (Begun (Some text) ∷ []) ≡ true = rw (h, one) refl in
+    let built : list_all is_built (Begun (Some text) ∷ []) ≡ true = refl in
     record {
       lawful = lawful;
       fit = rw bytes refl;

@@ -5,14 +5,14 @@ use Rattle.psb_settings.specs.Settings.{settings_of}
 use Rattle.psb_digest.specs.Hashes.{sha}
 use Rattle.psb_model.specs.Grammar.{is_u8, is_digest}
 use Rattle.psb_model.specs.History.{is_lawful, is_built}
-use Rattle.psb_model.specs.Worked.{one_peer, two_peers, first_deals, FirstWorked, Worked, WorkedRows}
+use Rattle.psb_model.specs.Worked.{one_peer, two_peers, first_deals, shared_deals, FirstWorked, SharedWorked, Worked, WorkedRows}
 use Rattle.psb_model.proofs.Built.{sound_is}
 use Rattle.psb_model.proofs.Own.{name_refl}
 
 first_worked : (text chunk : List ℕ) → settings_of text ≡ Some one_peer → list_all is_u8 text ≡ true → length chunk ≡ 512 → list_all is_u8 chunk ≡ true → is_digest (sha chunk) ≡ true → FirstWorked text chunk
 first_worked text chunk says text_fits long chunk_fits name_fits =
     let lawful : is_lawful (first_deals text chunk) ≡ true = rw (says, long) refl in
-    let built : list_all is_built (first_deals text chunk) ≡ true = rw says refl in
+    let built : list_all is_built (first_deals text chunk) ≡ true = refl in
     record {
       valid = record {
         lawful = lawful;
@@ -22,6 +22,23 @@ first_worked text chunk says text_fits long chunk_fits name_fits =
         sound = sound_is (first_deals text chunk) lawful built ∙ rw (name_refl (sha chunk)) refl;
       };
       numbers = record { held_is = rw says refl; back_is = rw says refl; debt_is = rw says refl };
+    }
+
+shared_worked : (text chunk : List ℕ) → settings_of text ≡ Some two_peers → list_all is_u8 text ≡ true → length chunk ≡ 512 → list_all is_u8 chunk ≡ true → is_digest (sha chunk) ≡ true → SharedWorked text chunk
+shared_worked text chunk says text_fits long chunk_fits name_fits =
+    let same = name_refl (sha chunk) in
+    let lawful : is_lawful (shared_deals text chunk) ≡ true = rw (says, long, same) refl in
+    let built : list_all is_built (shared_deals text chunk) ≡ true = refl in
+    record {
+      valid = record {
+        lawful = lawful;
+        fit = rw (text_fits, chunk_fits, name_fits) (refl {a = true});
+        built = built;
+        some = omega arith;
+        sound = sound_is (shared_deals text chunk) lawful built ∙ rw same refl;
+      };
+      first_numbers = record { held_is = rw says refl; back_is = rw says refl; debt_is = rw says refl };
+      second_numbers = record { held_is = rw says refl; back_is = rw says refl; debt_is = rw says refl };
     }
 
 worked_two : (text : List ℕ) → settings_of text ≡ Some two_peers → Worked text
@@ -38,4 +55,4 @@ worked_two text h = record {
 }
 
 pub worked : WorkedRows
-worked = record { first = first_worked; two = worked_two }
+worked = record { first = first_worked; shared = shared_worked; two = worked_two }

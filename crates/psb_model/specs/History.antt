@@ -28,15 +28,9 @@ state h = state_from nothing_yet h
 abbrev pub is_lawful : List Change → Bool
 is_lawful h = lawful_from nothing_yet h
 
--- The program has some of the kinds so far: the beginning with one peer, and answers to a peer's
--- fresh chunks.
-abbrev pub has_one_peer : Option Settings → Bool
-has_one_peer None = false
-has_one_peer (Some x) = length x.peers == 1
-
--- the kind is one of those
+-- the program has this kind so far: the beginning, and the answers to a peer's fresh chunks
 abbrev pub is_built : Change → Bool
-is_built (Begun body) = has_one_peer (settings_in body)
+is_built (Begun body) = true
 is_built (TookFresh p deal name first len new body) = true
 is_built (Refused p deal why detail) = true
 is_built _ = false

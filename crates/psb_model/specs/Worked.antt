@@ -1,5 +1,5 @@
 -- Worked histories, so that the definitions can be seen at work.
-use Rattle.std.specs.Prelude.{◌≡◌, ℕ, zero, suc, ◌+◌, true, List, [], ◌∷◌, ◌++◌, length, replicate, codes, Some, None}
+use Rattle.std.specs.Prelude.{◌≡◌, ℕ, zero, suc, ◌+◌, true, false, List, [], ◌∷◌, ◌++◌, length, replicate, codes, Some, None}
 use Rattle.std.specs.List.{list_all}
 use Rattle.psb_bytes.specs.declared.ids.Ticket.{Ticket}
 use Rattle.psb_bytes.specs.declared.ids.Object.TheVariants.{Slot}
@@ -53,6 +53,14 @@ first_deals text chunk =
     ∷ Refused 2 2 3 0
     ∷ []
 
+-- two peers store one chunk, and its bytes are kept once
+abbrev pub shared_deals : List ℕ → List ℕ → List Change
+shared_deals text chunk =
+    Begun (Some text)
+    ∷ TookFresh 2 1 (sha chunk) 0 512 true (Some chunk)
+    ∷ TookFresh 3 1 (sha chunk) 1 512 false (Some [])
+    ∷ []
+
 -- a chunk is taken, its slot is asked for, and no answer comes
 abbrev pub lost_slot : List ℕ → List Change
 lost_slot text =
@@ -90,7 +98,13 @@ pub record FirstWorked (text chunk : List ℕ) : Type 0 where
   pub valid : IsValid (first_deals text chunk)
   pub numbers : Numbers (first_deals text chunk) 2 1 1 0
 
--- with two
+-- with two who store one chunk
+pub record SharedWorked (text chunk : List ℕ) : Type 0 where
+  pub valid : IsValid (shared_deals text chunk)
+  pub first_numbers : Numbers (shared_deals text chunk) 2 1 1 0
+  pub second_numbers : Numbers (shared_deals text chunk) 3 1 1 0
+
+-- with two, by kinds that come later
 pub record Worked (text : List ℕ) : Type 0 where
   pub lost_lawful : is_lawful (lost_slot text) ≡ true
   pub lost_numbers : Numbers (lost_slot text) 2 1 0 1
@@ -105,4 +119,5 @@ pub record Worked (text : List ℕ) : Type 0 where
 -- under each text that says these settings, and for each chunk of 512 bytes
 pub record WorkedRows : Type 0 where
   pub first : (text chunk : List ℕ) → settings_of text ≡ Some one_peer → list_all is_u8 text ≡ true → length chunk ≡ 512 → list_all is_u8 chunk ≡ true → is_digest (sha chunk) ≡ true → FirstWorked text chunk
+  pub shared : (text chunk : List ℕ) → settings_of text ≡ Some two_peers → list_all is_u8 text ≡ true → length chunk ≡ 512 → list_all is_u8 chunk ≡ true → is_digest (sha chunk) ≡ true → SharedWorked text chunk
   pub two : (text : List ℕ) → settings_of text ≡ Some two_peers → Worked text

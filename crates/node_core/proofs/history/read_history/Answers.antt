@@ -22,7 +22,7 @@ returns-in_err-change-clause-not_node g c = λ is.
     let now = g.D.Disk.view c.loop-number.disk in
     let inside : c.loop-number.number < g.L.Log.size log = omega (arith, c.loop-number-test.true, c.count-count.ensures.value) in
     let failed : c.read_change.result ≡ Err NotNode = search rules in
-    no_change g.L.Log.holds g.L.Log.size log c.loop-number.number c.loop-number.ledger.state (g.D.Disk.view c.args.disk.now) now (λ es i held. g.met.L.Log.holds_size log es i held) inside c.loop-number.invariant.keeps
+    no_change g.L.Log.holds g.L.Log.size log c.loop-number.number c.loop-number.ledger.state c.loop-number.bodies (g.D.Disk.view c.args.disk.now) now (λ es i held. g.met.L.Log.holds_size log es i held) inside c.loop-number.invariant.keeps
     (subst (λ (l : g.row.L.Denot). (es : List Entry) → Shows (g.L.Log.holds l es) now → IfSome (slice_get es c.loop-number.number) (λ e. (d : Change) → IsReadable d → is_built d ≡ true → ¬ IsRecord d e.head e.body)) c.loop-number.invariant.log (c.read_change.ensures.not_node failed))
     c.loop-number.invariant.reading
 
@@ -37,13 +37,16 @@ returns-in_err-take_up-clause-not_node g c = λ is.
     let now = g.D.Disk.view c.loop-number.disk in
     let inside : c.loop-number.number < g.L.Log.size log = omega (arith, c.loop-number-test.true, c.count-count.ensures.value) in
     let failed : c.take_up.result ≡ Err NotNode = search rules in
-    not_next one_change g.L.Log.holds g.L.Log.size log c.loop-number.number c.loop-number.ledger.state (g.D.Disk.view c.args.disk.now) now c.in_ok-change.change (λ es i held. g.met.L.Log.holds_size log es i held) inside c.loop-number.invariant.keeps
+    not_next one_change g.L.Log.holds g.L.Log.size log c.loop-number.number c.loop-number.ledger.state c.loop-number.bodies (g.D.Disk.view c.args.disk.now) now c.in_ok-change.change (λ es i held. g.met.L.Log.holds_size log es i held) inside c.loop-number.invariant.keeps
     c.in_ok-change.ensures.readable
     (subst (λ (l : g.row.L.Denot). (es : List Entry) → Shows (g.L.Log.holds l es) now → IfSome (slice_get es c.loop-number.number) (λ e. IsRecord c.in_ok-change.change e.head e.body)) c.loop-number.invariant.log c.in_ok-change.ensures.record_is)
     (c.take_up.ensures.not_node failed) c.loop-number.invariant.reading
 
 pub returns-in_err-take_up-clause-keeps : goal.returns-in_err-take_up-clause-keeps
 returns-in_err-take_up-clause-keeps g c = keeps_then (g.D.Disk.view c.args.disk.now) (g.D.Disk.view c.loop-number.disk) (g.D.Disk.view c.read_change.new.disk) c.loop-number.invariant.keeps c.in_ok-change.ensures.keeps
+
+pub returns-in_err-note_body-clause-keeps : goal.returns-in_err-note_body-clause-keeps
+returns-in_err-note_body-clause-keeps g c = keeps_then (g.D.Disk.view c.args.disk.now) (g.D.Disk.view c.loop-number.disk) (g.D.Disk.view c.read_change.new.disk) c.loop-number.invariant.keeps c.in_ok-change.ensures.keeps
 
 pub loop-number-preserved : goal.loop-number-preserved
 loop-number-preserved g c =
@@ -54,10 +57,10 @@ loop-number-preserved g c =
     record {
       log = c.in_ok-change.ensures.log ∙ c.loop-number.invariant.log;
       keeps = keeps_then first now (g.D.Disk.view c.read_change.new.disk) c.loop-number.invariant.keeps c.in_ok-change.ensures.keeps;
-      reading = reading_more one_change g.L.Log.holds g.L.Log.size log c.loop-number.number c.loop-number.ledger.state c.take_up.new.ledger.state first now c.in_ok-change.change (λ es i held. g.met.L.Log.holds_size log es i held) inside
+      reading = reading_more one_change g.L.Log.holds g.L.Log.size log c.loop-number.number c.loop-number.ledger.state c.take_up.new.ledger.state c.loop-number.bodies c.note_body.new.bodies first now c.in_ok-change.change (λ es i held. g.met.L.Log.holds_size log es i held) inside
           c.loop-number.invariant.keeps c.in_ok-change.ensures.readable
           (subst (λ (l : g.row.L.Denot). (es : List Entry) → Shows (g.L.Log.holds l es) now → IfSome (slice_get es c.loop-number.number) (λ e. IsRecord c.in_ok-change.change e.head e.body)) c.loop-number.invariant.log c.in_ok-change.ensures.record_is)
-          c.in_ok-take_up.ensures.allowed c.in_ok-take_up.ensures.taken c.loop-number.invariant.reading;
+          c.in_ok-take_up.ensures.allowed c.in_ok-take_up.ensures.taken c.in_ok-note_body.ensures.noted c.loop-number.invariant.reading;
     }
 
 pub returns-clause-read : goal.returns-clause-read
@@ -65,7 +68,7 @@ returns-clause-read g c =
     let log = c.args.log.now in
     let all : g.L.Log.size log ≡ c.loop-number.number = omega (arith, c.count-count.ensures.value, c.loop-number-test.false, c.loop-number.auto.number-end) in
     let some : 1 ≤ c.loop-number.number = omega (arith, c.count-count.ensures.value, all, c.if-count-eq0.false) in
-    reading_done g.L.Log.holds g.L.Log.size log c.loop-number.number c.loop-number.ledger.state (g.D.Disk.view c.args.disk.now) (λ es i held. g.met.L.Log.holds_size log es i held) all some c.loop-number.invariant.reading
+    reading_done g.L.Log.holds g.L.Log.size log c.loop-number.number c.loop-number.ledger.state c.loop-number.bodies (g.D.Disk.view c.args.disk.now) (λ es i held. g.met.L.Log.holds_size log es i held) all some c.loop-number.invariant.reading
 
 pub returns-clause-counted : goal.returns-clause-counted
 returns-clause-counted g c =

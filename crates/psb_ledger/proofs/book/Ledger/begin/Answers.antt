@@ -1,13 +1,13 @@
-use Rattle.std.proofs.Common.{ap, ◌∙◌, sym, map, arith}
+use Rattle.std.proofs.Common.{◌≡◌, true, ap, ◌∙◌, sym, map, arith, rules}
 use Rattle.std.specs.Prelude.{is_some}
-use Rattle.psb_model.specs.Conditions.{capacity}
+use Rattle.psb_model.specs.Conditions.{capacity, settings_in}
 use Rattle.psb_ledger.specs.View.{LedgerView, named_row}
-use Rattle.psb_ledger.proofs.Sound.{begun_sound, one_peer_some, text_capacity}
+use Rattle.psb_ledger.proofs.Sound.{begun_sound, text_capacity}
 use Rattle.psb_ledger.proofs.book.Ledger.begin.Goals as goal
 
 pub invariant_of-self : goal.invariant_of-self
 invariant_of-self c =
     let l = c.self.inside in
     let next = ap (λ (v : LedgerView). v.next) c.self.view_is ∙ c.requires.settings in
-    let some = ap is_some (sym next) ∙ one_peer_some l.next (sym c.has_one_peer.ensures ∙ c.if-not-has_one_peer.false) in
+    let some : is_some (settings_in c.args.body.now) ≡ true = ap is_some (sym next) ∙ search rules in
     (begun_sound l.changes l.settings l.accounts.items l.issued l.used c.args.body.now c.take.result c.swap.new.x.items c.if-self-ne0.false c.self.invariant (c.take.ensures.value ∙ next) some (ap (λ v. map named_row v.items) c.swap.ensures.x_after ∙ ap (λ (v : LedgerView). map named_row v.next_accounts) c.self.view_is ∙ c.requires.accounts) (omega (arith, ap capacity (c.take.ensures.value ∙ next), text_capacity c.args.body.now))).1
