@@ -4,10 +4,11 @@
     tests/loopback.py [PROGRAM ..]        tries each program; crates/psb/out/psb where none is named
     tests/loopback.py --image FILE        writes the image of the program's stored run
 
-This script is the node's one peer. It stores 512 bytes with the node, sends a forged frame, compares
-the answer byte for byte, the lines said, the exit status and the file afterwards, and opens the node
-again. It works all values out by itself, from the formats of docs/FORMATS.md. It ends within about half
-a minute for each program, with status 0 where all is well and 1 where something is not.
+This script begins nodes from crates/psb/data/node.toml, and is the node's one peer. It stores 512 bytes
+with the node, sends a forged frame, compares the answer byte for byte, the lines said, the exit status
+and the file afterwards, and opens the node again. It works all values out by itself, from the formats of
+docs/FORMATS.md. It ends within about half a minute for each program, with status 0 where all is well and
+1 where something is not.
 """
 
 import hashlib
@@ -24,6 +25,7 @@ import time
 TOP = os.path.dirname(os.path.dirname(os.path.abspath(__file__)))
 PROGRAM = os.path.join(TOP, "crates", "psb", "out", "psb")
 STORED_IMAGE = os.path.join(TOP, "crates", "psb", "data", "node.img")
+STORED_SETTINGS = os.path.join(TOP, "crates", "psb", "data", "node.toml")
 SECONDS = 30
 
 NODE, PEER = 1, 2
@@ -53,18 +55,16 @@ def image(*records):
     return b"PSBLOG01" + bytes(8) + b"".join(records) + b"\x00"
 
 
-def begun(own_address, peer_address):
-    """The first record of a node with one peer: its settings."""
-    settings = f'''id = {NODE}
-address = "{own_address}"
-seed = "{SEED.hex()}"
-capacity = 64
-[[peer]]
-id = {PEER}
-address = "{peer_address}"
-key = "{KEY.hex()}"
-'''
-    return record(b"\x01", settings.encode())
+def settings(own_address="127.0.0.1:0", peer_address="127.0.0.1:47102"):
+    """The settings file of the repository, with these addresses in the place of its own."""
+    text = read(STORED_SETTINGS).decode()
+    same("the addresses of the settings file", (text.count('"127.0.0.1:0"'), text.count('"127.0.0.1:47102"')), (1, 1))
+    return text.replace("127.0.0.1:0", own_address).replace("127.0.0.1:47102", peer_address).encode()
+
+
+def begun(text):
+    """The first record of a node: its settings text."""
+    return record(b"\x01", text)
 
 
 def took_fresh(deal, slot):
@@ -75,7 +75,7 @@ def took_fresh(deal, slot):
 
 def stored_image():
     """The image of the stored run: port 0 binds any free one, and nothing is sent to the peer."""
-    return image(begun("127.0.0.1:0", "127.0.0.1:47102"))
+    return image(begun(read(STORED_SETTINGS)))
 
 
 # Frames: a header, a body and a tag.
@@ -198,6 +198,51 @@ def read(path):
         return file.read()
 
 
+def write(path, data):
+    with open(path, "wb") as file:
+        file.write(data)
+
+
+def beginnings(program, folder, deadline):
+    """A node begins with a settings file, once; nothing else is taken for one."""
+    disk = os.path.join(folder, "begun.img")
+    run(deadline, program, [disk, "init", STORED_SETTINGS], 0, b"node 1 peers 1\n")
+    same("the file of a node that began", read(disk), stored_image())
+    run(deadline, program, [disk, "init", STORED_SETTINGS], 8, b"disk not empty\n")
+    same("the file that was refused", read(disk), stored_image())
+    third = f'''[[peer]]
+id = 3
+address = "127.0.0.1:47103"
+key = "{bytes(range(64, 96)).hex()}"
+hops = 2
+'''
+    two = os.path.join(folder, "two.toml")
+    write(two, settings() + third.encode())
+    run(deadline, program, [os.path.join(folder, "two.img"), "init", two], 0, b"node 1 peers 2\n")
+    said = b"peer 2 held 0 back 0 debt 0\npeer 3 held 0 back 0 debt 0\nturns 1 taken 0 dropped 0 lost 0\n"
+    run(deadline, program, [os.path.join(folder, "two.img"), "serve", "1"], 0, said)
+    link = os.path.join(folder, "link.toml")
+    os.symlink(two, link)
+    bad = os.path.join(folder, "bad.toml")
+    write(bad, settings().replace(b"capacity = 64", b"capacity = -1"))
+    long = os.path.join(folder, "long.toml")
+    write(long, settings() + b"#" * 65_536)
+    for file, status, said in (
+        (os.path.join(folder, "missing.toml"), 5, b"folder fault\n"),
+        (folder, 5, b"folder fault\n"),
+        (link, 5, b"folder fault\n"),
+        (bad, 9, b"bad settings\n"),
+        (long, 9, b"bad settings\n"),
+        (folder + "//two.toml", 2, b"usage\n"),
+        ("../two.toml", 2, b"usage\n"),
+    ):
+        other = os.path.join(folder, "other.img")
+        run(deadline, program, [other, "init", file], status, said)
+        same("the file of a node that did not begin", os.path.exists(other) and read(other), status != 2 and b"")
+        if os.path.exists(other):
+            os.remove(other)
+
+
 def refusals(program, folder, deadline):
     """Command lines that are none, and disks that hold no node."""
     made = os.path.join(folder, "made.img")
@@ -221,9 +266,12 @@ def serving(program, folder, deadline):
     with socket.socket(socket.AF_INET, socket.SOCK_DGRAM) as peer:
         peer.bind(("127.0.0.1", 0))
         port = free_port()
-        first = begun(f"127.0.0.1:{port}", f"127.0.0.1:{peer.getsockname()[1]}")
-        with open(path, "wb") as file:
-            file.write(image(first))
+        text = settings(f"127.0.0.1:{port}", f"127.0.0.1:{peer.getsockname()[1]}")
+        first = begun(text)
+        file = os.path.join(folder, "node.toml")
+        write(file, text)
+        run(deadline, program, [path, "init", file], 0, b"node 1 peers 1\n")
+        same("the file of the node", read(path), image(first))
         node = start(program, path, "serve", "40")
         try:
             while not is_bound(port):
@@ -254,20 +302,20 @@ def serving(program, folder, deadline):
 
 def main(words):
     if words[:1] == ["--image"]:
-        with open(words[1], "wb") as file:
-            file.write(stored_image())
+        write(words[1], stored_image())
         return 0
     try:
         same("the image of the stored run", read(STORED_IMAGE), stored_image())
         for program in words or [PROGRAM]:
             deadline = time.monotonic() + SECONDS
             with tempfile.TemporaryDirectory(prefix="psb-loopback-") as folder:
+                beginnings(os.path.abspath(program), folder, deadline)
                 refusals(os.path.abspath(program), folder, deadline)
                 serving(os.path.abspath(program), folder, deadline)
     except (Wrong, OSError) as error:
         print(f"loopback: FAILED: {error}")
         return 1
-    print("loopback: a Store was taken, answered byte for byte and found again; a forged frame was dropped")
+    print("loopback: nodes began once each; a Store was taken, answered byte for byte and found again; a forged frame was dropped")
     return 0
 
 

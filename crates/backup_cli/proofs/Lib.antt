@@ -8,3 +8,6 @@ pub mod SettingsStay
 pub mod Outcomes
 pub mod Filling
 pub mod Untelling
+pub mod FileReads
+pub mod Beginnings
+pub mod FolderNames

@@ -3,5 +3,8 @@ pub mod Lines
 pub mod Status
 pub mod Says
 pub mod Served
+pub mod Files
+pub mod Begun
 pub mod Untold
+pub mod UntoldFolder
 pub mod Transfers

@@ -15,7 +15,7 @@ use Rattle.backup_cli.specs.Status.{refusal_line}
 use Rattle.backup_cli.specs.declared.saying.SayError.{SayError}
 use Rattle.backup_cli.specs.declared.saying.SayError.TheVariants as say_error
 use Rattle.backup_cli.specs.declared.status.Status.{Status}
-use Rattle.backup_cli.specs.declared.status.Status.TheVariants.{Done, Usage, DiskFault, LinkFault, SayFault, NotNode, Memory}
+use Rattle.backup_cli.specs.declared.status.Status.TheVariants.{Done, Usage, DiskFault, LinkFault, FolderFault, SayFault, NotNode, Already, BadSettings, Memory}
 
 -- a run that tries to say so many texts, says these bytes, and makes no other call
 pub record Utters (old new : View) (tried : ℕ) (text : List ℕ) : Type 0 where
@@ -70,7 +70,10 @@ HowSaid SayFault all full tried refusal rose = (full < all) × (tried ≡ full +
 HowSaid Memory all full tried refusal rose = (tried ≡ full + 1) × ((refusal ≡ refusal_line Memory) ⊎ ((refusal ≡ []) × rose))
 HowSaid DiskFault all full tried refusal rose = (full ≡ 0) × (tried ≡ 1) × ((refusal ≡ refusal_line DiskFault) ⊎ ((refusal ≡ []) × rose))
 HowSaid LinkFault all full tried refusal rose = (full ≡ 0) × (tried ≡ 1) × ((refusal ≡ refusal_line LinkFault) ⊎ ((refusal ≡ []) × rose))
+HowSaid FolderFault all full tried refusal rose = (full ≡ 0) × (tried ≡ 1) × ((refusal ≡ refusal_line FolderFault) ⊎ ((refusal ≡ []) × rose))
 HowSaid NotNode all full tried refusal rose = (full ≡ 0) × (tried ≡ 1) × ((refusal ≡ refusal_line NotNode) ⊎ ((refusal ≡ []) × rose))
+HowSaid Already all full tried refusal rose = (full ≡ 0) × (tried ≡ 1) × ((refusal ≡ refusal_line Already) ⊎ ((refusal ≡ []) × rose))
+HowSaid BadSettings all full tried refusal rose = (full ≡ 0) × (tried ≡ 1) × ((refusal ≡ refusal_line BadSettings) ⊎ ((refusal ≡ []) × rose))
 HowSaid Usage all full tried refusal rose = (full ≡ 0) × (tried ≡ 1) × ((refusal ≡ refusal_line Usage) ⊎ ((refusal ≡ []) × rose))
 
 -- what was said of these lines on the way to a status, in so many tries

@@ -11,7 +11,7 @@ use std::io;
 use std::net::Net;
 use std::time::{Clock, SystemTime, UNIX_EPOCH};
 
-mod counts;
+pub(crate) mod counts;
 mod file;
 mod link;
 mod transfer;

@@ -1,7 +1,10 @@
 //! The program `psb`: its words, what it does and says, and the status that it ends with.
 #![tactic(auto)]
 
+mod beginning;
+mod files;
 pub mod host;
+pub mod host_folder;
 mod lines;
 mod program;
 mod saying;
@@ -11,4 +14,4 @@ mod words;
 
 pub use program::run;
 pub use status::Status;
-pub use words::words_fix_the_turns;
+pub use words::words_fix_the_command;

@@ -1,5 +1,5 @@
 ghost use Rattle.std.specs.Prelude.{◌≡◌, IfOk, string_bytes};
-ghost use Rattle.backup_cli.specs.Lines.{peer_line, turns_line};
+ghost use Rattle.backup_cli.specs.Lines.{peer_line, turns_line, node_line};
 
 use std::alloc::{AllocError, Global};
 
@@ -28,6 +28,13 @@ pub(crate) fn turns_line(
     ensures { IfOk result (λ s. string_bytes s ≡ turns_line turns taken dropped lost) }
 {
     format!(in alloc; "turns {turns} taken {taken} dropped {dropped} lost {lost}\n")
+}
+
+/// The line of `init`: the id of the node that has begun, and how many peers it has.
+pub(crate) fn node_line(alloc: Global, id: u32, peers: usize) -> Result<String, AllocError>
+    ensures { IfOk result (λ s. string_bytes s ≡ node_line id peers) }
+{
+    format!(in alloc; "node {id} peers {peers}\n")
 }
 
 #[cfg(test)]

@@ -45,6 +45,7 @@ fn serve_opened<L: Log, S: Station>(
     ensures link_cause { result ≡ Status.LinkFault → Rose (S.view station.old).outside.link_faults (S.view station.new).outside.link_faults }
     ensures say_cause { result ≡ Status.SayFault → Rose (S.view station.old).outside.say_faults (S.view station.new).outside.say_faults }
     ensures only { (result ≢ Status.Usage) × (result ≢ Status.NotNode) }
+    ensures no_begin { (result ≢ Status.FolderFault) × (result ≢ Status.Already) × (result ≢ Status.BadSettings) }
 {
     match join_all(node, station) {
         Ok(()) => {}
@@ -84,6 +85,7 @@ pub(crate) fn serve_command<L: Log, S: Station>(
     ensures link_cause { result ≡ Status.LinkFault → Rose (S.view station.old).outside.link_faults (S.view station.new).outside.link_faults }
     ensures say_cause { result ≡ Status.SayFault → Rose (S.view station.old).outside.say_faults (S.view station.new).outside.say_faults }
     ensures only { result ≢ Status.Usage }
+    ensures no_begin { (result ≢ Status.FolderFault) × (result ≢ Status.Already) × (result ≢ Status.BadSettings) }
 {
     let mut node = match Node::<L>::open(alloc, station) {
         Ok(node) => node,

@@ -13,10 +13,16 @@ pub enum Status {
     /// A join, or the receiving of a frame, failed on the link during the run. A frame that could not
     /// be sent is counted as lost instead.
     LinkFault,
+    /// A call on the folder failed during the run.
+    FolderFault,
     /// A line on the way to `Done` could not be said. The changes made stay.
     SayFault,
     /// The disk holds no node.
     NotNode,
+    /// A node was to begin on a disk that is not empty.
+    Already,
+    /// The settings file says no settings, or is too long.
+    BadSettings,
     /// A request for memory was refused.
     Memory,
 }
@@ -31,8 +37,11 @@ impl Status {
             Status::Usage => 2,
             Status::DiskFault => 3,
             Status::LinkFault => 4,
+            Status::FolderFault => 5,
             Status::SayFault => 6,
             Status::NotNode => 7,
+            Status::Already => 8,
+            Status::BadSettings => 9,
             Status::Memory => 18,
         }
     }
@@ -46,7 +55,10 @@ impl Status {
             Status::Usage => b"usage\n",
             Status::DiskFault => b"disk fault\n",
             Status::LinkFault => b"link fault\n",
+            Status::FolderFault => b"folder fault\n",
             Status::NotNode => b"not a node\n",
+            Status::Already => b"disk not empty\n",
+            Status::BadSettings => b"bad settings\n",
             Status::Memory => b"no memory\n",
         }
     }

@@ -1,18 +1,79 @@
-ghost use Rattle.std.specs.Prelude.{◌≡◌, ◌≢◌, ℕ, ◌<◌, ◌≤◌, ◌^◌, ◌↔◌, ◌⊎◌, IsTrue, IfSome, IfNone, map, length, slice_index, string_bytes, decimal};
-ghost use Rattle.backup_cli.specs.Words.{IsServe, FixTheTurns};
+ghost use Rattle.std.specs.Prelude.{◌≡◌, ◌≢◌, ℕ, ◌<◌, ◌≤◌, ◌^◌, ◌↔◌, ◌⊎◌, [], ◌∷◌, IsTrue, IfSome, IfNone, map, length, slice_index, string_bytes, decimal};
+ghost use Rattle.std.specs.List.{list_all, slice_split};
+ghost use Rattle.backup_cli.specs.Words.{is_slash, is_name, is_path, below_root, IsCommand, IsNoCommand, FixTheCommand};
 
 /// The greatest number of turns that one command asks for.
 const MOST_TURNS: u32 = 1_000_000;
 
-/// The number of turns of the command `serve TURNS`; none where the words are not that command.
-pub(crate) fn read_words(words: &[String]) -> Option<u32>
-    ensures some { IfSome result (λ turns. IsServe (map string_bytes words.now) turns) }
-    ensures none { IfNone result ((turns : ℕ) → ¬ IsServe (map string_bytes words.now) turns) }
+/// The most bytes of a path.
+const MOST_PATH_BYTES: usize = 4_096;
+
+/// What the words ask for.
+#[derive(Clone, Copy, Debug, PartialEq, Eq)]
+pub(crate) enum Command<'a> {
+    /// `serve TURNS`: the node is served for so many turns.
+    Serve(u32),
+    /// `init FILE`: a node is begun with the settings in the file at this path.
+    Init(&'a str),
+}
+
+/// The command that words are, if they are one.
+pub(crate) fn read_words(words: &[String]) -> Option<Command<'_>>
+    ensures some { IfSome result (λ command. IsCommand (map string_bytes words.now) command) }
+    ensures none { IfNone result (IsNoCommand (map string_bytes words.now)) }
 {
     match words {
-        [command, turns] if command.as_str() == "serve" => read_turns(turns.as_str()),
+        [command, word] => read_command(command.as_str(), word.as_str()),
         _ => None,
     }
+}
+
+/// The command that two words are, if they are one.
+fn read_command<'a>(command: &str, word: &'a str) -> Option<Command<'a>>
+    ensures some { IfSome result (λ c. IsCommand (command.now ∷ word.now ∷ []) c) }
+    ensures none { IfNone result (IsNoCommand (command.now ∷ word.now ∷ [])) }
+{
+    match command {
+        "serve" => Some(Command::Serve(read_turns(word)?)),
+        "init" if is_path(word) => Some(Command::Init(word)),
+        _ => None,
+    }
+}
+
+/// Whether a text is a path: 1 to 4,096 bytes, a `/` in front or none, and then names with a `/`
+/// between each two of them.
+fn is_path(text: &str) -> bool
+    ensures { result ≡ is_path text.now }
+{
+    1 <= text.len() && text.len() <= MOST_PATH_BYTES && has_names(without_root(text))
+}
+
+/// A path without the `/` in front that it may have.
+fn without_root(path: &str) -> &str
+    ensures { result.now ≡ below_root path.now }
+{
+    match path.strip_prefix('/') {
+        Some(rest) => rest,
+        None => path,
+    }
+}
+
+/// Whether each part of a path is a name.
+fn has_names(path: &str) -> bool
+    ensures { result ≡ list_all is_name (slice_split is_slash path.now) }
+{
+    path.split('/').all(|part| is_name(part))
+}
+
+/// Whether a part of a path is a name: not empty, without NUL, and neither `.` nor `..`.
+fn is_name(part: &str) -> bool
+    ensures { result ≡ is_name part.now }
+{
+    let bytes = part.as_bytes();
+    !bytes.is_empty()
+        && !bytes.contains(&0)
+        && bytes != b".".as_slice()
+        && bytes != b"..".as_slice()
 }
 
 /// The number of turns, 1 to 1,000,000, that a text spells.
@@ -45,10 +106,10 @@ fn is_padded(text: &str) -> bool
     matches!(text.as_bytes(), [b'+', ..] | [b'0', _, ..])
 }
 
-/// The law that the words of `serve` name one number of turns.
-#[tactic(auto, using(crate::proofs::WordLemmas::turns_are_fixed))]
-pub fn words_fix_the_turns()
-    ensures { FixTheTurns }
+/// The law that words are those of one command at most, and name one number of turns or one file.
+#[tactic(auto, using(crate::proofs::WordLemmas::command_is_fixed))]
+pub fn words_fix_the_command()
+    ensures { FixTheCommand }
 {}
 
 #[cfg(test)]

@@ -22,7 +22,7 @@ use Rattle.psb_model.proofs.Prefixes.{state_snoc, changes_counted}
 use Rattle.wire_codec.specs.Frames.{Incoming, read_frame, key_in, datagram}
 use Rattle.wire_codec.specs.declared.frame.Dropped.{Dropped}
 use Rattle.psb_machine.specs.Deals.{standing, code_of, first_that_holds, store_reasons, took_fresh, judged, judged_store, meets_others}
-use Rattle.psb_machine.specs.Replies.{reply_of, reply, is_answerable}
+use Rattle.psb_machine.specs.Replies.{reply_of, reply}
 use Rattle.psb_machine.specs.Machine.{Situation, Input, Datagram, Reaction, keys_of, by_standing, on_deal, on_read, tells_again, react, next, drops, quiet}
 use Rattle.psb_machine.specs.Stores.{StoreFits}
 use Rattle.psb_machine.specs.declared.deals.Standing.{Standing}
@@ -43,7 +43,7 @@ use Rattle.node_core.specs.Stored.{Knows, KnowsSettings, Stored}
 use Rattle.node_core.specs.Offers.{IsOffer}
 use Rattle.node_core.specs.declared.bodies.Bodies.{Bodies}
 use Rattle.node_core.specs.Bodies.{record_of, NotesBody, SameBodies}
-use Rattle.node_core.specs.Making.{MayMake, CanTell, CanMake, refused_by, why_refused, made_of, made_in}
+use Rattle.node_core.specs.Making.{CanTell, CanMake, refused_by, why_refused, made_of, made_in}
 use Rattle.node_core.specs.Taking.{MakesChange, TellsAgain, TellsOf, IsToldAgain, SameOwner, Grew, GrewSomehow, Made, numbered}
 use Rattle.node_core.proofs.Brought.{bodies_grown}
 use Rattle.node_core.specs.declared.outcome.Letter.{Letter}

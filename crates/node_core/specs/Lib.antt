@@ -4,6 +4,7 @@ pub mod Readable
 pub mod Stands
 pub mod Bodies
 pub mod Stored
+pub mod Begun
 pub mod Offers
 pub mod Making
 pub mod Again

@@ -9,6 +9,8 @@ ghost use Rattle.psb_model.specs.declared.change.Change.{Change};
 ghost use Rattle.psb_machine.specs.Machine.{Situation, Datagram, react, next, key_of_row};
 ghost use Rattle.node_core.specs.Making.{CanMake, CanTell, MayMake, made_of, made_in};
 
+mod begin;
+
 use crate::bodies::Bodies;
 use crate::decision::Decision;
 use crate::history::{Past, note_body, read_history};

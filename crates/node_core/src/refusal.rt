@@ -155,3 +155,6 @@ pub(crate) fn refusal_of<L: Log, D: Disk>(
     };
     Ok(first_reason(offer, ledger, settings, named, clash))
 }
+
+#[cfg(test)]
+mod tests;

@@ -151,7 +151,8 @@ pub trait Log: Sized + Drop {
         ensures disk_cause { result ≡ Err LogError.DiskFault → Rose (D.view disk.old).disk_faults (D.view disk.new).disk_faults }
         ensures refused { (result ≡ Err LogError.Broken) ↔ (is_broken self.old ≡ true) }
         ensures untouched { is_broken self.old ≡ true → (disk.new ≡ disk.old) × (into.new ≡ into.old) }
-        ensures only { OnErr result ((result ≡ Err LogError.Broken) ⊎ (result ≡ Err LogError.DiskFault) ⊎ (result ≡ Err LogError.Memory)) };
+        ensures only { OnErr result ((result ≡ Err LogError.Broken) ⊎ (result ≡ Err LogError.DiskFault) ⊎ (result ≡ Err LogError.Memory)) }
+        ensures memory { result ≡ Err LogError.Memory → disk.new ≡ disk.old };
 
     /// Reads the body of a record in place of what `into` held.
     fn body<D: Disk>(
@@ -170,7 +171,8 @@ pub trait Log: Sized + Drop {
         ensures disk_cause { result ≡ Err LogError.DiskFault → Rose (D.view disk.old).disk_faults (D.view disk.new).disk_faults }
         ensures refused { (result ≡ Err LogError.Broken) ↔ (is_broken self.old ≡ true) }
         ensures untouched { is_broken self.old ≡ true → (disk.new ≡ disk.old) × (into.new ≡ into.old) }
-        ensures only { OnErr result ((result ≡ Err LogError.Broken) ⊎ (result ≡ Err LogError.DiskFault) ⊎ (result ≡ Err LogError.Memory)) };
+        ensures only { OnErr result ((result ≡ Err LogError.Broken) ⊎ (result ≡ Err LogError.DiskFault) ⊎ (result ≡ Err LogError.Memory)) }
+        ensures memory { result ≡ Err LogError.Memory → disk.new ≡ disk.old };
 
     /// Whether the body of a record was not given up.
     fn has_body(&self, number: u64) -> bool

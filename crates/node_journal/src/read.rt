@@ -36,6 +36,7 @@ pub fn read_part<D: Disk>(
     ensures reads { (D.view disk.new).write_faults ≡ (D.view disk.old).write_faults }
     ensures disk_cause { result ≡ Err LogError.DiskFault → Rose (D.view disk.old).disk_faults (D.view disk.new).disk_faults }
     ensures only { OnErr result ((result ≡ Err LogError.DiskFault) ⊎ (result ≡ Err LogError.Memory)) }
+    ensures memory { result ≡ Err LogError.Memory → disk.new ≡ disk.old }
 {
     into.clear();
     into.resize(len as usize, 0)?;

@@ -3,8 +3,8 @@
 #![tactic(auto)]
 
 use backup_cli::host::HostStation;
+use backup_cli::host_folder::HostFolder;
 use backup_cli::{Status, run};
-use psb_station::MemFolder;
 use std::alloc::AllocError;
 use std::env;
 use std::env::Env;
@@ -37,7 +37,7 @@ where
         words.remove(0)
     };
     let mut station = HostStation::new(alloc, rt, disk);
-    let mut folder = MemFolder::new(alloc, Vec::new(alloc));
+    let mut folder = HostFolder::new(alloc, rt);
     run(alloc, &mut station, &mut folder, &words)
 }
 

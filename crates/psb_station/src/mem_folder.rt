@@ -1,156 +1,180 @@
-ghost use Rattle.std.specs.Prelude.{◌≡◌, ◌++◌, [], ◌∷◌, OnOk, OnErr};
-ghost use Rattle.psb_station.specs.Calls.{Grows};
-ghost use Rattle.psb_station.specs.MemFolder.{call_of, tried_of, calls_of};
+ghost use Rattle.std.specs.Prelude.{◌≡◌, ◌-◌, OnOk, OnErr, length, take, drop, min, Some, None, true};
+ghost use Rattle.std.specs.FinMap.{get, insert};
+ghost use Rattle.psb_station.specs.Folder.{plain, parent, Folder, File};
+ghost use Rattle.psb_station.specs.MemTree.{stored_of, takes_folder, takes_file, with_put};
 
+use crate::call_log::{CallKind, CallLog};
 use crate::count::fault;
-use crate::{Failed, Folder, FolderError, Item};
-use std::alloc::{AllocError, Global};
+use crate::mem_tree::{Node, Tree};
+use crate::paths::{parent, plain};
+use crate::{Failed, Folder, FolderError, Item, Kind};
+use psb_bytes::Memory;
+use std::alloc::Global;
 
-/// A call of a folder.
-#[derive(Clone, Copy)]
-pub enum CallKind {
-    List,
-    ReadPiece,
-    MakeFolder,
-    MakeFile,
-    Append,
-}
-
-/// A call that was tried.
-#[derive(Drop)]
-pub struct Tried {
-    pub kind: CallKind,
-    pub path: Vec<u8>,
-}
-
-/// A folder in memory. So far each of its calls fails, and is counted.
+/// A folder in memory. It keeps the calls that were tried, and fails at those of the given numbers,
+/// counted from 1 over all its methods of the trait. A call whose own growth is refused fails too,
+/// but `list` answers `Memory` where its answer could not be made.
 #[derive(Drop)]
 pub struct MemFolder {
     alloc: Global,
-    /// The numbers of the calls that fail.
-    faults: Vec<u64>,
-    tried: Vec<Tried>,
-    /// Whether each call could be kept.
-    whole: bool,
+    tree: Tree,
+    log: CallLog,
     folder_faults: u64,
 }
 
-fn push_tried(
-    alloc: Global,
-    tried: &mut Vec<Tried>,
-    kind: CallKind,
-    path: &str,
-) -> Result<(), AllocError>
-    ensures ok { OnOk result (tried_of tried.new.items ≡ tried_of tried.old.items ++ call_of kind path.now ∷ []) }
-    ensures err { OnErr result (tried_of tried.new.items ≡ tried_of tried.old.items) }
+/// Fills bytes of a file, from a place on, as many as stand and fit.
+fn copy_piece(bytes: &[u8], at: u64, into: &mut [u8]) -> usize
+    ensures count { result ≡ min (length into.new) (length bytes.now - at) }
+    ensures piece { take result into.new ≡ take result (drop at bytes.now) }
 {
-    let path = path.as_bytes().to_vec(alloc)?;
-    tried.push(Tried { kind, path })?;
-    Ok(())
+    if at >= bytes.len() as u64 {
+        return 0;
+    }
+    let begin = at as usize;
+    let count = into.len().min(bytes.len() - begin);
+    into[..count].copy_from_slice(&bytes[begin..begin + count]);
+    count
 }
 
-/// Keeps a call that is tried. Where its growth is refused, the calls are told no more.
-fn keep_tried(alloc: Global, tried: &mut Vec<Tried>, whole: &mut bool, kind: CallKind, path: &str)
-    ensures { Grows (calls_of whole.old tried.old.items) (calls_of whole.new tried.new.items) (call_of kind path.now ∷ []) }
+/// Makes an entry where nothing stands and the path is in a folder.
+fn make(tree: &mut Tree, path: &str, node: Node) -> Result<(), Failed>
+    ensures parent { OnOk result (get tree.old (parent path.now) ≡ Some Folder) }
+    ensures new { OnOk result (get tree.old path.now ≡ None) }
+    ensures made { OnOk result (tree.new ≡ insert tree.old path.now (stored_of node)) }
+    ensures err { OnErr result (tree.new ≡ tree.old) }
 {
-    match push_tried(alloc, tried, kind, path) {
-        Ok(()) => {}
-        Err(_) => *whole = false,
+    let Some(Kind::Folder) = tree.kind(parent(path)) else {
+        return Err(Failed);
+    };
+    match tree.kind(path) {
+        Some(_) => Err(Failed),
+        None => match tree.insert(path, node) {
+            Ok(()) => Ok(()),
+            Err(_) => Err(Failed),
+        },
     }
 }
 
 impl MemFolder {
-    ghost use Rattle.psb_station.specs.MemFolder.{view_of, IsFresh};
+    ghost use Rattle.psb_station.specs.MemFolder.{view_of, holds, calls_made, failing, IsFresh, Puts};
 
-    /// A folder that holds its root alone. Takes no memory.
+    /// A folder that holds its root alone; its calls of the given numbers fail. Takes no memory.
     pub fn new(alloc: Global, faults: Vec<u64>) -> MemFolder
-        ensures { IsFresh (view_of result) }
+        ensures fresh { IsFresh (view_of result) }
+        ensures failing { failing result ≡ faults.items }
+        ensures no_call { calls_made result ≡ 0 }
     {
         MemFolder {
             alloc,
-            faults,
-            tried: Vec::new(alloc),
-            whole: true,
+            tree: Tree::new(alloc),
+            log: CallLog::new(alloc, faults),
             folder_faults: 0,
         }
+    }
+
+    /// Whether a folder may be put at a path: no file stands there or above it.
+    pub fn takes_folder(&self, path: &str) -> bool
+        ensures { result ≡ takes_folder (holds self.now) (plain path.now) }
+    {
+        self.tree.takes_folder(plain(path))
+    }
+
+    /// Whether a file may be put at a path: no folder stands there, and no file above it.
+    pub fn takes_file(&self, path: &str) -> bool
+        ensures { result ≡ takes_file (holds self.now) (plain path.now) }
+    {
+        self.tree.takes_file(plain(path))
+    }
+
+    /// Puts a folder at a path, with the folders above it. This is no call of the folder.
+    pub fn put_folder(&mut self, path: &str) -> Result<(), Memory>
+        requires { takes_folder (holds self.old) (plain path.now) ≡ true }
+        ensures ok { OnOk result (Puts (with_put (holds self.old) (plain path.now) Folder) self.old self.new) }
+        ensures err { OnErr result (Puts (holds self.old) self.old self.new) }
+    {
+        self.tree.put_folder(plain(path))?;
+        Ok(())
+    }
+
+    /// Puts a file at a path, in the place of an older one, with the folders above it. This is no
+    /// call of the folder.
+    pub fn put_file(&mut self, path: &str, content: &[u8]) -> Result<(), Memory>
+        requires { takes_file (holds self.old) (plain path.now) ≡ true }
+        ensures ok { OnOk result (Puts (with_put (holds self.old) (plain path.now) (File content.now)) self.old self.new) }
+        ensures err { OnErr result (Puts (holds self.old) self.old self.new) }
+    {
+        let bytes = content.to_vec(self.alloc)?;
+        self.tree.put_file(plain(path), bytes)?;
+        Ok(())
     }
 }
 
 impl Folder for MemFolder {
-    ghost use Rattle.psb_station.specs.MemFolder.{view_of};
+    ghost use Rattle.psb_station.specs.MemFolder.{view_of, is_due_next};
 
     ghost view = { view_of };
 
+    ghost fails_next = { is_due_next };
+
     fn list(&mut self, path: &str) -> Result<Vec<Item>, FolderError> {
-        keep_tried(
-            self.alloc,
-            &mut self.tried,
-            &mut self.whole,
-            CallKind::List,
-            path,
-        );
-        fault(&mut self.folder_faults);
-        Err(FolderError::Failed)
+        let due = self.log.begin(CallKind::List, path);
+        let path = plain(path);
+        match self.tree.kind(path) {
+            Some(Kind::Folder) if !due => match self.tree.children(path) {
+                Ok(items) => Ok(items),
+                Err(_) => Err(FolderError::Memory),
+            },
+            _ => {
+                fault(&mut self.folder_faults);
+                Err(FolderError::Failed)
+            }
+        }
     }
 
-    fn read_piece(&mut self, path: &str, _at: u64, _into: &mut [u8]) -> Result<usize, Failed> {
-        keep_tried(
-            self.alloc,
-            &mut self.tried,
-            &mut self.whole,
-            CallKind::ReadPiece,
-            path,
-        );
-        Err(fault(&mut self.folder_faults))
+    fn read_piece(&mut self, path: &str, at: u64, into: &mut [u8]) -> Result<usize, Failed> {
+        if self.log.begin(CallKind::ReadPiece, path) {
+            return Err(fault(&mut self.folder_faults));
+        }
+        match self.tree.file(plain(path)) {
+            Some(bytes) => Ok(copy_piece(bytes, at, into)),
+            None => Err(fault(&mut self.folder_faults)),
+        }
     }
 
     fn make_folder(&mut self, path: &str) -> Result<(), Failed> {
-        keep_tried(
-            self.alloc,
-            &mut self.tried,
-            &mut self.whole,
-            CallKind::MakeFolder,
-            path,
-        );
-        Err(fault(&mut self.folder_faults))
+        if self.log.begin(CallKind::MakeFolder, path) {
+            return Err(fault(&mut self.folder_faults));
+        }
+        match make(&mut self.tree, plain(path), Node::Folder) {
+            Ok(()) => Ok(()),
+            Err(_) => Err(fault(&mut self.folder_faults)),
+        }
     }
 
     fn make_file(&mut self, path: &str) -> Result<(), Failed> {
-        keep_tried(
-            self.alloc,
-            &mut self.tried,
-            &mut self.whole,
-            CallKind::MakeFile,
-            path,
-        );
-        Err(fault(&mut self.folder_faults))
+        if self.log.begin(CallKind::MakeFile, path) {
+            return Err(fault(&mut self.folder_faults));
+        }
+        match make(
+            &mut self.tree,
+            plain(path),
+            Node::File(Vec::new(self.alloc)),
+        ) {
+            Ok(()) => Ok(()),
+            Err(_) => Err(fault(&mut self.folder_faults)),
+        }
     }
 
-    fn append(&mut self, path: &str, _piece: &[u8]) -> Result<(), Failed> {
-        keep_tried(
-            self.alloc,
-            &mut self.tried,
-            &mut self.whole,
-            CallKind::Append,
-            path,
-        );
-        Err(fault(&mut self.folder_faults))
+    fn append(&mut self, path: &str, piece: &[u8]) -> Result<(), Failed> {
+        if self.log.begin(CallKind::Append, path) {
+            return Err(fault(&mut self.folder_faults));
+        }
+        match self.tree.append(plain(path), piece) {
+            Ok(()) => Ok(()),
+            Err(_) => Err(fault(&mut self.folder_faults)),
+        }
     }
 }
 
 #[cfg(test)]
-mod tests {
-    use super::*;
-
-    #[test]
-    fn each_call_of_the_folder_fails(rt: HostRuntime) {
-        let alloc = rt.alloc();
-        let mut folder = MemFolder::new(alloc, Vec::new(alloc));
-        let mut into = [0; 4];
-        assert!(rt; matches!(folder.list("."), Err(FolderError::Failed)));
-        assert_eq!(rt; folder.read_piece("a", 0, &mut into), Err(Failed));
-        assert_eq!(rt; folder.make_folder("b"), Err(Failed));
-        assert_eq!(rt; folder.make_file("a"), Err(Failed));
-        assert_eq!(rt; folder.append("a", &[1]), Err(Failed));
-    }
-}
+mod tests;

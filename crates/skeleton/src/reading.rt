@@ -1,5 +1,5 @@
 //! The readers of the two texts.
-ghost use Rattle.std.specs.Prelude.{◌≡◌, ◌≢◌, [], length, MatchResult, IsTrue, IfOk, IfErr, Ok, Err};
+ghost use Rattle.std.specs.Prelude.{◌≡◌, ◌≢◌, [], length, MatchResult, IsTrue, IsOk, IfOk, IfErr, Ok, Err};
 ghost use Rattle.std.specs.List.{list_all};
 ghost use Rattle.skeleton.specs.Entries.{is_ref};
 ghost use Rattle.skeleton.specs.Texts.{skeleton_text, refs_text};
@@ -137,6 +137,7 @@ pub fn read_skeleton(alloc: Global, text: &[u8]) -> Result<Skeleton, SkelError>
     ensures ok { IfOk result (λ s. skeleton_of text.now ≡ Ok s) }
     ensures spelled { IfOk result (λ s. text.now ≡ skeleton_text s) }
     ensures bad { IfErr result (λ e. IsRefusalOf e (skeleton_of text.now)) }
+    ensures memory { result ≡ Err SkelError.Memory → IsOk (marked SKELETON_MARK text.now) }
 {
     let mut reader = behind_mark(text, SKELETON_MARK)?;
     let skeleton = take_entries(alloc, &mut reader)?;
@@ -151,6 +152,7 @@ pub fn read_refs(alloc: Global, text: &[u8]) -> Result<RefList, SkelError>
     ensures spelled { IfOk result (λ refs. text.now ≡ refs_text refs) }
     ensures valid { IfOk result (λ refs. IsTrue (list_all is_ref refs)) }
     ensures bad { IfErr result (λ e. IsRefusalOf e (refs_of text.now)) }
+    ensures memory { result ≡ Err SkelError.Memory → IsOk (marked REFS_MARK text.now) }
 {
     let mut reader = behind_mark(text, REFS_MARK)?;
     let refs = take_refs(alloc, &mut reader)?;

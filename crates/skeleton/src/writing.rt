@@ -1,5 +1,5 @@
 //! The writers of the two texts.
-ghost use Rattle.std.specs.Prelude.{◌≡◌, ◌≤◌, ◌<◌, ◌+◌, ◌*◌, ◌^◌, ◌++◌, ◌∷◌, [], length, flat_map, IsTrue, OnOk, IfOk, MatchOption, Ok, Err};
+ghost use Rattle.std.specs.Prelude.{◌≡◌, ◌↔◌, ◌≤◌, ◌<◌, ◌+◌, ◌*◌, ◌^◌, ◌++◌, ◌∷◌, [], length, flat_map, IsTrue, OnOk, IfOk, MatchOption, Ok, Err};
 ghost use Rattle.std.specs.List.{list_all};
 ghost use Rattle.psb_bytes.specs.Numbers.{u32_bytes};
 ghost use Rattle.skeleton.specs.Entries.{IsSkeleton, has_digests, has_chunk_len};
@@ -153,7 +153,7 @@ fn put_entries(out: &mut Vec<u8>, entries: &[Entry]) -> Result<(), Memory>
 pub fn write_skeleton(alloc: Global, skeleton: &Skeleton) -> Result<Vec<u8>, WriteError>
     ensures exact { IfOk result (λ v. v.items ≡ skeleton_text skeleton.now) }
     ensures room { OnOk result (length (skeleton_text skeleton.now) ≤ MOST_TEXT_BYTES) }
-    ensures too_large { result ≡ Err WriteError.TooLarge → MOST_TEXT_BYTES < length (skeleton_text skeleton.now) }
+    ensures too_large { (result ≡ Err WriteError.TooLarge) ↔ (MOST_TEXT_BYTES < length (skeleton_text skeleton.now)) }
     ensures read { IfOk result (λ v. skeleton_of v.items ≡ Ok skeleton.now) }
 {
     let entries = skeleton.entries();
@@ -171,7 +171,7 @@ pub fn write_refs(alloc: Global, refs: &RefList) -> Result<Vec<u8>, WriteError>
     requires { IsTrue (list_all has_chunk_len refs.now) }
     ensures exact { IfOk result (λ v. v.items ≡ refs_text refs.now) }
     ensures room { OnOk result (length (refs_text refs.now) ≤ MOST_TEXT_BYTES) }
-    ensures too_large { result ≡ Err WriteError.TooLarge → MOST_TEXT_BYTES < length (refs_text refs.now) }
+    ensures too_large { (result ≡ Err WriteError.TooLarge) ↔ (MOST_TEXT_BYTES < length (refs_text refs.now)) }
     ensures read { IfOk result (λ v. refs_of v.items ≡ Ok refs.now) }
 {
     let refs = refs.as_slice();

@@ -7,3 +7,4 @@ pub mod ListLaws
 pub mod BodyLaws
 pub mod SizeLaws
 pub mod FrameLaws
+pub mod Tables

@@ -2,6 +2,7 @@ ghost use Rattle.std.specs.Prelude.{◌≡◌, ◌↔◌, [], ◌∷◌, ◌++�
 ghost use Rattle.wire_codec.specs.Frames.{key_in};
 ghost use Rattle.wire_codec.specs.declared.keys.KeyError.TheVariants.{Memory};
 
+use indexmap::IndexMap;
 use psb_bytes::{Digest, PeerId};
 use std::alloc::{AllocFailed, Global};
 use std::marker::Model;
@@ -9,7 +10,7 @@ use std::marker::Model;
 /// The peers of a node, each with the key of the pair, in the order in which they were put there.
 #[derive(Drop)]
 pub struct Keys {
-    rows: Vec<(PeerId, Digest)>,
+    rows: IndexMap<u32, Digest>,
 }
 
 impl Model for Keys {
@@ -17,7 +18,7 @@ impl Model for Keys {
 
     ghost Value = { List (ℕ × List ℕ) };
 
-    ghost view = { λ k. k.rows.items };
+    ghost view = { λ k. k.rows.entries };
 }
 
 /// Why a key was not put into the table.
@@ -42,7 +43,7 @@ impl Keys {
         ensures { result ≡ [] }
     {
         Keys {
-            rows: Vec::new(alloc),
+            rows: IndexMap::new(alloc),
         }
     }
 
@@ -55,7 +56,7 @@ impl Keys {
         if self.key_of(peer).is_some() {
             return Err(KeyError::Twice);
         }
-        self.rows.push((peer, key))?;
+        self.rows.insert(peer.0, key)?;
         Ok(())
     }
 
@@ -63,18 +64,6 @@ impl Keys {
     pub fn key_of(&self, peer: PeerId) -> Option<&Digest>
         ensures { option_copied result ≡ key_in self.now peer }
     {
-        key_among(&self.rows, peer)
+        self.rows.get(&peer.0)
     }
-}
-
-/// The key in the first row with this peer.
-fn key_among(rows: &[(PeerId, Digest)], peer: PeerId) -> Option<&Digest>
-    ensures { option_copied result ≡ key_in rows.now peer }
-{
-    for row in rows {
-        if row.0 == peer {
-            return Some(&row.1);
-        }
-    }
-    None
 }

@@ -17,5 +17,9 @@ fn lines_have_their_words_and_numbers_in_order(rt: HostRuntime) -> Result<(), Al
         most.as_str(),
         "turns 1000000 taken 18446744073709551615 dropped 10 lost 0\n"
     );
+    let node = node_line(alloc, 1, 2)?;
+    assert_eq!(rt; node.as_str(), "node 1 peers 2\n");
+    let greatest = node_line(alloc, u32::MAX, 64)?;
+    assert_eq!(rt; greatest.as_str(), "node 4294967295 peers 64\n");
     Ok(())
 }

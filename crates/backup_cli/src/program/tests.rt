@@ -2,7 +2,9 @@ use super::*;
 use psb_station::{Disk, MemFolder, MemStation};
 use std::test::Fail;
 
+mod begin;
 mod deals;
+mod peers;
 
 /// The settings of node 1 with the one peer 2.
 const SETTINGS: &str = r#"id = 1
@@ -74,11 +76,7 @@ fn store(alloc: Global) -> Result<Vec<u8>, Fail> {
 
 /// The image of a node that has begun.
 fn begun(alloc: Global) -> Result<Vec<u8>, Fail> {
-    let mut image = Vec::from_slice(alloc, b"PSBLOG01\0\0\0\0\0\0\0\0")?;
-    image.extend_from_slice(&[1, 0, 0, 0, 1, 0, 0, 1, 0x12, 1])?;
-    image.extend_from_slice(SETTINGS.as_bytes())?;
-    image.push(0)?;
-    Ok(image)
+    begin::image_with(alloc, SETTINGS)
 }
 
 /// The image after the Store was taken.
@@ -172,7 +170,16 @@ fn a_node_reopens_with_what_it_took(rt: HostRuntime) -> Result<(), Fail> {
 #[test]
 fn words_that_are_no_command_are_refused(rt: HostRuntime) -> Result<(), Fail> {
     let alloc = rt.alloc();
-    for line in ["serve", "serve 0", "serve 01", "serve 1 1", "ledger"] {
+    for line in [
+        "serve",
+        "serve 0",
+        "serve 01",
+        "serve 1 1",
+        "ledger",
+        "init",
+        "init a/",
+        "init a b",
+    ] {
         let mut station = MemStation::new(
             alloc,
             begun(alloc)?,

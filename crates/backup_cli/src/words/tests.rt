@@ -11,7 +11,7 @@ fn words_of(alloc: Global, line: &str) -> Result<Vec<String>, AllocError> {
 }
 
 #[test]
-fn only_serve_with_1_to_1000000_turns_is_a_command(rt: HostRuntime) -> Result<(), AllocError> {
+fn serve_takes_1_to_1000000_turns(rt: HostRuntime) -> Result<(), AllocError> {
     let alloc = rt.alloc();
     for (line, turns) in [
         ("serve,1", Some(1)),
@@ -42,8 +42,65 @@ fn only_serve_with_1_to_1000000_turns_is_a_command(rt: HostRuntime) -> Result<()
         ("1,serve", None),
     ] {
         let words = words_of(alloc, line)?;
-        assert_eq!(rt; read_words(&words), turns, "{line}");
+        assert_eq!(rt; read_words(&words), turns.map(Command::Serve), "{line}");
     }
     assert_eq!(rt; read_words(&[]), None);
+    Ok(())
+}
+
+#[test]
+fn init_takes_one_path(rt: HostRuntime) -> Result<(), AllocError> {
+    let alloc = rt.alloc();
+    for path in [
+        "node.toml",
+        "a",
+        "/a",
+        "a/b",
+        "/a/b/c.toml",
+        "...",
+        "..a/.b",
+        "a b",
+        "\u{e4}/\u{10348}",
+        "serve",
+    ] {
+        let words = words_of(alloc, &format!(in alloc; "init,{path}")?)?;
+        assert_eq!(rt; read_words(&words), Some(Command::Init(path)), "{path}");
+    }
+    for path in [
+        "", ".", "..", "/", "//", "//a", "a//b", "a/", "/a/", "../x", "a/../b", "a/..", "./a",
+        "a/.", "/.", "\0", "a\0", "a/\0b/c",
+    ] {
+        let words = words_of(alloc, &format!(in alloc; "init,{path}")?)?;
+        assert_eq!(rt; read_words(&words), None, "{path}");
+    }
+    for line in ["init", "init,a,b", "Init,a", "init ,a", "a,init", ",a"] {
+        assert_eq!(rt; read_words(&words_of(alloc, line)?), None, "{line}");
+    }
+    Ok(())
+}
+
+/// A path of so many bytes, in parts of one byte.
+fn long_path(alloc: Global, len: usize) -> Result<String, AllocError> {
+    let mut path = String::new(alloc);
+    for i in 0..len {
+        path.push(if i % 2 == 0 { 'a' } else { '/' })?;
+    }
+    Ok(path)
+}
+
+#[test]
+fn a_path_has_4096_bytes_at_most(rt: HostRuntime) -> Result<(), AllocError> {
+    let alloc = rt.alloc();
+    for (len, is_path) in [(4_095, true), (4_097, false)] {
+        let mut words = words_of(alloc, "init")?;
+        words.push(long_path(alloc, len)?)?;
+        assert_eq!(rt; read_words(&words).is_some(), is_path, "{len}");
+    }
+    let mut path = long_path(alloc, 4_095)?;
+    path.push('b')?;
+    assert_eq!(rt; path.len(), 4_096);
+    let mut words = words_of(alloc, "init")?;
+    words.push(path)?;
+    assert_eq!(rt; read_words(&words).is_some(), true);
     Ok(())
 }

@@ -6,7 +6,7 @@ use std::alloc::Global;
 use std::test::Fail;
 
 /// The key that the node shares with peer 2.
-const KEY: &str = "202122232425262728292a2b2c2d2e2f303132333435363738393a3b3c3d3e3f";
+pub(super) const KEY: &str = "202122232425262728292a2b2c2d2e2f303132333435363738393a3b3c3d3e3f";
 
 /// The answer to deal 2 whose chunk is there already.
 const ALREADY: &str = "\
@@ -28,35 +28,49 @@ const REFUSALS: &str = "\
     0100000016000000000a000000020000000000000002030000000000000000010000001600000000\
     0a00000002000000000000000302000000000000000000";
 
-fn key() -> Result<Digest, Fail> {
-    Ok(read_digest(KEY).ok_or("64 digits")?)
-}
-
 /// How many bytes there are, as a field of four bytes.
 fn length(bytes: &[u8]) -> Result<[u8; 4], Fail> {
     let count = u32::try_from(bytes.len()).ok().ok_or("few bytes")?;
     Ok(count.to_be_bytes())
 }
 
-/// A frame of peer 2 to the node, of this kind and with this body.
-fn framed(alloc: Global, kind: u8, number: u64, body: &[u8]) -> Result<Vec<u8>, Fail> {
+/// A frame of a peer to the node, of this kind and with this body, under a key.
+pub(super) fn framed_by(
+    alloc: Global,
+    peer: u8,
+    key: &str,
+    kind: u8,
+    number: u64,
+    body: &[u8],
+) -> Result<Vec<u8>, Fail> {
     let mut frame = Vec::from_slice(alloc, b"PSB1")?;
-    frame.extend_from_slice(&[kind, 0, 0, 0, 0, 0, 0, 2, 0, 0, 0, 1])?;
+    frame.extend_from_slice(&[kind, 0, 0, 0, 0, 0, 0, peer, 0, 0, 0, 1])?;
     frame.extend_from_slice(&number.to_be_bytes())?;
     frame.extend_from_slice(&length(body)?)?;
     frame.extend_from_slice(body)?;
-    tagged(frame)
+    tagged_by(frame, key)
 }
 
-/// The bytes with the tag that the pair's key gives them.
-fn tagged(mut frame: Vec<u8>) -> Result<Vec<u8>, Fail> {
-    let tag = hmac(&key()?.0, &frame);
+/// The bytes with the tag that a key gives them.
+fn tagged_by(mut frame: Vec<u8>, key: &str) -> Result<Vec<u8>, Fail> {
+    let key = read_digest(key).ok_or("64 digits")?;
+    let tag = hmac(&key.0, &frame);
     frame.extend_from_slice(&tag.0)?;
     Ok(frame)
 }
 
+/// A frame of peer 2 to the node.
+fn framed(alloc: Global, kind: u8, number: u64, body: &[u8]) -> Result<Vec<u8>, Fail> {
+    framed_by(alloc, 2, KEY, kind, number, body)
+}
+
+/// The bytes with the tag of the pair with peer 2.
+fn tagged(frame: Vec<u8>) -> Result<Vec<u8>, Fail> {
+    tagged_by(frame, KEY)
+}
+
 /// The body of a Store without slots.
-fn store_body(alloc: Global, name: &Digest, bytes: &[u8]) -> Result<Vec<u8>, Fail> {
+pub(super) fn store_body(alloc: Global, name: &Digest, bytes: &[u8]) -> Result<Vec<u8>, Fail> {
     let mut body = Vec::from_slice(alloc, &name.0)?;
     body.extend_from_slice(&[0, 0])?;
     body.extend_from_slice(&length(bytes)?)?;

@@ -1,8 +1,8 @@
-use Rattle.std.proofs.Common.{◌≡◌, true, false, None, Some, ◌∙◌, sym, ap, rules}
+use Rattle.std.proofs.Common.{◌≡◌, true, None, Some, ◌∙◌, sym, ap, rules}
 use Rattle.psb_model.specs.State.{State, is_held}
 use Rattle.node_core.specs.Bodies.{record_of}
 use Rattle.node_core.proofs.Presence.{ok_map}
-use Rattle.node_core.proofs.Brought.{none_held, none_noted, noted_others}
+use Rattle.node_core.proofs.Brought.{none_noted, noted_others}
 use Rattle.node_core.proofs.refusal.meets_others.Goals as goal
 
 pub returns-in-None-clause-exact : goal.returns-in-None-clause-exact

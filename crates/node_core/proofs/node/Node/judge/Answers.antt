@@ -1,10 +1,6 @@
-use Rattle.std.proofs.Common.{◌≡◌, ℕ, Option, refl, sym, ap, ◌∙◌, arith, rules}
+use Rattle.std.proofs.Common.{refl, sym, ap, ◌∙◌}
 use Rattle.psb_model.specs.State.{State}
-use Rattle.psb_model.specs.declared.change.Change.{Change}
 use Rattle.psb_model.proofs.Prefixes.{changes_counted}
-use Rattle.psb_machine.specs.declared.deals.Refusal.{Refusal}
-use Rattle.node_core.specs.declared.node.Node.{Node}
-use Rattle.node_core.specs.Making.{made_of, made_in}
 use Rattle.node_core.proofs.Presence.{err_then}
 use Rattle.node_core.proofs.Brought.{noted_inside}
 use Rattle.node_core.proofs.Offered.{made_as, judged_leaves, knows_still, stored_still}

@@ -1,0 +1,272 @@
+use crate::{Failed, Folder, FolderError, Item, Kind, MemFolder};
+use psb_bytes::Memory;
+use std::alloc::{AllocError, Global};
+use std::test::Fail;
+
+fn put(folder: &mut MemFolder, path: &str, bytes: &[u8]) -> Result<(), Memory> {
+    if folder.takes_file(path) {
+        folder.put_file(path, bytes)?;
+    }
+    Ok(())
+}
+
+/// A folder with a file of six bytes two folders down, an empty folder, and an empty file.
+fn home(alloc: Global, faults: Vec<u64>) -> Result<MemFolder, Memory> {
+    let mut folder = MemFolder::new(alloc, faults);
+    put(&mut folder, "a/b/six", &[1, 2, 3, 4, 5, 6])?;
+    put(&mut folder, "none", &[])?;
+    if folder.takes_folder("a/c") {
+        folder.put_folder("a/c")?;
+    }
+    Ok(folder)
+}
+
+/// Whether the items are those of a table, in its order.
+fn are(items: &[Item], table: &[(&str, Kind)]) -> bool {
+    items.len() == table.len()
+        && items.iter().zip(table).all(|(item, row)| item.name.as_str() == row.0
+            && item.kind == row.1)
+}
+
+fn lists(folder: &mut MemFolder, path: &str, table: &[(&str, Kind)]) -> bool {
+    match folder.list(path) {
+        Ok(items) => are(&items, table),
+        Err(_) => false,
+    }
+}
+
+/// Whether a file has these bytes and ends with them.
+fn holds(folder: &mut MemFolder, path: &str, bytes: &[u8]) -> bool {
+    let mut into = [0; 8];
+    match folder.read_piece(path, 0, &mut into) {
+        Ok(count) => count <= 8 && &into[..count] == bytes,
+        Err(_) => false,
+    }
+}
+
+#[test]
+fn the_folders_above_what_is_put_are_made(rt: HostRuntime) -> Result<(), Memory> {
+    let alloc = rt.alloc();
+    let mut folder = home(alloc, Vec::new(alloc))?;
+    assert!(rt;
+        lists(
+            &mut folder,
+            ".",
+            &[("a", Kind::Folder), ("none", Kind::File)]
+        )
+    );
+    assert!(rt;
+        lists(
+            &mut folder,
+            "a",
+            &[("b", Kind::Folder), ("c", Kind::Folder)]
+        )
+    );
+    assert!(rt; lists(&mut folder, "a/b", &[("six", Kind::File)]));
+    assert!(rt; lists(&mut folder, "a/c", &[]));
+    Ok(())
+}
+
+#[test]
+fn what_is_put_again_takes_the_place_of_the_older(rt: HostRuntime) -> Result<(), Memory> {
+    let alloc = rt.alloc();
+    let mut folder = home(alloc, Vec::new(alloc))?;
+    put(&mut folder, "a/b/six", &[9])?;
+    put(&mut folder, "/none", &[8, 7])?;
+    assert!(rt; holds(&mut folder, "a/b/six", &[9]));
+    assert!(rt; holds(&mut folder, "none", &[8, 7]));
+    assert!(rt; folder.takes_folder("a/c"));
+    folder.put_folder("a/c")?;
+    assert!(rt;
+        lists(
+            &mut folder,
+            "a",
+            &[("b", Kind::Folder), ("c", Kind::Folder)]
+        )
+    );
+    Ok(())
+}
+
+#[test]
+fn nothing_is_put_over_or_below_the_other_kind(rt: HostRuntime) -> Result<(), Memory> {
+    let alloc = rt.alloc();
+    let folder = home(alloc, Vec::new(alloc))?;
+    for path in ["a", "a/b", ".", "none/x", "a/b/six/x/y"] {
+        assert!(rt; !folder.takes_file(path), "a file at {path}");
+    }
+    for path in ["none", "a/b/six", "none/x", "./none/x/y"] {
+        assert!(rt; !folder.takes_folder(path), "a folder at {path}");
+    }
+    Ok(())
+}
+
+#[test]
+fn a_file_is_read_in_pieces(rt: HostRuntime) -> Result<(), Memory> {
+    let alloc = rt.alloc();
+    let mut folder = home(alloc, Vec::new(alloc))?;
+    let mut into = [0; 4];
+    assert_eq!(rt; folder.read_piece("a/b/six", 0, &mut into), Ok(4));
+    assert_eq!(rt; into, [1, 2, 3, 4]);
+    assert_eq!(rt; folder.read_piece("a/b/six", 4, &mut into), Ok(2));
+    assert_eq!(rt; into, [5, 6, 3, 4]);
+    assert_eq!(rt; folder.read_piece("a/b/six", 3, &mut into), Ok(3));
+    assert_eq!(rt; into, [4, 5, 6, 4]);
+    for at in [6, 7, u64::MAX] {
+        assert_eq!(rt; folder.read_piece("a/b/six", at, &mut into), Ok(0));
+    }
+    assert_eq!(rt; folder.read_piece("none", 0, &mut into), Ok(0));
+    assert_eq!(rt; folder.folder_faults, 0);
+    Ok(())
+}
+
+#[test]
+fn folders_and_files_are_made_and_grow(rt: HostRuntime) -> Result<(), Memory> {
+    let alloc = rt.alloc();
+    let mut folder = MemFolder::new(alloc, Vec::new(alloc));
+    assert_eq!(rt; folder.make_folder("a"), Ok(()));
+    assert_eq!(rt; folder.make_folder("a/b"), Ok(()));
+    assert_eq!(rt; folder.make_file("a/f"), Ok(()));
+    assert!(rt; holds(&mut folder, "a/f", &[]));
+    assert_eq!(rt; folder.append("a/f", &[1, 2]), Ok(()));
+    assert_eq!(rt; folder.append("a/f", &[]), Ok(()));
+    assert_eq!(rt; folder.append("a/f", &[3]), Ok(()));
+    assert!(rt; holds(&mut folder, "a/f", &[1, 2, 3]));
+    assert!(rt; lists(&mut folder, "a", &[("b", Kind::Folder), ("f", Kind::File)]));
+    assert_eq!(rt; folder.folder_faults, 0);
+    Ok(())
+}
+
+#[test]
+fn a_leading_dot_or_slash_reads_as_nothing(rt: HostRuntime) -> Result<(), Memory> {
+    let alloc = rt.alloc();
+    let mut folder = home(alloc, Vec::new(alloc))?;
+    let root = [("a", Kind::Folder), ("none", Kind::File)];
+    for path in [".", "", "/", "./", "./.", "/./", "//"] {
+        assert!(rt; lists(&mut folder, path, &root), "the root as {path}");
+    }
+    for path in ["a/b/six", "./a/b/six", "/a/b/six", "././/a/b/six"] {
+        assert!(rt;
+            holds(&mut folder, path, &[1, 2, 3, 4, 5, 6]),
+            "the file as {path}"
+        );
+    }
+    assert_eq!(rt; folder.make_folder("./d"), Ok(()));
+    assert_eq!(rt; folder.make_folder("/d"), Err(Failed));
+    Ok(())
+}
+
+#[test]
+fn a_wrong_path_is_refused_and_counted(rt: HostRuntime) -> Result<(), Memory> {
+    let alloc = rt.alloc();
+    let mut folder = home(alloc, Vec::new(alloc))?;
+    let mut into = [0; 4];
+    for path in ["none", "a/b/six", "x", "a/x", "a/", "A", ".."] {
+        assert!(rt;
+            matches!(folder.list(path), Err(FolderError::Failed)),
+            "list {path}"
+        );
+    }
+    assert_eq!(rt; folder.folder_faults, 7);
+    for path in [".", "a", "a/c", "x", "none/x", "a/b/si", "a/b/six/"] {
+        assert_eq!(rt;
+            folder.read_piece(path, 0, &mut into),
+            Err(Failed),
+            "read {path}"
+        );
+        assert_eq!(rt; folder.append(path, &[1]), Err(Failed), "append {path}");
+    }
+    assert_eq!(rt; folder.folder_faults, 21);
+    for path in [
+        ".",
+        "a",
+        "a/c",
+        "none",
+        "x/y",
+        "none/x",
+        "a/b/six/x",
+        "a/b/x/y",
+    ] {
+        assert_eq!(rt; folder.make_folder(path), Err(Failed), "folder {path}");
+        assert_eq!(rt; folder.make_file(path), Err(Failed), "file {path}");
+    }
+    assert_eq!(rt; folder.folder_faults, 37);
+    assert!(rt;
+        lists(
+            &mut folder,
+            ".",
+            &[("a", Kind::Folder), ("none", Kind::File)]
+        )
+    );
+    assert!(rt;
+        lists(
+            &mut folder,
+            "a",
+            &[("b", Kind::Folder), ("c", Kind::Folder)]
+        )
+    );
+    assert!(rt; holds(&mut folder, "a/b/six", &[1, 2, 3, 4, 5, 6]));
+    Ok(())
+}
+
+/// Each of the five calls once, at a path where it does not fail; and how many failed.
+fn call_each(folder: &mut MemFolder) -> [bool; 5] {
+    let mut into = [0; 4];
+    [
+        folder.list("a").is_err(),
+        folder.read_piece("a/b/six", 0, &mut into).is_err(),
+        folder.make_folder("a/d").is_err(),
+        folder.make_file("a/e").is_err(),
+        folder.append("none", &[1]).is_err(),
+    ]
+}
+
+#[test]
+fn each_call_fails_by_its_number(rt: HostRuntime) -> Result<(), Fail> {
+    let alloc = rt.alloc();
+    for i in 0..5usize {
+        let faults = vec![in alloc; i as u64 + 1, 9]?;
+        let Ok(mut folder) = home(alloc, faults) else {
+            return Err(Fail::from(AllocError));
+        };
+        let fails = call_each(&mut folder);
+        for (j, fail) in fails.iter().enumerate() {
+            assert_eq!(rt; *fail, i == j, "call {j} where {i} fails");
+        }
+        assert_eq!(rt; folder.folder_faults, 1);
+        assert_eq!(rt; folder.log.calls, 5);
+        assert_eq!(rt; folder.make_folder("a/g"), Ok(()));
+        assert_eq!(rt; folder.make_folder("a/h"), Ok(()));
+        assert_eq!(rt; folder.make_folder("a/i"), Ok(()));
+        assert_eq!(rt; folder.make_folder("a/j"), Err(Failed));
+        assert_eq!(rt; folder.folder_faults, 2);
+    }
+    Ok(())
+}
+
+#[test]
+fn the_calls_are_kept_in_their_order(rt: HostRuntime) -> Result<(), Memory> {
+    let alloc = rt.alloc();
+    let mut folder = home(alloc, Vec::new(alloc))?;
+    let fails = call_each(&mut folder);
+    assert_eq!(rt; fails, [false; 5]);
+    let paths = ["a", "a/b/six", "a/d", "a/e", "none"];
+    assert_eq!(rt; folder.log.tried.len(), 5);
+    for (tried, path) in folder.log.tried.iter().zip(&paths) {
+        assert_eq!(rt; tried.path.as_slice(), path.as_bytes());
+    }
+    assert!(rt; folder.log.whole);
+    Ok(())
+}
+
+#[test]
+fn a_name_is_what_may_stand_in_a_path(rt: HostRuntime) -> Result<(), Memory> {
+    let alloc = rt.alloc();
+    let mut folder = MemFolder::new(alloc, Vec::new(alloc));
+    for path in ["a//b", "a/./b", "a/../b", "a/b", "a/...", "a/ "] {
+        put(&mut folder, path, &[1])?;
+    }
+    let names = [(" ", Kind::File), ("...", Kind::File), ("b", Kind::File)];
+    assert!(rt; lists(&mut folder, "a", &names));
+    assert!(rt; lists(&mut folder, "a/.", &[("b", Kind::File)]));
+    Ok(())
+}
