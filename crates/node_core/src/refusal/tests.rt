@@ -1,6 +1,9 @@
+ghost use Rattle.std.specs.Prelude.{◌≡◌, true, IfOk};
+ghost use Rattle.psb_model.specs.Grammar.{in_grammar};
+
 use super::*;
 use node_journal::PlainLog;
-use psb_bytes::{Digest, Items, PeerId};
+use psb_bytes::{Bytes, Digest, Memory, PeerId};
 use psb_model::Change;
 use psb_station::MemStation;
 use std::test::Fail;
@@ -20,15 +23,19 @@ address = "127.0.0.1:7003"
 key = "404142434445464748494a4b4c4d4e4f505152535455565758595a5b5c5d5e5f"
 "#;
 
-/// A ledger that took a chunk of 4 bytes from peer 2 under a name.
-fn holding(alloc: Global, name: Digest) -> Result<Ledger, Fail> {
-    let mut ledger = Ledger::new(alloc);
-    let settings = Change::Begun {
-        body: Some(Items::copy(alloc, SETTINGS.as_bytes())?),
-    };
-    ledger.make_room(&settings)?;
-    ledger.apply(&settings).ok().ok_or("settings")?;
-    let chunk = Change::TookFresh {
+/// The beginning with these settings.
+fn begun(alloc: Global) -> Result<Change, Memory>
+    ensures { IfOk result (λ c. in_grammar c ≡ true) }
+{
+    let body = Some(Bytes::copy(alloc, SETTINGS.as_bytes())?);
+    Ok(Change::Begun { body })
+}
+
+/// A chunk of 4 bytes under a name, as the first deal of peer 2.
+fn stored(name: Digest) -> Change
+    ensures { in_grammar result ≡ true }
+{
+    Change::TookFresh {
         peer: PeerId(2),
         deal: 1,
         name,
@@ -36,9 +43,28 @@ fn holding(alloc: Global, name: Digest) -> Result<Ledger, Fail> {
         len: 4,
         new: true,
         body: None,
-    };
-    ledger.make_room(&chunk)?;
-    ledger.apply(&chunk).ok().ok_or("a chunk")?;
+    }
+}
+
+/// Makes room for a change, and applies it.
+fn make(ledger: &mut Ledger, change: Change) -> Result<(), Fail>
+    requires { in_grammar change ≡ true }
+{
+    ledger.make_room(&change)?;
+    if ledger.changes() >= 1000 {
+        return Err(Fail::from("few changes"));
+    }
+    match ledger.apply(&change) {
+        Ok(()) => Ok(()),
+        Err(_) => Err(Fail::from("a change that may be made")),
+    }
+}
+
+/// A ledger that took the chunk.
+fn holding(alloc: Global, name: Digest) -> Result<Ledger, Fail> {
+    let mut ledger = Ledger::new(alloc);
+    make(&mut ledger, begun(alloc)?)?;
+    make(&mut ledger, stored(name))?;
     Ok(ledger)
 }
 
