@@ -42,7 +42,11 @@ fn serve_takes_1_to_1000000_turns(rt: HostRuntime) -> Result<(), AllocError> {
         ("1,serve", None),
     ] {
         let words = words_of(alloc, line)?;
-        assert_eq!(rt; read_words(&words), turns.map(Command::Serve), "{line}");
+        let command = match turns {
+            Some(turns) => Some(Command::Serve(turns)),
+            None => None,
+        };
+        assert_eq!(rt; read_words(&words), command, "{line}");
     }
     assert_eq!(rt; read_words(&[]), None);
     Ok(())
