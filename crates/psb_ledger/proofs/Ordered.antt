@@ -1,5 +1,5 @@
 -- The object order, and what a search in a list that is in this order finds.
-use Rattle.std.proofs.Common.{◌≡◌, ℕ, zero, suc, ◌+◌, ◌<◌, ◌≤◌, Bool, true, false, not, ◌&&◌, ◌||◌, List, [], ◌∷◌, length, get_or, Result, Ok, Err, IfErr, refl, sym, ap, ◌∙◌, arith}
+use Rattle.std.proofs.Common.{◌≡◌, ℕ, zero, suc, ◌+◌, ◌<◌, ◌≤◌, Bool, true, false, not, ◌&&◌, ◌||◌, List, [], ◌∷◌, length, get_or, Result, Ok, Err, IfOk, IfErr, refl, sym, ap, ◌∙◌, arith}
 use Rattle.std.specs.Prelude.{◌==◌, nat_lt, is_ok, insert}
 use Rattle.std.specs.List.{list_any, list_all, position_or_len, prefix_len}
 use Rattle.std.specs.List.Sorted.{IsSearchInRange, IsBinarySearchResult}
@@ -107,11 +107,11 @@ none_passes : {X : Type 0} (p : X → Bool) (xs : List X) → ((k : ℕ) (d : X)
 none_passes p [] h = refl
 none_passes p (x ∷ xs) h = rw (h 0 x (omega arith)) (none_passes p xs (λ k d lt. h (suc k) d (omega arith)))
 
--- a search for an object ends at its entry, or at the place for it
-pub searched : (l : List InEntry) (o : Object) (r : Result ℕ ℕ) → in_order l ≡ true → IsSearchInRange r (length l) → IsBinarySearchResult (λ e. object_cmp (in_key e) o) l r → (is_ok r ≡ has in_key l o) × IfErr r (λ i. i ≡ position_or_len (λ e. is_lt (object_cmp o (in_key e))) l)
+-- a search for an object ends at its entry, or at the place where it would go
+pub searched : (l : List InEntry) (o : Object) (r : Result ℕ ℕ) → in_order l ≡ true → IsSearchInRange r (length l) → IsBinarySearchResult (λ e. object_cmp (in_key e) o) l r → (is_ok r ≡ has in_key l o) × IfErr r (λ i. i ≡ position_or_len (λ e. is_lt (object_cmp o (in_key e))) l) × IfOk r (λ i. (i < length l) × ((d : InEntry) → object_eq (in_key (get_or l i d)) o ≡ true))
 searched l o (Ok i) h range at =
-    let here : object_eq (in_key (get_or l i no_entry)) o ≡ true = same_object (in_key (get_or l i no_entry)) o ∙ ap is_eq (at no_entry) in
-    (sym (list_any_at (λ e. object_eq (in_key e) o) l i no_entry range here), tt)
+    let here : (d : InEntry) → object_eq (in_key (get_or l i d)) o ≡ true = λ d. same_object (in_key (get_or l i d)) o ∙ ap is_eq (at d) in
+    (sym (list_any_at (λ e. object_eq (in_key e) o) l i no_entry range (here no_entry)), tt, (range, here))
 searched l o (Err i) h range at =
     let parted = at (searchable_from_sorted object_total in_key l o (λ k d low high. sorted l h k d high)) in
     let other : (k : ℕ) (d : InEntry) → k < length l → object_eq (in_key (get_or l k d)) o ≡ false = λ k d lt. by_cases (nat_lt k i)
@@ -119,7 +119,7 @@ searched l o (Err i) h range at =
     (λ b. same_object (in_key (get_or l k d)) o ∙ ap is_eq (parted.1 k d (ltb-false k i b) lt)) in
     let first : (k : ℕ) → k < i → is_lt (object_cmp o (in_key (get_or l k no_entry))) ≡ false = λ k lt. ap is_lt (object_total.antisymm o (in_key (get_or l k no_entry)) ∙ ap ordering_reverse (parted.0 k no_entry (omega arith) lt)) in
     let then : i < length l → is_lt (object_cmp o (in_key (get_or l i no_entry))) ≡ true = λ lt. ap is_lt (object_total.antisymm o (in_key (get_or l i no_entry)) ∙ ap ordering_reverse (parted.1 i no_entry (omega arith) lt)) in
-    (sym (none_passes (λ e. object_eq (in_key e) o) l other), sym (position_or_len_is (λ e. is_lt (object_cmp o (in_key e))) l i no_entry range first then))
+    (sym (none_passes (λ e. object_eq (in_key e) o) l other), sym (position_or_len_is (λ e. is_lt (object_cmp o (in_key e))) l i no_entry range first then), tt)
 
 -- AN ENTRY THAT GOES IN
 

@@ -1,9 +1,9 @@
 //! Lists of entries, in object order: chunks by the bytes of their names, then slots by number.
 
-ghost use Rattle.std.specs.Prelude.{◌≡◌, ◌+◌, ◌-◌, ◌<◌, ◌≤◌, ◌^◌, ◌++◌, false, true, is_ok, IfErr, vec_len, vec_capacity};
+ghost use Rattle.std.specs.Prelude.{◌≡◌, ◌+◌, ◌-◌, ◌<◌, ◌≤◌, ◌^◌, ◌++◌, false, true, is_ok, get_or, length, IfOk, IfErr, vec_len, vec_capacity};
 ghost use Rattle.std.specs.List.{position_or_len, list_all};
 ghost use Rattle.std.specs.Ordering.{is_lt};
-ghost use Rattle.psb_bytes.specs.Objects.{object_cmp};
+ghost use Rattle.psb_bytes.specs.Objects.{object_cmp, object_eq};
 ghost use Rattle.psb_model.specs.Words.{has, with_one};
 ghost use Rattle.psb_model.specs.State.{in_key, out_key};
 ghost use Rattle.psb_model.specs.Effects.{own_slots};
@@ -32,6 +32,7 @@ fn compare(a: &Object, b: &Object) -> Ordering
 pub fn find(entries: &[InEntry], object: &Object) -> Result<usize, usize>
     requires { in_order entries.now ≡ true }
     ensures found { is_ok result ≡ has in_key entries.now object.now }
+    ensures at { IfOk result (λ i. (i < length entries.now) × ((e : InEntry) → object_eq (in_key (get_or entries.now i e)) object.now ≡ true)) }
     ensures place { IfErr result (λ i. i ≡ position_or_len (λ e. is_lt (object_cmp object.now (in_key e))) entries.now) }
 {
     entries.binary_search_by(|e| compare(&e.object, object))

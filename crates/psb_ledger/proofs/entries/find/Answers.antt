@@ -15,3 +15,8 @@ pub returns-clause-place : goal.returns-clause-place
 returns-clause-place c =
     let by_object = c.binary_search_by.ensures.position (λ e. object_cmp (in_key e) c.args.object.now) (always_returns_same _ _ _ (λ a r f k. search (rules, of_calls))) in
     (searched c.args.entries.now c.args.object.now c.binary_search_by.result c.requires c.binary_search_by.ensures.bound by_object).1
+
+pub returns-clause-at : goal.returns-clause-at
+returns-clause-at c =
+    let by_object = c.binary_search_by.ensures.position (λ e. object_cmp (in_key e) c.args.object.now) (always_returns_same _ _ _ (λ a r f k. search (rules, of_calls))) in
+    (searched c.args.entries.now c.args.object.now c.binary_search_by.result c.requires c.binary_search_by.ensures.bound by_object).2
