@@ -2,6 +2,10 @@
 //! the words are the command.
 #![tactic(auto)]
 
+ghost use Rattle.std.specs.Prelude.{◌≡◌, ◌↔◌, drop, map, string_bytes};
+ghost use Rattle.backup_cli.specs.Words.{IsNoCommand};
+ghost use Rattle.backup_cli.specs.declared.status.Status.TheVariants.{Usage};
+
 use backup_cli::host::HostStation;
 use backup_cli::host_folder::HostFolder;
 use backup_cli::{Status, run};
@@ -25,10 +29,12 @@ fn words_given<R: Env + AllocGlobal>(rt: &R) -> Result<Vec<String>, AllocError> 
     args.collect(rt.alloc())
 }
 
-/// Runs the command. With no DISK there are no words either, and no words are no command.
+/// Runs the command that the words behind DISK are. With no DISK there are no words either, and no
+/// words are no command.
 fn run_given<R>(rt: &R, mut words: Vec<String>) -> Status
 where
     R: Files + Net + Print + Clock + AllocGlobal,
+    ensures usage { (result ≡ Usage) ↔ IsNoCommand (drop 1 (map string_bytes words.items)) }
 {
     let alloc = rt.alloc();
     let disk = if words.is_empty() {

@@ -121,3 +121,13 @@ fn a_link_fails_for_strangers_and_addresses_that_are_none(rt: HostRuntime) -> Re
     assert_eq!(rt; station.counts.told, 1);
     Ok(())
 }
+
+#[test]
+fn the_clock_gives_seconds_since_1970(rt: HostRuntime) -> Result<(), Fail> {
+    let alloc = rt.alloc();
+    let mut station = HostStation::new(alloc, &rt, String::new(alloc));
+    let now = station.now();
+    // From the beginning of 2020 to that of 2100.
+    assert!(rt; (1_577_836_800..4_102_444_800).contains(&now), "{now}");
+    Ok(())
+}
