@@ -1,5 +1,5 @@
 -- A node takes an offer as the machine does.
-use Rattle.std.proofs.Common.{◌≡◌, ◌⊎◌, inl, inr, ⊎_elim, ℕ, ◌<◌, ◌≤◌, ◌^◌, Bool, true, false, not, ◌==◌, cond, List, [], ◌∷◌, ◌++◌, length, slice_get, option_map, option_to_list, IfSome, Option, Some, None, Result, Err, refl, sym, ◌∙◌, ap, subst, arith, length-append}
+use Rattle.std.proofs.Common.{◌≡◌, ◌⊎◌, inl, inr, ⊎_elim, ℕ, ◌<◌, ◌≤◌, ◌^◌, Bool, true, false, not, ◌==◌, cond, List, [], ◌∷◌, ◌++◌, length, slice_get, option_map, option_to_list, IfSome, Option, Some, None, Result, Ok, Err, refl, sym, ◌∙◌, ap, subst, arith, length-append}
 use Rattle.std.specs.Int.{to_be_bytes, w32, w64}
 use Rattle.std.specs.List.{list_all}
 use Rattle.std.proofs.lemmas.Bool.{and_parts, eqb-true, le-leb}
@@ -24,7 +24,7 @@ use Rattle.wire_codec.specs.declared.frame.Dropped.{Dropped}
 use Rattle.psb_machine.specs.Deals.{standing, code_of, first_that_holds, store_reasons, took_fresh, judged, judged_store, meets_others}
 use Rattle.psb_machine.specs.Replies.{reply_of, reply}
 use Rattle.psb_machine.specs.Machine.{Situation, Input, Datagram, Reaction, keys_of, by_standing, on_deal, on_read, tells_again, react, next, drops, quiet}
-use Rattle.psb_machine.specs.Stores.{StoreFits}
+use Rattle.psb_machine.specs.Stores.{StoreFits, incoming_store}
 use Rattle.psb_machine.specs.declared.deals.Standing.{Standing}
 use Rattle.psb_machine.specs.declared.deals.Standing.TheVariants.{Fresh, Repeat, Stale, Gap}
 use Rattle.psb_machine.specs.declared.deals.Refusal.{Refusal}
@@ -41,6 +41,7 @@ use Rattle.node_core.specs.declared.node.Node.{Node}
 use Rattle.node_core.specs.Stands.{HoldsHistory, ReopensTo}
 use Rattle.node_core.specs.Stored.{Knows, KnowsSettings, Stored}
 use Rattle.node_core.specs.Offers.{IsOffer}
+use Rattle.node_core.specs.Unread.{IsUnread}
 use Rattle.node_core.specs.declared.bodies.Bodies.{Bodies}
 use Rattle.node_core.specs.Bodies.{record_of, NotesBody, SameBodies}
 use Rattle.node_core.specs.Making.{CanTell, CanMake, refused_by, why_refused, made_of, made_in}
@@ -95,6 +96,14 @@ judged_may settings h p number name bytes clash v present peer f next_deal =
     subst (λ (o : Option Settings). IsValid (h ++ made_of (state h) p number name bytes (refused_by o (state h) p name bytes clash) ∷ [])) (sym present)
     (judged_valid settings h p number name bytes clash v present peer f next_deal)
 
+-- it is read so by the settings of the history
+offer_is : {L : Type 0} (node : Node L) (n : Situation) (x : List ℕ) (p number : ℕ) (key name bytes : List ℕ) (k : Knows node n) → IsOffer node.own node.keys x p number key name bytes
+    → read_frame k.settings.settings.id (keys_of k.settings.settings) x ≡ Ok (incoming_store p number name bytes)
+offer_is node n x p number key name bytes k offer =
+    ap (λ (own : ℕ). read_frame own (keys_of k.settings.settings) x) (sym k.settings.own)
+    ∙ ap (λ (keys : List (ℕ × List ℕ)). read_frame node.own keys x) (sym k.settings.keys)
+    ∙ offer.reads
+
 pub makes_as : {L : Type 0} (node : Node L) (n : Situation) (x : List ℕ) (p number : ℕ) (key name bytes : List ℕ) (last : LastDeal) (how : Standing) → Knows node n → IsOffer node.own node.keys x p number key name bytes
     → last ≡ (row node.ledger.state p).last → how ≡ standing last.number number → how ≡ Fresh → MakesChange n x p number key name bytes
 makes_as node n x p number key name bytes last how k offer is stands fresh = let st = k.settings.settings in let h = n.history in record {
@@ -102,6 +111,7 @@ makes_as node n x p number key name bytes last how k offer is stands fresh = let
   present = k.settings.present;
   reaction = offered node n x p number key name bytes k offer ∙ ap (λ (s : Standing). by_standing s k.settings.settings n.history p number key (made_in n.history p number name bytes)) (stands_as node n p number last how k is stands ∙ fresh);
   valid = λ clash. judged_may st h p number name bytes clash k.valid k.settings.present (peer_of node n x p number key name bytes k offer) offer.fits (fresh_is_next (row (state h) p).last.number number (stands_as node n p number last how k is stands ∙ fresh));
+  unread = λ u. (u k.settings.settings p number name bytes k.settings.present (offer_is node n x p number key name bytes k offer)).1 (stands_as node n p number last how k is stands ∙ fresh);
 }
 
 pub tells_as : {L : Type 0} (node : Node L) (n : Situation) (x : List ℕ) (p number : ℕ) (key name bytes : List ℕ) (last : LastDeal) (how : Standing) → Knows node n → IsOffer node.own node.keys x p number key name bytes
@@ -118,6 +128,7 @@ tells_as node n x p number key name bytes last how k offer is stands repeat =
           ∙ ap (λ (d : LastDeal). tells_again (option_map (reply k.settings.settings key p number) (slice_get n.history d.change))) same;
       last = ap (λ (d : LastDeal). d.change) same;
       some = ap (λ (m : ℕ). m == 0) (sym number_is.0) ∙ number_is.1;
+      read = record { not_unread = λ u. (u k.settings.settings p number name bytes k.settings.present (offer_is node n x p number key name bytes k offer)).0 again };
     }
 
 pub passes_deal : {L : Type 0} (node : Node L) (n : Situation) (x : List ℕ) (p number : ℕ) (key name bytes : List ℕ) (last : LastDeal) (how : Standing) → Knows node n → IsOffer node.own node.keys x p number key name bytes
@@ -257,6 +268,17 @@ made_next old new n i x p number key name bytes letters is k m made =
       made.told m.settings m.present ∙ sym (ap (λ (j : Input). (react n j).letters) is ∙ ap (λ (r : Reaction). r.letters) m.reaction),
     )
 
+-- where no record is read, it is the machine's change on every disk
+pub unread_next : {L : Type 0} (old new : Node L) (n : Situation) (i : Input) (x : List ℕ) (p number : ℕ) (key name bytes : List ℕ) (letters : List (ℕ × List ℕ)) → i ≡ Datagram x → Knows old n
+    → MakesChange n x p number key name bytes → IsUnread n i → (is_held (state n.history) name ≡ false → Made old new n.history p number key (made_in n.history p number name bytes) letters)
+    → Knows new (next n i) × (letters ≡ (react n i).letters)
+unread_next old new n i x p number key name bytes letters is k m u made =
+    made_next old new n i x p number key name bytes letters is k m (made (m.unread (subst (λ (j : Input). IsUnread n j) is u)))
+
+-- a deal that comes again is no such input
+pub never_unread : {P : Type 0} (n : Situation) (i : Input) (x : List ℕ) (p number change : ℕ) (key : List ℕ) → i ≡ Datagram x → TellsAgain n x p number change key → IsUnread n i → P
+never_unread n i x p number change key is t u = absurd (t.read.not_unread (subst (λ (j : Input). IsUnread n j) is u))
+
 reopened : (stands : List Entry → List ℕ → Type 0) (h : List Change) (i : List ℕ) → IsValid h → HoldsHistory stands h i → ReopensTo stands h i
 reopened stands h i v s = reopens stands h s.records i v s.decoded s.image_is
 
@@ -292,6 +314,10 @@ knows_still old new n same bodies rest k = record {
   };
   bodies = λ name. bodies name ∙ k.bodies name;
 }
+
+-- a node that only looked knows what it knew
+pub same_knows : {L : Type 0} (old new : Node L) (n : Situation) → new.ledger.state ≡ old.ledger.state → new.bodies ≡ old.bodies → SameOwner old new → Knows old n → Knows new n
+same_knows old new n same bodies rest k = knows_still old new n same (λ name. ap (λ (b : Bodies). record_of b name) bodies) rest k
 
 -- the change of an offer was made, and a letter tells of it
 pub made_of_offer : {L : Type 0} (old new : Node L) (n : Situation) (p number : ℕ) (key name bytes : List ℕ) (refusal : Option Refusal) (size : ℕ) (letters : List (ℕ × List ℕ)) (c : Change) → Knows old n → c ≡ made_of old.ledger.state p number name bytes refusal
@@ -361,7 +387,7 @@ pub again_next : {L : Type 0} (old new : Node L) (n : Situation) (i : Input) (x 
 again_next old new n i x p number change key letters is k same bodies rest t told =
     let here : react n i ≡ tells_again (option_map (reply t.settings key p number) (slice_get n.history change)) = ap (λ (j : Input). react n j) is ∙ t.reaction in
     let history : (next n i).history ≡ n.history = ap (λ (r : Reaction). n.history ++ r.grown) here ∙ append-nil n.history in (
-      subst (λ (m : Situation). Knows new m) (sym (λ j. record { history = history j; volatile = tt })) (knows_still old new n same (λ name. ap (λ (b : Bodies). record_of b name) bodies) rest k),
+      subst (λ (m : Situation). Knows new m) (sym (λ j. record { history = history j; volatile = tt })) (same_knows old new n same bodies rest k),
       told t.last t.some t.settings t.present ∙ sym (ap (λ (r : Reaction). r.letters) here),
     )
 
@@ -384,3 +410,9 @@ makes_none_dropped n i x p number key name bytes is m = ap (λ (j : Input). (rea
 
 pub makes_numbered : (n : Situation) (i : Input) (x : List ℕ) (p number : ℕ) (key name bytes : List ℕ) (size : ℕ) → i ≡ Datagram x → MakesChange n x p number key name bytes → numbered (react n i).grown size ≡ Some size
 makes_numbered n i x p number key name bytes size is m = ap (λ (j : Input). numbered (react n j).grown size) is ∙ ap (λ (r : Reaction). numbered r.grown size) m.reaction
+
+pub again_none_dropped : (n : Situation) (i : Input) (x : List ℕ) (p number change : ℕ) (key : List ℕ) → i ≡ Datagram x → TellsAgain n x p number change key → (react n i).dropped ≡ None
+again_none_dropped n i x p number change key is t = ap (λ (j : Input). (react n j).dropped) is ∙ ap (λ (r : Reaction). r.dropped) t.reaction
+
+pub again_numbered : (n : Situation) (i : Input) (x : List ℕ) (p number change : ℕ) (key : List ℕ) (size : ℕ) → i ≡ Datagram x → TellsAgain n x p number change key → numbered (react n i).grown size ≡ None
+again_numbered n i x p number change key size is t = ap (λ (j : Input). numbered (react n j).grown size) is ∙ ap (λ (r : Reaction). numbered r.grown size) t.reaction

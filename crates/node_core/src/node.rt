@@ -1,5 +1,6 @@
 ghost use Rattle.std.specs.Prelude.{◌≡◌, ◌⊎◌, ◌↔◌, ◌≤◌, ◌<◌, ◌+◌, ◌^◌, [], ◌∷◌, ◌++◌, List, ℕ, true, false, length, map, Some, None, IsSome, IfSome, IfOk, OnOk, OnErr};
 ghost use Rattle.psb_settings.specs.Settings.{have_distinct_ids};
+ghost use Rattle.psb_model.specs.State.{is_held};
 ghost use Rattle.psb_model.specs.Effects.{after};
 ghost use Rattle.psb_model.specs.History.{state};
 ghost use Rattle.psb_station.specs.Calls.{Rose};
@@ -91,6 +92,7 @@ impl<L: Log> Node<L> {
     ghost use Rattle.node_core.specs.Letters.{letters_of, input_of};
     ghost use Rattle.node_core.specs.Stands.{HoldsHistory, ReopensTo};
     ghost use Rattle.node_core.specs.Stored.{Knows, Stored};
+    ghost use Rattle.node_core.specs.Unread.{IsUnread};
     ghost use Rattle.node_core.specs.Bodies.{NotesBody, SameBodies};
     ghost use Rattle.node_core.specs.Taking.{Decides, CanDo, Made, GrewSomehow, IsToldAgain, TellsOf, SameOwner, numbered};
 
@@ -140,6 +142,10 @@ impl<L: Log> Node<L> {
             → Knows self.new (next n (input_of input.now)) × (letters_of o.out ≡ (react n (input_of input.now)).letters)) }
         ensures disk { OnOk result ((n : Situation) → Knows self.old n → Stored L.holds self.old n.history (D.view disk.old)
             → Stored L.holds self.new (next n (input_of input.now)).history (D.view disk.new)) }
+
+        // On every disk, where no record is read for the input.
+        ensures unread { IfOk result (λ o. (n : Situation) → Knows self.old n → IsUnread n (input_of input.now)
+            → Knows self.new (next n (input_of input.now)) × (letters_of o.out ≡ (react n (input_of input.now)).letters)) }
         ensures dropped { IfOk result (λ o. (n : Situation) → Knows self.old n → o.dropped ≡ (react n (input_of input.now)).dropped) }
         ensures number { IfOk result (λ o. (n : Situation) → Knows self.old n → o.change ≡ numbered (react n (input_of input.now)).grown (L.size self.old.log)) }
         ensures few { IfOk result (λ o. length o.out ≤ 1) }
@@ -233,6 +239,8 @@ impl<L: Log> Node<L> {
             → Made self.old self.new n.history offer.now.peer offer.now.number offer.now.key (made_in n.history offer.now.peer offer.now.number offer.now.name offer.now.bytes.now) (letters_of o.out)) }
         ensures disk { OnOk result ((n : Situation) → Knows self.old n → Stored L.holds self.old n.history (D.view disk.old)
             → Stored L.holds self.new (n.history ++ made_in n.history offer.now.peer offer.now.number offer.now.name offer.now.bytes.now ∷ []) (D.view disk.new)) }
+        ensures unread { IfOk result (λ o. (n : Situation) → Knows self.old n → is_held (state n.history) offer.now.name ≡ false
+            → Made self.old self.new n.history offer.now.peer offer.now.number offer.now.key (made_in n.history offer.now.peer offer.now.number offer.now.name offer.now.bytes.now) (letters_of o.out)) }
         ensures grew { OnOk result ((n : Situation) → Knows self.old n → GrewSomehow self.old self.new n.history offer.now.peer offer.now.number offer.now.name offer.now.bytes.now) }
         ensures outcome { IfOk result (λ o. (o.dropped ≡ None) × (length o.out ≤ 1) × (o.change ≡ Some (L.size self.old.log))) }
         ensures counted { OnOk result (self.new.ledger.state.changes ≡ L.size self.new.log) }

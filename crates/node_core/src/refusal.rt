@@ -6,6 +6,7 @@ ghost use Rattle.psb_digest.specs.Hashes.{sha as sha_of};
 ghost use Rattle.psb_station.specs.Calls.{Rose};
 ghost use Rattle.psb_station.specs.Span.{Shows, Keeps};
 ghost use Rattle.node_journal.specs.Entry.{Entry};
+ghost use Rattle.psb_model.specs.State.{is_held};
 ghost use Rattle.psb_model.specs.History.{state};
 ghost use Rattle.psb_model.specs.declared.change.Change.{Change};
 ghost use Rattle.psb_machine.specs.Deals.{first_that_holds, store_reasons, are_others, meets_others};
@@ -106,6 +107,7 @@ fn meets_others<L: Log, D: Disk>(
     requires below { IfSome (record_of bodies.now offer.now.name) (λ k. k < L.size log.old) }
     ensures exact { IfOk result (λ r. (h : List Change) (es : List Entry) → ledger.now.state ≡ state h → KnowsBodies bodies.now h → AreDecoded h es
         → Shows (L.holds log.old es) (D.view disk.old) → r ≡ meets_others h offer.now.name offer.now.bytes.now) }
+    ensures unheld { IfOk result (λ r. is_held ledger.now.state offer.now.name ≡ false → r ≡ false) }
     ensures log { log.new ≡ log.old }
     ensures keeps { Keeps (D.view disk.old) (D.view disk.new) }
     ensures disk_cause { result ≡ Err Fault.DiskFault → Rose (D.view disk.old).disk_faults (D.view disk.new).disk_faults }
@@ -139,6 +141,9 @@ pub(crate) fn refusal_of<L: Log, D: Disk>(
     ensures somehow { IfOk result (λ r. (clash : Bool) × (r ≡ why_refused ledger.now.state offer.now.peer offer.now.name offer.now.bytes.now clash)) }
     ensures exact { IfOk result (λ r. (h : List Change) (es : List Entry) → ledger.now.state ≡ state h → KnowsBodies bodies.now h → AreDecoded h es
         → Shows (L.holds log.old es) (D.view disk.old) → r ≡ why_refused (state h) offer.now.peer offer.now.name offer.now.bytes.now (meets_others h offer.now.name offer.now.bytes.now)) }
+
+    // Where none are held, what the disk tells has no say.
+    ensures unheld { IfOk result (λ r. is_held ledger.now.state offer.now.name ≡ false → r ≡ why_refused ledger.now.state offer.now.peer offer.now.name offer.now.bytes.now false) }
     ensures log { log.new ≡ log.old }
     ensures keeps { Keeps (D.view disk.old) (D.view disk.new) }
     ensures disk_cause { result ≡ Err Fault.DiskFault → Rose (D.view disk.old).disk_faults (D.view disk.new).disk_faults }
