@@ -16,6 +16,7 @@ import hmac
 import os
 import signal
 import socket
+import stat
 import struct
 import subprocess
 import sys
@@ -208,6 +209,7 @@ def beginnings(program, folder, deadline):
     disk = os.path.join(folder, "begun.img")
     run(deadline, program, [disk, "init", STORED_SETTINGS], 0, b"node 1 peers 1\n")
     same("the file of a node that began", read(disk), stored_image())
+    same("who may read a file that was made", stat.S_IMODE(os.stat(disk).st_mode), 0o600)
     run(deadline, program, [disk, "init", STORED_SETTINGS], 8, b"disk not empty\n")
     same("the file that was refused", read(disk), stored_image())
     third = f'''[[peer]]
@@ -279,12 +281,16 @@ def serving(program, folder, deadline):
                 if node.poll() is not None:
                     end(node, deadline, None, None)
                 time.sleep(0.01)
+            # A second program over the same file finds it locked, and changes nothing.
+            run(deadline, program, [path, "serve", "1"], 3, b"disk fault\n")
+            run(deadline, program, [path, "init", file], 3, b"disk fault\n")
+            same("the file that two programs wanted", read(path), image(first))
             forged = store(1)
             peer.sendto(forged[:-1] + bytes([forged[-1] ^ 1]), ("127.0.0.1", port))
             peer.sendto(store(1), ("127.0.0.1", port))
             peer.settimeout(left(deadline))
             same("the answer", peer.recvfrom(65536), (accepted(1, 0), ("127.0.0.1", port)))
-            said = b"peer 2 held 1 back 1 debt 0\nturns 40 taken 1 dropped 1 lost 0\n"
+            said = b"peer 2 held 1 back 1 debt 0\nturns 40 taken 2 dropped 1 lost 0\n"
             end(node, deadline, 0, said)
         except socket.timeout:
             raise Wrong("no answer came") from None
@@ -315,7 +321,8 @@ def main(words):
     except (Wrong, OSError) as error:
         print(f"loopback: FAILED: {error}")
         return 1
-    print("loopback: nodes began once each; a Store was taken, answered byte for byte and found again; a forged frame was dropped")
+    print("loopback: nodes began once each, in files that nobody else may read; a second program was refused;"
+          " a Store was taken, answered byte for byte and found again; a forged frame was dropped")
     return 0
 
 

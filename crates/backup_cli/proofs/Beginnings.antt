@@ -9,7 +9,7 @@ use Rattle.psb_station.specs.View.{View, Outside}
 use Rattle.psb_station.specs.Calls.{Grows, Rose}
 use Rattle.psb_station.specs.Span.{Shows, Tells_bytes, DiskWorks, Keeps}
 use Rattle.psb_station.specs.Folder.{FolderView, Content, File, found}
-use Rattle.psb_station.proofs.Spans.{shows_wider, at_some, same_some}
+use Rattle.psb_station.proofs.Spans.{shows_wider, at_some, if_some, tells_some, told_before, same_some}
 use Rattle.node_journal.specs.Entry.{Entry}
 use Rattle.psb_model.proofs.ByObject.{by_cases}
 use Rattle.node_core.specs.Begun.{begun_with, first_situation}
@@ -26,6 +26,7 @@ use Rattle.backup_cli.specs.Begun.{IsEmpty, HasSettings, HasNoSettings, Stays, H
 use Rattle.backup_cli.specs.declared.status.Status.{Status}
 use Rattle.backup_cli.specs.declared.status.Status.TheVariants.{Done, Usage, DiskFault, LinkFault, FolderFault, SayFault, NotNode, Already, BadSettings, Memory}
 use Rattle.backup_cli.proofs.Ends.{NoOther}
+use Rattle.backup_cli.proofs.Utterances.{utters_tells}
 use Rattle.backup_cli.proofs.FileReads.{if_one}
 
 -- ---- the text
@@ -60,15 +61,15 @@ is_no_settings file folder text front none =
 
 -- ---- the disk
 
-pub empty_then : (v0 v1 : View) → Keeps v0 v1 → IsEmpty v0 → IsEmpty v1
-empty_then v0 v1 keeps empty = subst (λ (o : Option (List ℕ)). IfSome o (λ b. b ≡ [])) (sym keeps.bytes) empty
+pub empty_then : (v0 v1 : View) → Keeps v0 v1 → (Tells_bytes v1 → IsEmpty v0) → IsEmpty v1
+empty_then v0 v1 keeps empty = if_some v1.bytes (λ b. b ≡ []) (λ b is. at_some v0.bytes (λ b. b ≡ []) b (empty (tells_some v1.bytes b is)) (told_before v0.bytes v1.bytes keeps.bytes b is))
 
 -- the node that was begun holds its history on the disk
 pub disk_begun : {L : Type 0} (holds : L → List Entry → List ℕ → Type 0) (stands : List Entry → List ℕ → Type 0) (law : (log : L) (es : List Entry) (c : List ℕ) → holds log es c → stands es c)
-    (node : Node L) (text : List ℕ) (v0 v1 v2 : View) → Keeps v0 v1 → Knows node (first_situation text) → (Tells_bytes v1 → Stored holds node (begun_with text) v2)
-    → Tells_bytes v0 → Shows (ReopensTo stands (begun_with text)) v2
+    (node : Node L) (text : List ℕ) (v0 v1 v2 : View) → Keeps v0 v1 → Knows node (first_situation text) → (Tells_bytes v2 → Stored holds node (begun_with text) v2)
+    → Tells_bytes v2 → Shows (ReopensTo stands (begun_with text)) v2
 disk_begun holds stands law node text v0 v1 v2 keeps knows stored tells =
-    let st = stored (keeps.works.tells ∙ tells) in
+    let st = stored tells in
     shows_wider (holds node.log st.records) (ReopensTo stands (begun_with text)) v2 (λ c is. reopens stands (begun_with text) st.records c knows.valid st.decoded (law node.log st.records c is)) st.shows
 
 -- the length tells whether the disk is empty
@@ -86,7 +87,7 @@ some_of o n some len = if_one o (λ b. n ≡ length b) (λ b. b ≢ []) (λ b is
 
 -- the disk was looked at
 pub stops_first : (file : List ℕ) (v0 v1 : View) (f0 : FolderView) (status : Status) → (status ≡ Already) ⊎ (status ≡ DiskFault) → Keeps v0 v1
-    → (status ≡ Already → IfSome v0.bytes (λ b. b ≢ [])) → (status ≡ DiskFault → Rose v0.disk_faults v1.disk_faults) → Stops file v0 v1 f0 f0 status
+    → (status ≡ Already → Tells_bytes v1 → IfSome v0.bytes (λ b. b ≢ [])) → (status ≡ DiskFault → Rose v0.disk_faults v1.disk_faults) → Stops file v0 v1 f0 f0 status
 stops_first file v0 v1 f0 status is keeps already rose = record {
   ends = ⊎_elim (λ e. inr (inr (inl e))) (λ e. inl e) is;
   already = already;
@@ -98,7 +99,7 @@ stops_first file v0 v1 f0 status is keeps already rose = record {
 }
 
 -- the file could not be read
-pub stops_unread : (file : List ℕ) (v0 v1 : View) (f0 f1 : FolderView) → Keeps v0 v1 → IsEmpty v0 → Rose f0.folder_faults f1.folder_faults → Stops file v0 v1 f0 f1 FolderFault
+pub stops_unread : (file : List ℕ) (v0 v1 : View) (f0 f1 : FolderView) → Keeps v0 v1 → (Tells_bytes v1 → IsEmpty v0) → Rose f0.folder_faults f1.folder_faults → Stops file v0 v1 f0 f1 FolderFault
 stops_unread file v0 v1 f0 f1 keeps empty rose = record {
   ends = inr (inl refl);
   already = λ e. absurd (cc e);
@@ -122,7 +123,7 @@ stops_memory file v0 v1 f0 f1 keeps = record {
 }
 
 -- the text says no settings
-pub stops_bad : (file : List ℕ) (v0 v1 : View) (f0 f1 : FolderView) → Keeps v0 v1 → IsEmpty v0 → HasNoSettings file f0 → Stops file v0 v1 f0 f1 BadSettings
+pub stops_bad : (file : List ℕ) (v0 v1 : View) (f0 f1 : FolderView) → Keeps v0 v1 → (Tells_bytes v1 → IsEmpty v0) → HasNoSettings file f1 → Stops file v0 v1 f0 f1 BadSettings
 stops_bad file v0 v1 f0 f1 keeps empty bad = record {
   ends = inr (inr (inr (inl refl)));
   already = λ e. absurd (cc e);
@@ -134,7 +135,7 @@ stops_bad file v0 v1 f0 f1 keeps empty bad = record {
 }
 
 -- the disk failed
-pub stops_disk : (file : List ℕ) (v0 v1 : View) (f0 f1 : FolderView) → Keeps v0 v1 ⊎ MayBegin file v0 f0 → Rose v0.disk_faults v1.disk_faults → Stops file v0 v1 f0 f1 DiskFault
+pub stops_disk : (file : List ℕ) (v0 v1 : View) (f0 f1 : FolderView) → Keeps v0 v1 ⊎ MayBegin file v0 v1 f1 → Rose v0.disk_faults v1.disk_faults → Stops file v0 v1 f0 f1 DiskFault
 stops_disk file v0 v1 f0 f1 written rose = record {
   ends = inl refl;
   already = λ e. absurd (cc e);
@@ -148,7 +149,7 @@ stops_disk file v0 v1 f0 f1 written rose = record {
 -- nothing is done to the disk by what is said
 pub stays_then : (v0 v1 v3 : View) (tried : ℕ) (text : List ℕ) → NoOther v0 → Keeps v0 v1 → Utters v1 v3 tried text → Stays v0 v3
 stays_then v0 v1 v3 tried text now keeps u = record {
-  bytes = u.bytes ∙ keeps.bytes;
+  bytes = λ tells. u.bytes tells ∙ keeps.bytes (utters_tells v1 v3 tried text u tells);
   images = λ c k left.
       ⊎_elim
       (λ early. ⊎_elim (λ before. (now c k before).0) (λ entry. entry.0) (keeps.moments.each v0.moment c k (omega arith) early))
@@ -177,7 +178,7 @@ module _ (stands : List Entry → List ℕ → Type 0) (file : List ℕ) (v0 v1 
   stopped_end status (inr (inr (inr (inl e)))) = (inr (inr (inr (inr (inr (inl e))))), not_well status BadSettings e (λ q. absurd (cc q)) (λ q. absurd (cc q)))
   stopped_end status (inr (inr (inr (inr e)))) = (inr (inr (inr (inr (inr (inr e))))), not_well status Memory e (λ q. absurd (cc q)) (λ q. absurd (cc q)))
 
-  on_empty : (status : Status) → ((status ≡ Done) ⊎ (status ≡ SayFault) → ⊥) → ((status ≡ FolderFault) ⊎ (status ≡ BadSettings) → IsEmpty v0) → (status ≡ Done) ⊎ (status ≡ SayFault) ⊎ (status ≡ FolderFault) ⊎ (status ≡ BadSettings) → IsEmpty v0
+  on_empty : (status : Status) → ((status ≡ Done) ⊎ (status ≡ SayFault) → ⊥) → ((status ≡ FolderFault) ⊎ (status ≡ BadSettings) → Tells_bytes v1 → IsEmpty v0) → (status ≡ Done) ⊎ (status ≡ SayFault) ⊎ (status ≡ FolderFault) ⊎ (status ≡ BadSettings) → Tells_bytes v1 → IsEmpty v0
   on_empty status never empty (inl e) = absurd (never (inl e))
   on_empty status never empty (inr (inl e)) = absurd (never (inr e))
   on_empty status never empty (inr (inr rest)) = empty rest
@@ -194,11 +195,12 @@ module _ (stands : List Entry → List ℕ → Type 0) (file : List ℕ) (v0 v1 
   stopped status text now works reads s u how =
       let end = stopped_end status s.ends in
       let same : v1.outside ≡ v0.outside = works.outside in
+      let back : Tells_bytes v3 → Tells_bytes v1 = utters_tells v1 v3 1 text u in
       let stays : Keeps v0 v1 → Stays v0 v3 = λ keeps. stays_then v0 v1 v3 1 text now keeps u in
       record {
         ends = end.0;
-        already = s.already;
-        empty = on_empty status end.1 s.empty;
+        already = λ is tells. s.already is (back tells);
+        empty = λ is tells. on_empty status end.1 s.empty is (back tells);
         bad_settings = s.bad_settings;
         line = text;
         said = subst (λ (o : Outside). Grows o.said v3.outside.said text) same u.said;
@@ -208,7 +210,7 @@ module _ (stands : List Entry → List ℕ → Type 0) (file : List ℕ) (v0 v1 
         reads = reads;
         begun = λ well. absurd (end.1 well);
         stays = λ is. ⊎_elim stays (λ w. absurd (no_disk_fault status is w.0)) s.written;
-        written = ⊎_elim (λ keeps. inl (stays keeps)) (λ w. inr w.1) s.written;
+        written = ⊎_elim (λ keeps. inl (stays keeps)) (λ w. inr (record { empty = λ tells. w.1.empty (back tells); has = w.1.has })) s.written;
         no_memory = λ is. ⊎_elim (λ keeps. inl (stays keeps)) (λ w. absurd (not_memory status is w.0)) s.written;
         disk_cause = λ is. subst (λ (m : ℕ). Rose v0.disk_faults m) (sym u.disk_faults) (s.disk_cause is);
         folder_cause = s.folder_cause;
@@ -217,12 +219,12 @@ module _ (stands : List Entry → List ℕ → Type 0) (file : List ℕ) (v0 v1 
 
   -- ---- a node was begun
 
-  module _ (works : DiskWorks v0 v1) (reads : OnlyReads file f0 f1) (empty : IsEmpty v0) (b : HasBegun stands file v0 v1 f0) where
+  module _ (works : DiskWorks v0 v1) (reads : OnlyReads file f0 f1) (empty : Tells_bytes v1 → IsEmpty v0) (b : HasBegun stands file v0 v1 f1) where
     -- what is said leaves the disk as it is
-    abbrev begun_then : (tried : ℕ) (text : List ℕ) → Utters v1 v3 tried text → HasBegun stands file v0 v3 f0
+    abbrev begun_then : (tried : ℕ) (text : List ℕ) → Utters v1 v3 tried text → HasBegun stands file v0 v3 f1
     begun_then tried text u = record {
       has = b.has;
-      disk = λ tells. let shown = b.disk tells in record { bytes = shown.bytes; told = u.bytes ∙ shown.told; reads = shown.reads; images = λ c left. shown.images c (u.images c left) };
+      disk = λ tells. let shown = b.disk (utters_tells v1 v3 tried text u tells) in record { bytes = shown.bytes; told = u.bytes tells ∙ shown.told; reads = shown.reads; images = λ c left. shown.images c (u.images c left) };
     }
 
     begun_as : (status : Status) → (status ≡ Done) ⊎ (status ≡ SayFault) ⊎ (status ≡ Memory) → IsEnd status
@@ -254,7 +256,7 @@ module _ (stands : List Entry → List ℕ → Type 0) (file : List ℕ) (v0 v1 
         record {
           ends = begun_as status is;
           already = λ e. absurd (no_already status is e);
-          empty = λ _. empty;
+          empty = λ _ tells. empty (utters_tells v1 v3 1 text u tells);
           bad_settings = λ e. absurd (no_bad status is e);
           line = text;
           said = subst (λ (o : Outside). Grows o.said v3.outside.said text) same u.said;
@@ -264,7 +266,7 @@ module _ (stands : List Entry → List ℕ → Type 0) (file : List ℕ) (v0 v1 
           reads = reads;
           begun = λ _. (begun_then 1 text u, line);
           stays = λ other. absurd (⊎_elim (λ e. no_already status is e) (λ rest. ⊎_elim (λ e. no_folder status is e) (λ e. no_bad status is e) rest) other);
-          written = inr (record { empty = empty; has = b.has });
+          written = inr (record { empty = λ tells. empty (utters_tells v1 v3 1 text u tells); has = b.has });
           no_memory = λ _. inr (begun_then 1 text u);
           disk_cause = λ e. absurd (no_disk status is e);
           folder_cause = λ e. absurd (no_folder status is e);
@@ -315,13 +317,13 @@ has_some file folder c text s told there valid none =
     absurd (cc (unsaid, valid))
 
 pub completes : (stands : List Entry → List ℕ → Type 0) (file : List ℕ) (old new : View) (before after : FolderView) (status : Status) → Begins stands file old new before after status → Completes file old new before after status
-completes stands file old new before after status b empty c text settings told there valid disk folder say = go b.ends
+completes stands file old new before after status b tells shows empty c text settings told there valid disk folder say = go b.ends
   where
     go : IsEnd status → (status ≡ Done) ⊎ (status ≡ Memory)
     go (inl e) = inl e
     go (inr (inl e)) = absurd (disk (b.disk_cause e))
     go (inr (inr (inl e))) = absurd (folder (b.folder_cause e))
     go (inr (inr (inr (inl e)))) = absurd (say (b.say_cause e))
-    go (inr (inr (inr (inr (inl e))))) = absurd (no_bytes old.bytes empty (b.already e))
-    go (inr (inr (inr (inr (inr (inl e)))))) = absurd (has_some file before c text settings told there valid (b.bad_settings e))
+    go (inr (inr (inr (inr (inl e))))) = absurd (no_bytes old.bytes empty (b.already e tells))
+    go (inr (inr (inr (inr (inr (inl e)))))) = absurd (has_some file after c text settings (b.reads.content shows ∙ told) there valid (b.bad_settings e))
     go (inr (inr (inr (inr (inr (inr e)))))) = inr e

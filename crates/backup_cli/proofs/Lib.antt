@@ -6,8 +6,5 @@ pub mod Ends
 pub mod Opened
 pub mod SettingsStay
 pub mod Outcomes
-pub mod Filling
-pub mod Untelling
 pub mod FileReads
 pub mod Beginnings
-pub mod FolderNames

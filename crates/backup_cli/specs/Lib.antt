@@ -5,6 +5,3 @@ pub mod Says
 pub mod Served
 pub mod Files
 pub mod Begun
-pub mod Untold
-pub mod UntoldFolder
-pub mod Transfers

@@ -1,7 +1,7 @@
 //! The command `init FILE`.
 ghost use Rattle.std.specs.Prelude.{◌≡◌, ◌≢◌, ◌⊎◌, [], Some, IfSome, IfOk, IfErr, OnOk, OnErr};
 ghost use Rattle.psb_station.specs.Calls.{Rose};
-ghost use Rattle.psb_station.specs.Span.{Keeps, DiskWorks};
+ghost use Rattle.psb_station.specs.Span.{Keeps, DiskWorks, Tells_bytes};
 ghost use Rattle.backup_cli.specs.Files.{OnlyReads};
 ghost use Rattle.backup_cli.specs.Begun.{IsEmpty, HasBegun, Begins, Stops};
 
@@ -19,8 +19,8 @@ const MOST_BYTES: usize = 65_537;
 
 /// Looks whether the disk is empty.
 fn expect_empty<S: Station>(station: &mut S) -> Result<(), Status>
-    ensures ok { OnOk result (IsEmpty (S.view station.old)) }
-    ensures already { result ≡ Err Status.Already → IfSome (S.view station.old).bytes (λ b. b ≢ []) }
+    ensures ok { OnOk result (Tells_bytes (S.view station.new) → IsEmpty (S.view station.old)) }
+    ensures already { result ≡ Err Status.Already → Tells_bytes (S.view station.new) → IfSome (S.view station.old).bytes (λ b. b ≢ []) }
     ensures cause { result ≡ Err Status.DiskFault → Rose (S.view station.old).disk_faults (S.view station.new).disk_faults }
     ensures only { OnErr result ((result ≡ Err Status.Already) ⊎ (result ≡ Err Status.DiskFault)) }
     ensures keeps { Keeps (S.view station.old) (S.view station.new) }
@@ -39,13 +39,13 @@ fn begin_from<L: Log, S: Station, F: Folder>(
     folder: &mut F,
     file: &str,
 ) -> Result<Node<L>, Status>
-    ensures empty { OnOk result (IsEmpty (S.view station.old)) }
-    ensures begun { IfOk result (λ node. (b : HasBegun L.stands file.now (S.view station.old) (S.view station.new) (F.view folder.old))
+    ensures empty { OnOk result (Tells_bytes (S.view station.new) → IsEmpty (S.view station.old)) }
+    ensures begun { IfOk result (λ node. (b : HasBegun L.stands file.now (S.view station.old) (S.view station.new) (F.view folder.new))
         × (node.ledger.state.settings ≡ Some b.has.settings)) }
     ensures stops { IfErr result (λ status. Stops file.now (S.view station.old) (S.view station.new) (F.view folder.old) (F.view folder.new) status) }
     ensures works { DiskWorks (S.view station.old) (S.view station.new) }
     ensures reads { OnlyReads file.now (F.view folder.old) (F.view folder.new) }
-    ensures order { (folder.new ≡ folder.old) ⊎ IsEmpty (S.view station.old) }
+    ensures order { (folder.new ≡ folder.old) ⊎ (Tells_bytes (S.view station.new) → IsEmpty (S.view station.old)) }
     ensures unread { result ≡ Err Status.Already → folder.new ≡ folder.old }
 {
     match expect_empty(station) {
@@ -75,7 +75,7 @@ pub(crate) fn init_command<L: Log, S: Station, F: Folder>(
     ensures begins { Begins L.stands file.now (S.view station.old) (S.view station.new) (F.view folder.old) (F.view folder.new) result }
 
     // A disk that is not empty is refused before the file is read.
-    ensures order { (folder.new ≡ folder.old) ⊎ IsEmpty (S.view station.old) }
+    ensures order { (folder.new ≡ folder.old) ⊎ (Tells_bytes (S.view station.new) → IsEmpty (S.view station.old)) }
     ensures unread { result ≡ Status.Already → folder.new ≡ folder.old }
 {
     let node = match begin_from::<L, S, F>(alloc, station, folder, file) {

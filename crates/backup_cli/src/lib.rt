@@ -3,8 +3,6 @@
 
 mod beginning;
 mod files;
-pub mod host;
-pub mod host_folder;
 mod lines;
 mod program;
 mod saying;

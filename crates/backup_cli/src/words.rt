@@ -1,6 +1,7 @@
 ghost use Rattle.std.specs.Prelude.{◌≡◌, ◌≢◌, ℕ, ◌<◌, ◌≤◌, ◌^◌, ◌↔◌, ◌⊎◌, [], ◌∷◌, IsTrue, IfSome, IfNone, map, length, slice_index, string_bytes, decimal};
-ghost use Rattle.std.specs.List.{list_all, slice_split};
-ghost use Rattle.backup_cli.specs.Words.{is_slash, is_name, is_path, below_root, IsCommand, IsNoCommand, FixTheCommand};
+ghost use Rattle.backup_cli.specs.Words.{is_path, below_root, IsCommand, IsNoCommand, FixTheCommand};
+
+use psb_bytes::has_names;
 
 /// The greatest number of turns that one command asks for.
 const MOST_TURNS: u32 = 1_000_000;
@@ -56,24 +57,6 @@ fn without_root(path: &str) -> &str
         Some(rest) => rest,
         None => path,
     }
-}
-
-/// Whether each part of a path is a name.
-fn has_names(path: &str) -> bool
-    ensures { result ≡ list_all is_name (slice_split is_slash path.now) }
-{
-    path.split('/').all(|part| is_name(part))
-}
-
-/// Whether a part of a path is a name: not empty, without NUL, and neither `.` nor `..`.
-fn is_name(part: &str) -> bool
-    ensures { result ≡ is_name part.now }
-{
-    let bytes = part.as_bytes();
-    !bytes.is_empty()
-        && !bytes.contains(&0)
-        && bytes != b".".as_slice()
-        && bytes != b"..".as_slice()
 }
 
 /// The number of turns, 1 to 1,000,000, that a text spells.

@@ -6,12 +6,15 @@ use crate::sealing::seal_key;
 use psb_bytes::Ref;
 use psb_digest::{mask, sha};
 use std::alloc::{AllocError, Global};
+use thiserror::Error;
 
 /// Why a body was not opened.
-#[derive(Clone, Copy, PartialEq, Eq, Debug)]
+#[derive(Clone, Copy, PartialEq, Eq, Debug, Error)]
 pub enum OpenError {
     /// The body is not the one that the ref names: its SHA-256 or its length is another.
+    #[error("the body is not the one that the ref names")]
     Altered,
+    #[error("no memory")]
     Memory,
 }
 

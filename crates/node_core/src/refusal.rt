@@ -4,7 +4,7 @@ ghost use Rattle.std.specs.Prelude.{◌≡◌, ◌≤◌, ◌<◌, ◌⊎◌, Li
 ghost use Rattle.psb_bytes.specs.Objects.{name_eq};
 ghost use Rattle.psb_digest.specs.Hashes.{sha as sha_of};
 ghost use Rattle.psb_station.specs.Calls.{Rose};
-ghost use Rattle.psb_station.specs.Span.{Shows, Keeps};
+ghost use Rattle.psb_station.specs.Span.{Shows, Tells_bytes, Keeps};
 ghost use Rattle.node_journal.specs.Entry.{Entry};
 ghost use Rattle.psb_model.specs.State.{is_held};
 ghost use Rattle.psb_model.specs.History.{state};
@@ -80,7 +80,7 @@ fn has_other_body<L: Log, D: Disk>(
 ) -> Result<bool, Fault>
     requires whole { L.is_broken log.old ≡ false }
     requires below { number < L.size log.old }
-    ensures others { IfOk result (λ r. (es : List Entry) → Shows (L.holds log.old es) (D.view disk.old) → IfSome (slice_get es number) (λ e. r ≡ are_others e.body bytes.now)) }
+    ensures others { IfOk result (λ r. Tells_bytes (D.view disk.new) → (es : List Entry) → Shows (L.holds log.old es) (D.view disk.old) → IfSome (slice_get es number) (λ e. r ≡ are_others e.body bytes.now)) }
     ensures log { log.new ≡ log.old }
     ensures keeps { Keeps (D.view disk.old) (D.view disk.new) }
     ensures disk_cause { result ≡ Err Fault.DiskFault → Rose (D.view disk.old).disk_faults (D.view disk.new).disk_faults }
@@ -105,7 +105,7 @@ fn meets_others<L: Log, D: Disk>(
 ) -> Result<bool, Fault>
     requires whole { L.is_broken log.old ≡ false }
     requires below { IfSome (record_of bodies.now offer.now.name) (λ k. k < L.size log.old) }
-    ensures exact { IfOk result (λ r. (h : List Change) (es : List Entry) → ledger.now.state ≡ state h → KnowsBodies bodies.now h → AreDecoded h es
+    ensures exact { IfOk result (λ r. Tells_bytes (D.view disk.new) → (h : List Change) (es : List Entry) → ledger.now.state ≡ state h → KnowsBodies bodies.now h → AreDecoded h es
         → Shows (L.holds log.old es) (D.view disk.old) → r ≡ meets_others h offer.now.name offer.now.bytes.now) }
     ensures unheld { IfOk result (λ r. is_held ledger.now.state offer.now.name ≡ false → r ≡ false) }
     ensures log { log.new ≡ log.old }
@@ -139,7 +139,7 @@ pub(crate) fn refusal_of<L: Log, D: Disk>(
 
     // On each disk it is refused as if other bytes were held under its name, or as if none were.
     ensures somehow { IfOk result (λ r. (clash : Bool) × (r ≡ why_refused ledger.now.state offer.now.peer offer.now.name offer.now.bytes.now clash)) }
-    ensures exact { IfOk result (λ r. (h : List Change) (es : List Entry) → ledger.now.state ≡ state h → KnowsBodies bodies.now h → AreDecoded h es
+    ensures exact { IfOk result (λ r. Tells_bytes (D.view disk.new) → (h : List Change) (es : List Entry) → ledger.now.state ≡ state h → KnowsBodies bodies.now h → AreDecoded h es
         → Shows (L.holds log.old es) (D.view disk.old) → r ≡ why_refused (state h) offer.now.peer offer.now.name offer.now.bytes.now (meets_others h offer.now.name offer.now.bytes.now)) }
 
     // Where none are held, what the disk tells has no say.

@@ -8,17 +8,22 @@ ghost use Rattle.node_journal.specs.Fits.{Fits};
 use psb_bytes::Memory;
 use psb_station::{Disk, Failed};
 use std::alloc::{AllocError, AllocFailed, Global};
+use thiserror::Error;
 
 /// Why a call of a log failed.
-#[derive(Clone, Copy, Debug, PartialEq, Eq)]
+#[derive(Clone, Copy, Debug, PartialEq, Eq, Error)]
 pub enum LogError {
     /// The bytes of the disk are no log.
+    #[error("the bytes are no log")]
     NotLog,
     /// The disk failed.
+    #[error("the disk failed")]
     DiskFault,
     /// An earlier `append` of this log met a fault of the disk.
+    #[error("the disk failed before: the log has to be opened again")]
     Broken,
     /// There was no memory.
+    #[error("no memory")]
     Memory,
 }
 
@@ -76,7 +81,7 @@ pub trait Log: Sized + Drop {
     ) -> Result<Self, LogError>
         requires empty { IfSome (D.view disk.old).bytes (λ b. b ≡ []) }
         requires limit { length head.now + length body.now ≤ 67108864 }
-        ensures ok { IfOk result (λ log. Tells_bytes (D.view disk.old) → Shows (holds log (entry head.now body.now ∷ [])) (D.view disk.new)) }
+        ensures ok { IfOk result (λ log. Tells_bytes (D.view disk.new) → Shows (holds log (entry head.now body.now ∷ [])) (D.view disk.new)) }
         ensures whole { IfOk result (λ log. is_broken log ≡ false) }
         ensures size { IfOk result (λ log. size log ≡ 1) }
         ensures there { IfOk result (λ log. keeps_body log 0 ≡ true) }
@@ -93,7 +98,7 @@ pub trait Log: Sized + Drop {
         ensures synced { OnOk result (IfSome (D.view disk.new).bytes (λ b. Only b (D.view disk.new))) }
 
         // An Ok is a list that the bytes stand for, so this is exact.
-        ensures not_log { result ≡ Err LogError.NotLog → IfSome (D.view disk.old).bytes (λ b. (es : List Entry) → ¬ stands es b) }
+        ensures not_log { result ≡ Err LogError.NotLog → IfSome (D.view disk.new).bytes (λ b. (es : List Entry) → ¬ stands es b) }
         ensures keeps { Keeps (D.view disk.old) (D.view disk.new) }
         ensures disk_cause { result ≡ Err LogError.DiskFault → Rose (D.view disk.old).disk_faults (D.view disk.new).disk_faults }
         ensures only { OnErr result ((result ≡ Err LogError.NotLog) ⊎ (result ≡ Err LogError.DiskFault) ⊎ (result ≡ Err LogError.Memory)) };
@@ -118,12 +123,12 @@ pub trait Log: Sized + Drop {
         ensures size { OnOk result (size self.new ≡ size self.old + 1) }
         ensures there { OnOk result (keeps_body self.new (size self.old) ≡ true) }
         ensures bodies { (n : ℕ) → n < size self.old → keeps_body self.new n ≡ keeps_body self.old n }
-        ensures added { OnOk result ((es : List Entry) → Shows (holds self.old es) (D.view disk.old)
+        ensures added { OnOk result (Tells_bytes (D.view disk.new) → (es : List Entry) → Shows (holds self.old es) (D.view disk.old)
             → Shows (holds self.new (es ++ entry head.now body.now ∷ [])) (D.view disk.new)) }
         ensures fits { is_broken self.new ≡ false → Fits (holds self.new) (D.view disk.new) }
 
         // A crash at any moment of the call leaves the records from before it, with the new one or without.
-        ensures any_moment { is_broken self.old ≡ false → (es : List Entry) → Shows (holds self.old es) (D.view disk.old)
+        ensures any_moment { is_broken self.old ≡ false → Tells_bytes (D.view disk.new) → (es : List Entry) → Shows (holds self.old es) (D.view disk.old)
             → Leaves (D.view disk.old) (D.view disk.new) (λ c k. (k ≡ (D.view disk.old).told) × (stands es c ⊎ stands (es ++ entry head.now body.now ∷ []) c)) }
 
         ensures works { DiskWorks (D.view disk.old) (D.view disk.new) }
@@ -143,7 +148,7 @@ pub trait Log: Sized + Drop {
         into: &mut Vec<u8>,
     ) -> Result<(), LogError>
         requires below { is_broken self.old ≡ false → number < size self.old }
-        ensures bytes { OnOk result ((es : List Entry) → Shows (holds self.old es) (D.view disk.old)
+        ensures bytes { OnOk result (Tells_bytes (D.view disk.new) → (es : List Entry) → Shows (holds self.old es) (D.view disk.old)
             → IfSome (slice_get es number) (λ e. into.new.items ≡ e.head)) }
         ensures log { self.new ≡ self.old }
         ensures keeps { Keeps (D.view disk.old) (D.view disk.new) }
@@ -163,7 +168,7 @@ pub trait Log: Sized + Drop {
     ) -> Result<(), LogError>
         requires below { is_broken self.old ≡ false → number < size self.old }
         requires there { is_broken self.old ≡ false → keeps_body self.old number ≡ true }
-        ensures bytes { OnOk result ((es : List Entry) → Shows (holds self.old es) (D.view disk.old)
+        ensures bytes { OnOk result (Tells_bytes (D.view disk.new) → (es : List Entry) → Shows (holds self.old es) (D.view disk.old)
             → IfSome (slice_get es number) (λ e. e.body ≡ Some into.new.items)) }
         ensures log { self.new ≡ self.old }
         ensures keeps { Keeps (D.view disk.old) (D.view disk.new) }

@@ -4,7 +4,7 @@ use Rattle.std.proofs.lemmas.List.{append-nil}
 use Rattle.psb_station.specs.View.{View, Outside, Heard}
 use Rattle.psb_station.specs.View.Heard.{Frame}
 use Rattle.psb_station.specs.Calls.{Listens, Grows, Rose}
-use Rattle.psb_station.specs.Span.{Leaves, DiskWorks}
+use Rattle.psb_station.specs.Span.{Leaves, DiskWorks, Tells_bytes}
 use Rattle.psb_station.proofs.Spans.{at_start, rests_on, weakened, then_run, shows_rest}
 use Rattle.node_journal.specs.Entry.{Entry}
 use Rattle.psb_model.specs.Needed.{IsValid}
@@ -19,7 +19,7 @@ use Rattle.node_serve.specs.Sends.{AreSent, Sends}
 use Rattle.node_serve.specs.Hears.{inputs_of, is_fault}
 use Rattle.node_serve.specs.Turns.{Listened}
 use Rattle.node_serve.specs.Spans.{IsPrefixSoon, Tally, no_tally, Ran}
-use Rattle.node_serve.proofs.Tries.{grows_none, told_none, told_as, told_from, sent_none}
+use Rattle.node_serve.proofs.Tries.{rests_tells, sends_tells, grows_none, told_none, told_as, told_from, sent_none}
 use Rattle.node_serve.proofs.Prefixes.{whole, first_image, next_image, whole_has_all, either_has_all}
 
 -- a frame came
@@ -35,7 +35,7 @@ pub record Now (v : View) : Type 0 where
 
 -- what an input is taken for
 abbrev pub tally_of : Reaction → ℕ → Tally
-tally_of r lost = record { taken = if is_some r.dropped then 0 else 1; dropped = if is_some r.dropped then 1 else 0; lost = lost }
+tally_of r lost = record { taken = 1; dropped = if is_some r.dropped then 1 else 0; lost = lost }
 
 -- what was written over the front of a vector is there
 written_front : (l rest : List ℕ) → take (length l) (l ++ rest) ≡ l
@@ -59,12 +59,12 @@ received v0 v1 a listens kept heard none =
     }
 
 -- the counts of a turn
-pub tally_is : (n : Situation) (i : Input) (x : List ℕ) (taken dropped lost : ℕ) (d : Option Dropped) → d ≡ (react n i).dropped → taken ≡ (if is_some d then 0 else 1) → dropped ≡ (if is_some d then 1 else 0) → i ≡ Datagram x
-    → tally_of (react n (Datagram x)) lost ≡ record { taken = taken; dropped = dropped; lost = lost }
-tally_is n i x taken dropped lost d is t e input =
+pub tally_is : (n : Situation) (i : Input) (x : List ℕ) (dropped lost : ℕ) (d : Option Dropped) → d ≡ (react n i).dropped → dropped ≡ (if is_some d then 1 else 0) → i ≡ Datagram x
+    → tally_of (react n (Datagram x)) lost ≡ record { taken = 1; dropped = dropped; lost = lost }
+tally_is n i x dropped lost d is e input =
     let same : (react n (Datagram x)).dropped ≡ d = ap (λ (j : Input). (react n j).dropped) (sym input) ∙ sym is in
-    ap (λ (o : Option Dropped). record { taken = if is_some o then 0 else 1; dropped = if is_some o then 1 else 0; lost = lost }) same
-    ∙ (λ k. record { taken = sym t k; dropped = sym e k; lost = lost })
+    ap (λ (o : Option Dropped). record { taken = 1; dropped = if is_some o then 1 else 0; lost = lost }) same
+    ∙ (λ k. record { taken = 1; dropped = sym e k; lost = lost })
 
 module _ {L : Type 0} (holds : L → List Entry → List ℕ → Type 0) (stands : List Entry → List ℕ → Type 0) (law : (log : L) (es : List Entry) (c : List ℕ) → holds log es c → stands es c) where
   pub listened : (node : Node L) (n : Situation) (v0 v1 : View) (joins : List (ℕ × List ℕ)) (a : Heard) (ok : Type 0) → Knows node n → Listened v0 v1 joins a → Ran holds stands node node v0 v1 n joins 1 no_tally (is_fault a) ok
@@ -76,10 +76,10 @@ module _ {L : Type 0} (holds : L → List Entry → List ℕ → Type 0) (stands
     all_answers = λ is. refl;
     joined = l.joined;
     knows = λ is. knows;
-    stored = λ is s. record { records = s.records; decoded = s.decoded; shows = shows_rest (holds node.log s.records) v0 v1 l.listens.rests s.shows };
-    moments = λ s. rests_on v0 v0 v1 (λ c k. IsPrefixSoon stands n [] [] v0.told c k) (at_start v0 (λ c k. IsPrefixSoon stands n [] [] v0.told c k)) l.listens.rests
+    stored = λ is tells s. record { records = s.records; decoded = s.decoded; shows = shows_rest (holds node.log s.records) v0 v1 l.listens.rests tells s.shows };
+    moments = λ tells s. rests_on v0 v0 v1 (λ c k. IsPrefixSoon stands n [] [] v0.told c k) (at_start v0 (λ c k. IsPrefixSoon stands n [] [] v0.told c k)) l.listens.rests
         (λ c left. record { prefix = whole stands n [] v0.told c v1.told (stored_reopens holds stands law node n v0 knows.valid s c left); soon = omega (arith, l.listens.told) });
-    ends = λ s c left. whole_has_all stands n [] c (stored_reopens holds stands law node n v0 knows.valid s c (l.listens.rests.images c left));
+    ends = λ tells s c left. whole_has_all stands n [] c (stored_reopens holds stands law node n v0 knows.valid s c (l.listens.rests.images c left));
     told = told_from v0.told v0.told v1.told v0.told 0 refl (sym l.listens.told) (told_none v0.told);
     sent = ([], sent_none, subst (λ (o : Outside). Grows v0.outside.sent o.sent []) (sym l.kept) (grows_none v0.outside.sent));
     lost_cause = λ some. absurd (omega arith);
@@ -92,7 +92,7 @@ module _ {L : Type 0} (holds : L → List Entry → List ℕ → Type 0) (stands
       link_faults = l.listens.link_faults;
       send_faults = omega (arith, ap (λ (o : Outside). o.send_faults) l.kept);
     };
-    tells = ap is_some l.listens.rests.bytes;
+    tells = rests_tells v0 v1 l.listens.rests;
   }
 
   -- the images while a frame comes, and while it is absorbed
@@ -106,8 +106,8 @@ module _ {L : Type 0} (holds : L → List Entry → List ℕ → Type 0) (stands
       then_run v0 v1 v2 P first (weakened v1 v2 (λ c k. (k ≡ v1.told) × (ReopensTo stands n.history c ⊎ ReopensTo stands (next n (Datagram x)).history c)) P
       (λ c k both. ⊎_elim (λ i. first_image stands n done failed v0.told c k (both.0 ∙ came.listens.told) i) (λ i. next_image stands n (Datagram x) done failed v0.told c k are (both.0 ∙ came.listens.told) i) both.1) run)
 
-  pub stored_came : (node : Node L) (n : Situation) (v0 v1 : View) (x : List ℕ) → Came v0 v1 x → Stored holds node n.history v0 → Stored holds node n.history v1
-  stored_came node n v0 v1 x came s = record { records = s.records; decoded = s.decoded; shows = shows_rest (holds node.log s.records) v0 v1 came.listens.rests s.shows }
+  pub stored_came : (node : Node L) (n : Situation) (v0 v1 : View) (x : List ℕ) → Came v0 v1 x → Tells_bytes v1 → Stored holds node n.history v0 → Stored holds node n.history v1
+  stored_came node n v0 v1 x came tells s = record { records = s.records; decoded = s.decoded; shows = shows_rest (holds node.log s.records) v0 v1 came.listens.rests tells s.shows }
 
   -- a frame that was not absorbed
   pub refused : (node node' : Node L) (n : Situation) (v0 v1 v2 : View) (x : List ℕ) (ok : Type 0) → (ok → ⊥) → Now v1 → Now v2 → Came v0 v1 x → IsValid n.history → DiskWorks v1 v2
@@ -121,10 +121,10 @@ module _ {L : Type 0} (holds : L → List Entry → List ℕ → Type 0) (stands
     all_answers = λ is. absurd (not_ok is);
     joined = subst (λ (o : Outside). Grows v0.outside.joined o.joined []) (sym (works.outside ∙ came.kept)) (grows_none v0.outside.joined);
     knows = λ is. absurd (not_ok is);
-    stored = λ is s. absurd (not_ok is);
-    moments = λ s. absorbing node n v0 v1 v2 x [] (Datagram x ∷ []) refl came valid s (run (stored_came node n v0 v1 x came s));
-    ends = λ s c left.
-        let st = stored_came node n v0 v1 x came s in
+    stored = λ is tells s. absurd (not_ok is);
+    moments = λ tells s. absorbing node n v0 v1 v2 x [] (Datagram x ∷ []) refl came valid s (run (stored_came node n v0 v1 x came (works.tells tells) s));
+    ends = λ tells s c left.
+        let st = stored_came node n v0 v1 x came (works.tells tells) s in
         let span = run st in
         either_has_all stands n (Datagram x) c
         (⊎_elim (λ before. inl (stored_reopens holds stands law node n v1 valid st c (now1.only c v2.told before).0)) (λ is. is.1)
@@ -141,7 +141,7 @@ module _ {L : Type 0} (holds : L → List Entry → List ℕ → Type 0) (stands
       link_faults = omega (arith, came.listens.link_faults, ap (λ (o : Outside). o.link_faults) works.outside);
       send_faults = omega (arith, ap (λ (o : Outside). o.send_faults) (works.outside ∙ came.kept));
     };
-    tells = works.tells ∙ ap is_some came.listens.rests.bytes;
+    tells = λ tells. rests_tells v0 v1 came.listens.rests (works.tells tells);
   }
 
   -- a frame that was absorbed, and its letters sent
@@ -153,6 +153,7 @@ module _ {L : Type 0} (holds : L → List Entry → List ℕ → Type 0) (stands
   answered node node' n v0 v1 v2 v3 x lost ok came valid works run knows stored letters are s =
       let P : List ℕ → ℕ → Type 0 = λ c k. IsPrefixSoon stands n (Datagram x ∷ []) [] v0.told c k in
       let r = react n (Datagram x) in
+      let mid : Tells_bytes v3 → Tells_bytes v1 = λ tells. works.tells (sends_tells v2 v3 letters lost s tells) in
       let all : letters_all n (Datagram x ∷ []) ≡ letters = append-nil r.letters ∙ sym are in
       let many : length (letters_all n (Datagram x ∷ [])) ≡ length letters = ap (λ (l : List (ℕ × List ℕ)). length l) all in
       let before : v2.told ≡ v0.told = works.told ∙ came.listens.told in
@@ -168,18 +169,19 @@ module _ {L : Type 0} (holds : L → List Entry → List ℕ → Type 0) (stands
         all_answers = λ is. refl;
         joined = subst (λ (o : Option (List (ℕ × List ℕ))). Grows v0.outside.joined o []) (sym same_joined) (grows_none v0.outside.joined);
         knows = λ is. knows;
-        stored = λ is st.
-            let t = stored (stored_came node n v0 v1 x came st) in
-            record { records = t.records; decoded = t.decoded; shows = record { bytes = t.shows.bytes; told = s.bytes ∙ t.shows.told; reads = t.shows.reads; images = λ c left. t.shows.images c (s.images c left) } };
-        moments = λ st.
-            let first = absorbing node n v0 v1 v2 x (Datagram x ∷ []) [] refl came valid st (run (stored_came node n v0 v1 x came st)) in
-            let t = stored (stored_came node n v0 v1 x came st) in
+        stored = λ is tells st.
+            let t = stored (stored_came node n v0 v1 x came (mid tells) st) in
+            record { records = t.records; decoded = t.decoded; shows = record { bytes = t.shows.bytes; told = s.bytes tells ∙ t.shows.told; reads = t.shows.reads; images = λ c left. t.shows.images c (s.images c left) } };
+        moments = λ tells st.
+            let there = stored_came node n v0 v1 x came (mid tells) st in
+            let first = absorbing node n v0 v1 v2 x (Datagram x ∷ []) [] refl came valid st (run there) in
+            let t = stored there in
             then_run v0 v2 v3 P first (weakened v2 v3 (λ c k. v2.may_leave c × (k ≤ v2.told + length letters)) P
             (λ c k both. record {
               prefix = whole stands n (Datagram x ∷ []) v0.told c k (stored_reopens holds stands law node' (next n (Datagram x)) v2 knows.valid t c both.0);
               soon = omega (arith, both.1, before, many);
             }) s.moments);
-        ends = λ st c left. whole_has_all stands n (Datagram x ∷ []) c (stored_reopens holds stands law node' (next n (Datagram x)) v2 knows.valid (stored (stored_came node n v0 v1 x came st)) c (s.images c left));
+        ends = λ tells st c left. whole_has_all stands n (Datagram x ∷ []) c (stored_reopens holds stands law node' (next n (Datagram x)) v2 knows.valid (stored (stored_came node n v0 v1 x came (mid tells) st)) c (s.images c left));
         told = told_as v0.told v3.told (length letters) (length (letters_all n (Datagram x ∷ []))) (sym many) (told_from v0.told v2.told v3.told v3.told (length letters) before refl s.told);
         sent = (
           s.sent.0,
@@ -196,7 +198,7 @@ module _ {L : Type 0} (holds : L → List Entry → List ℕ → Type 0) (stands
           link_faults = omega (arith, came.listens.link_faults, ap (λ (o : Outside). o.link_faults) works.outside, ap (λ (o : Outside). o.link_faults) s.kept);
           send_faults = omega (arith, from_faults, s.counts);
         };
-        tells = ap is_some s.bytes ∙ works.tells ∙ ap is_some came.listens.rests.bytes;
+        tells = λ tells. rests_tells v0 v1 came.listens.rests (mid tells);
       }
 
   -- the same for an input that is the datagram

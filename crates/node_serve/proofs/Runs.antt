@@ -4,7 +4,7 @@ use Rattle.std.proofs.lemmas.Bool.{false≢true}
 use Rattle.std.proofs.lemmas.List.{append-nil}
 use Rattle.psb_station.specs.View.{View, Heard}
 use Rattle.psb_station.specs.View.Heard.{Frame, Nothing, Clock, Joined, Fault}
-use Rattle.psb_station.specs.Span.{Leaves}
+use Rattle.psb_station.specs.Span.{Leaves, Tells_bytes}
 use Rattle.psb_station.proofs.Spans.{at_start, weakened, then_run}
 use Rattle.node_journal.specs.Entry.{Entry}
 use Rattle.psb_model.proofs.ByObject.{by_cases}
@@ -54,9 +54,9 @@ module _ {L : Type 0} (holds : L → List Entry → List ℕ → Type 0) (stands
     all_answers = λ is. refl;
     joined = grows_none v.outside.joined;
     knows = λ is. knows;
-    stored = λ is s. s;
-    moments = λ s. at_start v (λ c k. IsPrefixSoon stands n [] [] v.told c k);
-    ends = λ s c left. whole_has_all stands n [] c (stored_reopens holds stands law node n v knows.valid s c left);
+    stored = λ is tells s. s;
+    moments = λ tells s. at_start v (λ c k. IsPrefixSoon stands n [] [] v.told c k);
+    ends = λ tells s c left. whole_has_all stands n [] c (stored_reopens holds stands law node n v knows.valid s c left);
     told = told_none v.told;
     sent = ([], sent_none, grows_none v.outside.sent);
     lost_cause = λ some. absurd (omega arith);
@@ -65,7 +65,7 @@ module _ {L : Type 0} (holds : L → List Entry → List ℕ → Type 0) (stands
     said = refl;
     say_faults = refl;
     counts = record { disk_faults = omega arith; link_faults = omega arith; send_faults = omega arith };
-    tells = refl;
+    tells = λ tells. tells;
   }
 
   pub ran_then : (n0 n1 n2 : Node L) (v0 v1 v2 : View) (n : Situation) (js ks : List (ℕ × List ℕ)) (i j : ℕ) (t u : Tally) (link : Bool) (ok : Type 0)
@@ -95,15 +95,16 @@ module _ {L : Type 0} (holds : L → List Entry → List ℕ → Type 0) (stands
         all_answers = λ is. omega (arith, length-append r.hears.answers s.hears.answers, r.all_answers tt, s.all_answers is);
         joined = grows_then v0.outside.joined v1.outside.joined v2.outside.joined js ks r.joined s.joined;
         knows = λ is. subst (λ (l : Situation). Knows n2 l) (sym all) (s.knows is);
-        stored = λ is st. subst (λ (l : Situation). Stored holds n2 l.history v2) (sym all) (s.stored is (r.stored tt st));
-        moments = λ st.
+        stored = λ is tells st. subst (λ (l : Situation). Stored holds n2 l.history v2) (sym all) (s.stored is tells (r.stored tt (s.tells tells) st));
+        moments = λ tells st.
+            let mid = s.tells tells in
             let P : List ℕ → ℕ → Type 0 = λ c k. IsPrefixSoon stands n d s.failed v0.told c k in
-            let before : Leaves v0 v1 (λ c k. IsPrefixSoon stands n r.done [] v0.told c k) = subst (λ (f : List Input). Leaves v0 v1 (λ c k. IsPrefixSoon stands n r.done f v0.told c k)) none (r.moments st) in
+            let before : Leaves v0 v1 (λ c k. IsPrefixSoon stands n r.done [] v0.told c k) = subst (λ (f : List Input). Leaves v0 v1 (λ c k. IsPrefixSoon stands n r.done f v0.told c k)) none (r.moments mid st) in
             then_run v0 v1 v2 P
             (weakened v0 v1 (λ c k. IsPrefixSoon stands n r.done [] v0.told c k) P (λ c k p. record { prefix = earlier stands n r.done s.done s.failed v0.told c k p; soon = omega (arith, p.soon, many) }) before)
             (weakened v1 v2 (λ c k. IsPrefixSoon stands m s.done s.failed v1.told c k) P
-            (λ c k p. record { prefix = later_part stands n r.done s.done s.failed v0.told v1.told c k r.told.most p.prefix; soon = omega (arith, p.soon, r.told.most, many) }) (s.moments (r.stored tt st)));
-        ends = λ st c left. later_has_all stands n r.done s.done s.failed c (s.ends (r.stored tt st) c left);
+            (λ c k p. record { prefix = later_part stands n r.done s.done s.failed v0.told v1.told c k r.told.most p.prefix; soon = omega (arith, p.soon, r.told.most, many) }) (s.moments tells (r.stored tt mid st)));
+        ends = λ tells st c left. later_has_all stands n r.done s.done s.failed c (s.ends tells (r.stored tt (s.tells tells) st) c left);
         told = told_as v0.told v2.told (length (letters_all n r.done) + length (letters_all m s.done)) (length (letters_all n d)) (sym many) (told_then v0.told v1.told v2.told (length (letters_all n r.done)) (length (letters_all m s.done)) r.told s.told);
         sent = (
           r.sent.0 ++ s.sent.0,
@@ -111,7 +112,7 @@ module _ {L : Type 0} (holds : L → List Entry → List ℕ → Type 0) (stands
           grows_then v0.outside.sent v1.outside.sent v2.outside.sent r.sent.0 s.sent.0 r.sent.2 s.sent.2,
         );
         lost_cause = λ some. causes_sum t.lost u.lost some v0.outside.send_faults v1.outside.send_faults v2.outside.send_faults r.lost_cause s.lost_cause r.counts.send_faults s.counts.send_faults;
-        taken = λ is. omega (arith, r.taken tt, s.taken is, taken_in-append n r.done s.done);
+        taken = λ is. omega (arith, r.taken tt, s.taken is, taken_in-append r.done s.done);
         dropped = λ is. omega (arith, r.dropped tt, s.dropped is, dropped_in-append n r.done s.done);
         said = s.said ∙ r.said;
         say_faults = s.say_faults ∙ r.say_faults;
@@ -120,7 +121,7 @@ module _ {L : Type 0} (holds : L → List Entry → List ℕ → Type 0) (stands
           link_faults = omega (arith, r.counts.link_faults, s.counts.link_faults);
           send_faults = omega (arith, r.counts.send_faults, s.counts.send_faults);
         };
-        tells = s.tells ∙ r.tells;
+        tells = λ tells. r.tells (s.tells tells);
       }
 
   -- what is known of a run's end holds under a stronger condition
@@ -157,7 +158,7 @@ module _ {L : Type 0} (holds : L → List Entry → List ℕ → Type 0) (stands
     all_answers = λ is. absurd (not_ok is);
     joined = r.joined;
     knows = λ is. absurd (not_ok is);
-    stored = λ is s. absurd (not_ok is);
+    stored = λ is tells s. absurd (not_ok is);
     moments = r.moments;
     ends = r.ends;
     told = r.told;
@@ -172,13 +173,13 @@ module _ {L : Type 0} (holds : L → List Entry → List ℕ → Type 0) (stands
   }
 
   -- a node that was ready is ready after a run that ended well
-  pub ready_after : (n0 n1 : Node L) (v0 v1 : View) (i : ℕ) (t : Tally) (link : Bool) (ok : Type 0) → ok → IsReady holds n0 v0 → is_some v1.bytes ≡ is_some v0.bytes → ((n : Situation) → Knows n0 n → (m : Situation) × Knows n1 m)
-      → ((n : Situation) → Knows n0 n → Stored holds n0 n.history v0 → Ran holds stands n0 n1 v0 v1 n [] i t link ok) → IsReady holds n1 v1
-  ready_after n0 n1 v0 v1 i t link ok well ready same goes run = by_cases (is_some v0.bytes)
-      (λ yes. let st = ready.2 yes in let r = run ready.0 ready.1 st in (after_all ready.0 r.done, r.knows well, λ tells. r.stored well st))
-      (λ no. let m = goes ready.0 ready.1 in (m.0, m.1, λ tells. absurd (false≢true (sym (same ∙ no) ∙ tells))))
+  pub ready_after : (n0 n1 : Node L) (v0 v1 : View) (i : ℕ) (t : Tally) (link : Bool) (ok : Type 0) → ok → IsReady holds n0 v0 → (Tells_bytes v1 → Tells_bytes v0) → ((n : Situation) → Knows n0 n → (m : Situation) × Knows n1 m)
+      → (Tells_bytes v1 → (n : Situation) → Knows n0 n → Stored holds n0 n.history v0 → Ran holds stands n0 n1 v0 v1 n [] i t link ok) → IsReady holds n1 v1
+  ready_after n0 n1 v0 v1 i t link ok well ready same goes run = by_cases (is_some v1.bytes)
+      (λ yes. let st = ready.2 (same yes) in let r = run yes ready.0 ready.1 st in (after_all ready.0 r.done, r.knows well, λ tells. r.stored well tells st))
+      (λ no. let m = goes ready.0 ready.1 in (m.0, m.1, λ tells. absurd (false≢true (sym no ∙ tells))))
 
   -- a run of turns, and one turn more
-  pub turn_more : (n0 n1 n2 : Node L) (v0 v1 v2 : View) (n : Situation) (i : ℕ) (t u : Tally) (link : Bool) (ok : Type 0) → Stored holds n0 n.history v0 → Ran holds stands n0 n1 v0 v1 n [] i t false (Unit {0})
+  pub turn_more : (n0 n1 n2 : Node L) (v0 v1 v2 : View) (n : Situation) (i : ℕ) (t u : Tally) (link : Bool) (ok : Type 0) → Tells_bytes v1 → Stored holds n0 n.history v0 → Ran holds stands n0 n1 v0 v1 n [] i t false (Unit {0})
       → ((m : Situation) → Knows n1 m → Stored holds n1 m.history v1 → Ran holds stands n1 n2 v1 v2 m [] 1 u link ok) → Ran holds stands n0 n2 v0 v2 n [] (i + 1) (tally_sum t u) link ok
-  turn_more n0 n1 n2 v0 v1 v2 n i t u link ok st r run = ran_then n0 n1 n2 v0 v1 v2 n [] [] i 1 t u link ok r (run (after_all n r.done) (r.knows tt) (r.stored tt st))
+  turn_more n0 n1 n2 v0 v1 v2 n i t u link ok mid st r run = ran_then n0 n1 n2 v0 v1 v2 n [] [] i 1 t u link ok r (run (after_all n r.done) (r.knows tt) (r.stored tt mid st))

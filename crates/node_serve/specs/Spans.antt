@@ -1,5 +1,5 @@
 -- The moments of a serving.
-use Rattle.std.specs.Prelude.{◌≡◌, ℕ, ◌+◌, ◌-◌, ◌<◌, ◌≤◌, Bool, List, [], ◌++◌, length, take, is_some}
+use Rattle.std.specs.Prelude.{◌≡◌, ℕ, ◌+◌, ◌-◌, ◌<◌, ◌≤◌, Bool, List, [], ◌++◌, length, take}
 use Rattle.psb_station.specs.View.{View}
 use Rattle.psb_station.specs.Calls.{Grows, Rose}
 use Rattle.psb_station.specs.Span.{Leaves, Tells_bytes}
@@ -43,7 +43,7 @@ pub record Counts (old new : View) : Type 0 where
   pub link_faults : old.outside.link_faults ≤ new.outside.link_faults
   pub send_faults : old.outside.send_faults ≤ new.outside.send_faults
 
--- how many inputs were taken and dropped, and how many letters were lost
+-- how many datagrams came, how many of them were dropped, and how many letters were lost
 pub record Tally : Type 0 where
   pub taken : ℕ
   pub dropped : ℕ
@@ -66,17 +66,17 @@ pub record Ran {L : Type 0} (holds : L → List Entry → List ℕ → Type 0) (
   pub all_answers : ok → length hears.answers ≡ answers
   pub joined : Grows before.outside.joined now.outside.joined joins
   pub knows : ok → Knows new (after_all n done)
-  pub stored : ok → Stored holds old n.history before → Stored holds new (after_all n done).history now
+  pub stored : ok → Tells_bytes now → Stored holds old n.history before → Stored holds new (after_all n done).history now
   -- a crash at any moment leaves a prefix that has each change told of by then
-  pub moments : Stored holds old n.history before → Leaves before now (λ c k. IsPrefixSoon stands n done failed before.told c k)
+  pub moments : Tells_bytes now → Stored holds old n.history before → Leaves before now (λ c k. IsPrefixSoon stands n done failed before.told c k)
   -- and a crash at its end leaves each change of the inputs that were absorbed
-  pub ends : Stored holds old n.history before → (c : List ℕ) → now.may_leave c → HasAll stands n done failed c
+  pub ends : Tells_bytes now → Stored holds old n.history before → (c : List ℕ) → now.may_leave c → HasAll stands n done failed c
   pub told : ToldMore before.told now.told (length (letters_all n done))
   pub sent : (out : List (ℕ × List ℕ)) × AreSent (letters_all n done) out tally.lost × Grows before.outside.sent now.outside.sent out
   pub lost_cause : 0 < tally.lost → Rose before.outside.send_faults now.outside.send_faults
-  pub taken : ok → tally.taken ≡ taken_in n done
+  pub taken : ok → tally.taken ≡ taken_in done
   pub dropped : ok → tally.dropped ≡ dropped_in n done
   pub said : now.outside.said ≡ before.outside.said
   pub say_faults : now.outside.say_faults ≡ before.outside.say_faults
   pub counts : Counts before now
-  pub tells : is_some now.bytes ≡ is_some before.bytes
+  pub tells : Tells_bytes now → Tells_bytes before

@@ -1,5 +1,6 @@
 ghost use Rattle.std.specs.Prelude.{◌≡◌, ◌⊎◌, ◌+◌, ◌≤◌, [], true, false, if◌then◌else◌, is_some, IfOk, IsOk, OnOk, OnErr, length};
 ghost use Rattle.psb_station.specs.Calls.{Rose};
+ghost use Rattle.psb_station.specs.Span.{Tells_bytes};
 ghost use Rattle.psb_machine.specs.Machine.{Situation};
 ghost use Rattle.node_core.specs.declared.fault.Fault.TheVariants as fault;
 ghost use Rattle.node_core.specs.Stored.{Knows, Stored};
@@ -12,9 +13,10 @@ use node_core::{Fault, Input, Node};
 use node_journal::Log;
 use psb_station::Station;
 use std::alloc::Global;
+use thiserror::Error;
 use wire_codec::Dropped;
 
-/// What came of a turn.
+/// What came of a turn: how many datagrams came, how many of them were dropped, and how many letters were lost.
 #[derive(Clone, Copy, Debug, PartialEq, Eq)]
 pub struct Turned {
     pub taken: u32,
@@ -22,7 +24,7 @@ pub struct Turned {
     pub lost: u32,
 }
 
-/// What came of a serving.
+/// What came of a serving: the turns made, the datagrams that came, those of them that were dropped, and the letters lost.
 #[derive(Clone, Copy, Debug, PartialEq, Eq)]
 pub struct Total {
     pub turns: u32,
@@ -32,23 +34,25 @@ pub struct Total {
 }
 
 /// Why a turn or a serving ended.
-#[derive(Clone, Copy, Debug, PartialEq, Eq)]
+#[derive(Clone, Copy, Debug, PartialEq, Eq, Error)]
 pub enum ServeFault {
     /// The node gave up: the disk failed.
+    #[error("the node gave up: {0}")]
     Node(Fault),
     /// The link failed to receive.
+    #[error("the link failed")]
     Link,
+    #[error("no memory")]
     Memory,
 }
 
-/// How many datagrams were taken, and how many dropped, by what the one was dropped for.
-fn tallied(dropped: Option<Dropped>) -> (u32, u32)
-    ensures taken { result.0 ≡ (if is_some dropped then 0 else 1) }
-    ensures dropped { result.1 ≡ (if is_some dropped then 1 else 0) }
+/// How many datagrams were dropped, by what the one was dropped for.
+fn dropped_in(dropped: Option<Dropped>) -> u32
+    ensures { result ≡ (if is_some dropped then 1 else 0) }
 {
     match dropped {
-        None => (1, 0),
-        Some(_) => (0, 1),
+        None => 0,
+        Some(_) => 1,
     }
 }
 
@@ -62,14 +66,15 @@ pub fn turn<L: Log, S: Station>(
     requires ready { IsReady L.holds node.old (S.view station.old) }
     requires whole { L.is_broken node.old.log ≡ false }
     requires counted { node.old.ledger.state.changes ≡ L.size node.old.log }
-    ensures ran { (n : Situation) → Knows node.old n → Stored L.holds node.old n.history (S.view station.old)
+    ensures tells { Tells_bytes (S.view station.new) → Tells_bytes (S.view station.old) }
+    ensures ran { Tells_bytes (S.view station.new) → (n : Situation) → Knows node.old n → Stored L.holds node.old n.history (S.view station.old)
         → Ran L.holds L.stands node.old node.new (S.view station.old) (S.view station.new) n [] 1 (turned_tally result) (is_link result) (IsOk result) }
     ensures ready { OnOk result (IsReady L.holds node.new (S.view station.new)) }
     ensures counts { Counts (S.view station.old) (S.view station.new) }
     ensures unsaid { (S.view station.new).outside.say_faults ≡ (S.view station.old).outside.say_faults }
     ensures whole { OnOk result (L.is_broken node.new.log ≡ false) }
     ensures counted { OnOk result (node.new.ledger.state.changes ≡ L.size node.new.log) }
-    ensures small { IfOk result (λ t. (t.taken + t.dropped ≤ 1) × (t.lost ≤ 1)) }
+    ensures small { IfOk result (λ t. (t.taken ≤ 1) × (t.dropped ≤ t.taken) × (t.lost ≤ 1)) }
     ensures disk_cause { result ≡ Err (ServeFault.Node fault.DiskFault) → Rose (S.view station.old).disk_faults (S.view station.new).disk_faults }
     ensures link_cause { result ≡ Err ServeFault.Link → Rose (S.view station.old).outside.link_faults (S.view station.new).outside.link_faults }
     ensures only { OnErr result ((result ≡ Err (ServeFault.Node fault.DiskFault)) ⊎ (result ≡ Err ServeFault.Link) ⊎ (result ≡ Err ServeFault.Memory)) }
@@ -92,10 +97,9 @@ pub fn turn<L: Log, S: Station>(
         Err(_) => unreachable!(),
     };
     let lost = send_all(station, outcome.out.as_slice());
-    let (taken, dropped) = tallied(outcome.dropped);
     Ok(Turned {
-        taken,
-        dropped,
+        taken: 1,
+        dropped: dropped_in(outcome.dropped),
         lost,
     })
 }
@@ -110,7 +114,8 @@ pub fn serve<L: Log, S: Station>(
     requires ready { IsReady L.holds node.old (S.view station.old) }
     requires whole { L.is_broken node.old.log ≡ false }
     requires counted { node.old.ledger.state.changes ≡ L.size node.old.log }
-    ensures ran { (n : Situation) → Knows node.old n → Stored L.holds node.old n.history (S.view station.old) → (t : Tally)
+    ensures tells { Tells_bytes (S.view station.new) → Tells_bytes (S.view station.old) }
+    ensures ran { Tells_bytes (S.view station.new) → (n : Situation) → Knows node.old n → Stored L.holds node.old n.history (S.view station.old) → (t : Tally)
         × Ran L.holds L.stands node.old node.new (S.view station.old) (S.view station.new) n [] turns t (is_link result) (IsOk result)
         × IfOk result (λ total. t ≡ total_tally total) }
     ensures ready { OnOk result (IsReady L.holds node.new (S.view station.new)) }

@@ -6,13 +6,15 @@ ghost use Rattle.std.specs.Prelude.{◌≡◌, ◌↔◌, drop, map, string_byte
 ghost use Rattle.backup_cli.specs.Words.{IsNoCommand};
 ghost use Rattle.backup_cli.specs.declared.status.Status.TheVariants.{Usage};
 
-use backup_cli::host::HostStation;
-use backup_cli::host_folder::HostFolder;
-use backup_cli::{Status, run};
+mod machine;
+
+use crate::machine::run_on_machine;
+use backup_cli::Status;
+use psb_host::{HostFolder, HostStation, Start, StartFolder, Unknown};
 use std::alloc::AllocError;
 use std::env;
 use std::env::Env;
-use std::fs::Files;
+use std::fs::{File, Files};
 use std::io::ErrorKind;
 use std::net::Net;
 use std::process::ExitCode;
@@ -31,9 +33,11 @@ fn words_given<R: Env + AllocGlobal>(rt: &R) -> Result<Vec<String>, AllocError> 
 
 /// Runs the command that the words behind DISK are. With no DISK there are no words either, and no
 /// words are no command.
-fn run_given<R>(rt: &R, mut words: Vec<String>) -> Status
+fn run_given<R, S, T>(rt: &R, file: S, tree: T, mut words: Vec<String>) -> Status
 where
-    R: Files + Net + Print + Clock + AllocGlobal,
+    R: Files<File = File> + Net + Print + Clock + AllocGlobal,
+    S: Start,
+    T: StartFolder,
     ensures usage { (result ≡ Usage) ↔ IsNoCommand (drop 1 (map string_bytes words.items)) }
 {
     let alloc = rt.alloc();
@@ -42,14 +46,14 @@ where
     } else {
         words.remove(0)
     };
-    let mut station = HostStation::new(alloc, rt, disk);
-    let mut folder = HostFolder::new(alloc, rt);
-    run(alloc, &mut station, &mut folder, &words)
+    let mut station = HostStation::new(alloc, rt, disk, file);
+    let mut folder = HostFolder::new(alloc, rt, tree);
+    run_on_machine(alloc, &mut station, &mut folder, &words)
 }
 
 fn main(rt: HostRuntime) -> ExitCode {
     let status = match words_given(&rt) {
-        Ok(words) => run_given(&rt, words),
+        Ok(words) => run_given(&rt, Unknown, Unknown, words),
         Err(_) => {
             let _ = println!(rt; "no memory");
             Status::Memory

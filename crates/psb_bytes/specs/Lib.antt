@@ -4,3 +4,4 @@ pub mod Numbers
 pub mod Pages
 pub mod Hex
 pub mod Tickets
+pub mod Names

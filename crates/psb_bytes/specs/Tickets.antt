@@ -1,6 +1,7 @@
 -- Refs and tickets in bytes: a name, a handle and a length make 68, and the levels are one more.
 use Rattle.std.specs.Prelude.{ℕ, nat_le, Bool, ◌&&◌, List, [], ◌∷◌, ◌++◌, take, drop, slice_index}
 use Rattle.psb_bytes.specs.Numbers.{u32_bytes, u32_of}
+use Rattle.psb_bytes.specs.Units.{longest_chunk}
 use Rattle.psb_bytes.specs.declared.ids.Ref.{Ref}
 use Rattle.psb_bytes.specs.declared.ids.Ticket.{Ticket}
 
@@ -18,9 +19,9 @@ ref_of bytes = record { name = take 32 bytes; handle = take 32 (drop 32 bytes); 
 abbrev pub ticket_of : List ℕ → Ticket
 ticket_of bytes = record { reference = ref_of bytes; levels = slice_index bytes 68 }
 
--- a chunk has 1 to 32,768 bytes
+-- a chunk has at least one byte
 abbrev pub is_chunk_len : ℕ → Bool
-is_chunk_len len = nat_le 1 len && nat_le len 32768
+is_chunk_len len = nat_le 1 len && nat_le len longest_chunk
 
 -- the length of a chunk, and at most 4 levels
 abbrev pub is_ticket : Ticket → Bool

@@ -3,9 +3,11 @@ ghost use Rattle.std.specs.Prelude.{◌≡◌, string_bytes, IfOk};
 use crate::{Digest, Object, Ref};
 use std::alloc::{AllocError, AllocFailed, Global};
 use std::marker::Model;
+use thiserror::Error;
 
 /// Memory ran out.
-#[derive(Clone, Copy, PartialEq, Eq, Debug)]
+#[derive(Clone, Copy, PartialEq, Eq, Debug, Error)]
+#[error("no memory")]
 pub struct Memory;
 
 impl From<AllocError> for Memory {
@@ -25,7 +27,8 @@ impl<T: Drop> From<AllocFailed<T>> for Memory {
 }
 
 /// Fewer bytes are left than were asked for.
-#[derive(Clone, Copy, PartialEq, Eq, Debug)]
+#[derive(Clone, Copy, PartialEq, Eq, Debug, Error)]
+#[error("too few bytes are left")]
 pub struct Short;
 
 /// A vector that contracts see as the list of its items.

@@ -2,6 +2,7 @@ ghost use Rattle.std.specs.Prelude.{◌≡◌, ◌≤◌, ◌↔◌, ◌++◌, �
 ghost use Rattle.psb_bytes.specs.Numbers.{u16_bytes, u32_bytes, u64_bytes, u16_of, u32_of, u64_of};
 
 use crate::{Digest, Short};
+use byteorder::{BigEndian, ByteOrder};
 use std::marker::Model;
 
 /// Bytes that are read in turn. Contracts see it as the list of the bytes that are left.
@@ -79,7 +80,8 @@ impl<'a> Cursor<'a> {
         ensures moved { OnOk result (self.new ≡ drop 2 self.old) }
         ensures stays { OnErr result (self.new ≡ self.old) }
     {
-        Ok(u16::from_be_bytes(self.take_array()?))
+        let front: [u8; 2] = self.take_array()?;
+        Ok(BigEndian::read_u16(&front))
     }
 
     pub fn take_u32(&mut self) -> Result<u32, Short>
@@ -89,7 +91,8 @@ impl<'a> Cursor<'a> {
         ensures moved { OnOk result (self.new ≡ drop 4 self.old) }
         ensures stays { OnErr result (self.new ≡ self.old) }
     {
-        Ok(u32::from_be_bytes(self.take_array()?))
+        let front: [u8; 4] = self.take_array()?;
+        Ok(BigEndian::read_u32(&front))
     }
 
     pub fn take_u64(&mut self) -> Result<u64, Short>
@@ -99,7 +102,8 @@ impl<'a> Cursor<'a> {
         ensures moved { OnOk result (self.new ≡ drop 8 self.old) }
         ensures stays { OnErr result (self.new ≡ self.old) }
     {
-        Ok(u64::from_be_bytes(self.take_array()?))
+        let front: [u8; 8] = self.take_array()?;
+        Ok(BigEndian::read_u64(&front))
     }
 
     pub fn take_digest(&mut self) -> Result<Digest, Short>

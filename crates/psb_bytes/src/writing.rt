@@ -2,6 +2,7 @@ ghost use Rattle.std.specs.Prelude.{◌≡◌, ◌≤◌, ◌+◌, ◌++◌, ◌
 ghost use Rattle.psb_bytes.specs.Numbers.{u16_bytes, u32_bytes, u64_bytes};
 
 use crate::Memory;
+use byteorder::{BigEndian, ByteOrder};
 use std::alloc::Global;
 use std::marker::Model;
 
@@ -53,21 +54,27 @@ impl Page {
         requires { length self.old.bytes + 2 ≤ self.old.room }
         ensures { self.new ≡ record self.old { bytes = self.old.bytes ++ u16_bytes value } }
     {
-        self.put_slice(&u16::to_be_bytes(value));
+        let mut bytes = [0; 2];
+        BigEndian::write_u16(&mut bytes, value);
+        self.put_slice(&bytes);
     }
 
     pub fn put_u32(&mut self, value: u32)
         requires { length self.old.bytes + 4 ≤ self.old.room }
         ensures { self.new ≡ record self.old { bytes = self.old.bytes ++ u32_bytes value } }
     {
-        self.put_slice(&u32::to_be_bytes(value));
+        let mut bytes = [0; 4];
+        BigEndian::write_u32(&mut bytes, value);
+        self.put_slice(&bytes);
     }
 
     pub fn put_u64(&mut self, value: u64)
         requires { length self.old.bytes + 8 ≤ self.old.room }
         ensures { self.new ≡ record self.old { bytes = self.old.bytes ++ u64_bytes value } }
     {
-        self.put_slice(&u64::to_be_bytes(value));
+        let mut bytes = [0; 8];
+        BigEndian::write_u64(&mut bytes, value);
+        self.put_slice(&bytes);
     }
 
     /// The bytes. Takes no memory.

@@ -1,4 +1,5 @@
--- Claims (after Samsara, SOSP 2003): bytes that a node can make again from its seed, and nobody else can.
+-- Claims (after Samsara, SOSP 2003): bytes that a node can make again from its seed. That nobody without the seed can make
+-- them rests on the hash and the cipher, and is no statement here.
 use Rattle.std.specs.Prelude.{ℕ, zero, suc, ◌+◌, ◌*◌, List, [], ◌++◌, codes}
 use Rattle.psb_digest.specs.Hashes.{sha}
 use Rattle.psb_digest.specs.Words.{masked}

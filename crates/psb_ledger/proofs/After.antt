@@ -10,14 +10,14 @@ use Rattle.psb_settings.specs.declared.settings.Settings.{Settings}
 use Rattle.psb_model.specs.declared.entries.DebtEntry.{DebtEntry}
 use Rattle.psb_model.specs.declared.change.Change.{Change}
 use Rattle.psb_model.specs.declared.change.Change.TheVariants.{TookFresh, Refused}
-use Rattle.psb_model.specs.Words.{units, has, without, only, with_one, with_all}
+use Rattle.psb_model.specs.Words.{units, all_of, has, without, only, with_one, with_all}
 use Rattle.psb_model.specs.State.{Row, State, row, row_in, has_row, at_row, in_key, in_size, out_key, held_of, used, coming, is_held}
 use Rattle.psb_model.specs.Move.{still, moved}
-use Rattle.psb_model.specs.Conditions.{capacity, allowed}
+use Rattle.psb_model.specs.Conditions.{capacity, allowed, fresh_tests, refusal_tests}
 use Rattle.psb_model.specs.Effects.{chunk_in, own_slots, took_deal, after, rows_after, disturbed, loosen}
 use Rattle.psb_model.proofs.ByObject.{sum_by-with_one}
 use Rattle.psb_model.proofs.Tidy.{fresh_move}
-use Rattle.psb_ledger.specs.View.{AccountView, named_row, plain_state, fresh_row, fresh_tests, refusal_tests}
+use Rattle.psb_ledger.specs.View.{AccountView, named_row, plain_state, fresh_row}
 use Rattle.psb_ledger.proofs.Ordered.{by_cases}
 use Rattle.psb_ledger.proofs.Places.{found_row, found_peer, found_here, none}
 
@@ -62,7 +62,7 @@ pub after_fresh : (changes : ℕ) (settings : Option Settings) (vs ws : List Acc
 after_fresh changes settings vs ws issued p deal name first len new body h =
     let s = plain_state changes settings vs issued in
     let e : map named_row ws ≡ rows_after s (TookFresh p deal name first len new body) p = h ∙ sym (rows_fresh s p deal name first len new body) in
-    λ i. record { changes = changes + 1; settings = settings; rows = e i; issued = issued + units len; own = []; kept = []; snapped = 0; chosen = [] }
+    λ i. record { changes = changes + 1; settings = settings; rows = e i; issued = issued + units len; own = []; kept = []; snapped = None; chosen = [] }
 
 -- whose chunks have the name
 pub held_names : (vs : List AccountView) (o : Object) → list_any (λ (v : AccountView). has in_key v.row.ins o) vs ≡ list_any (λ (x : ℕ × Row). has in_key x.1.ins o) (map named_row vs)
@@ -71,7 +71,7 @@ held_names (v ∷ vs) o = ap (λ b. has in_key v.row.ins o || b) (held_names vs 
 
 -- THE CONDITION, in the ledger's own words
 
-pub allowed_fresh : (changes : ℕ) (settings : Option Settings) (vs : List AccountView) (issued total p deal : ℕ) (name : List ℕ) (first len : ℕ) (new : Bool) (i : ℕ) (r : AccountView) (held : Bool) (u cap : ℕ) (b : Bool) → (changes ≡ 0 → ⊥) → total ≡ used (plain_state changes settings vs issued) → Some i ≡ position (λ (v : AccountView). v.id == p) vs → r ≡ get_or vs i r → held ≡ list_any (λ (v : AccountView). has in_key v.row.ins (Chunk name)) vs → u ≡ units len → cap ≡ capacity settings → b ≡ fresh_tests r.row deal name first new held total u cap issued → allowed (plain_state changes settings vs issued) (TookFresh p deal name first len new None) ≡ b
+pub allowed_fresh : (changes : ℕ) (settings : Option Settings) (vs : List AccountView) (issued total p deal : ℕ) (name : List ℕ) (first len : ℕ) (new : Bool) (i : ℕ) (r : AccountView) (held : Bool) (u cap : ℕ) (b : Bool) → (changes ≡ 0 → ⊥) → total ≡ used (plain_state changes settings vs issued) → Some i ≡ position (λ (v : AccountView). v.id == p) vs → r ≡ get_or vs i r → held ≡ list_any (λ (v : AccountView). has in_key v.row.ins (Chunk name)) vs → u ≡ units len → cap ≡ capacity settings → b ≡ all_of (fresh_tests r.row deal name first new held total u cap issued) → allowed (plain_state changes settings vs issued) (TookFresh p deal name first len new None) ≡ b
 allowed_fresh changes settings vs issued total p deal name first len new i r held u cap b begun sum at is names un ca tests_are =
     let s = plain_state changes settings vs issued in
     let f = found_here vs p i r at is in
@@ -79,7 +79,7 @@ allowed_fresh changes settings vs issued total p deal name first len new i r hel
     let peer : has_row (map named_row vs) p ≡ true = found_peer vs p i r f in
     let q : row s p ≡ r.row = found_row vs p i r f in
     let h : is_held s name ≡ held = sym (names ∙ held_names vs (Chunk name)) in
-    rw (later, peer) ((λ j. fresh_tests (q j) deal name first new (h j) (sym sum j) (sym un j) (sym ca j) issued) ∙ sym tests_are)
+    rw (later, peer) ((λ j. all_of (fresh_tests (q j) deal name first new (h j) (sym sum j) (sym un j) (sym ca j) issued)) ∙ sym tests_are)
 
 and_false : (b x : Bool) → ((b && false) && x) ≡ false
 and_false true x = refl
@@ -130,16 +130,16 @@ pub after_refused : (changes : ℕ) (settings : Option Settings) (vs ws : List A
 after_refused changes settings vs ws issued p deal why detail h =
     let s = plain_state changes settings vs issued in
     let e : map named_row ws ≡ rows_after s (Refused p deal why detail) p = h ∙ sym (rows_refused s p deal why detail) in
-    λ i. record { changes = changes + 1; settings = settings; rows = e i; issued = issued; own = []; kept = []; snapped = 0; chosen = [] }
+    λ i. record { changes = changes + 1; settings = settings; rows = e i; issued = issued; own = []; kept = []; snapped = None; chosen = [] }
 
-pub allowed_refused : (changes : ℕ) (settings : Option Settings) (vs : List AccountView) (issued p deal why detail i : ℕ) (r : AccountView) (b : Bool) → (changes ≡ 0 → ⊥) → Some i ≡ position (λ (v : AccountView). v.id == p) vs → r ≡ get_or vs i r → b ≡ refusal_tests r.row deal why → allowed (plain_state changes settings vs issued) (Refused p deal why detail) ≡ b
+pub allowed_refused : (changes : ℕ) (settings : Option Settings) (vs : List AccountView) (issued p deal why detail i : ℕ) (r : AccountView) (b : Bool) → (changes ≡ 0 → ⊥) → Some i ≡ position (λ (v : AccountView). v.id == p) vs → r ≡ get_or vs i r → b ≡ all_of (refusal_tests r.row deal why) → allowed (plain_state changes settings vs issued) (Refused p deal why detail) ≡ b
 allowed_refused changes settings vs issued p deal why detail i r b begun at is tests_are =
     let s = plain_state changes settings vs issued in
     let f = found_here vs p i r at is in
     let later : nat_lt 0 changes ≡ true = lt-ltb 0 changes (omega arith) in
     let peer : has_row (map named_row vs) p ≡ true = found_peer vs p i r f in
     let q : row s p ≡ r.row = found_row vs p i r f in
-    rw (later, peer) (ap (λ (y : Row). refusal_tests y deal why) q ∙ sym tests_are)
+    rw (later, peer) (ap (λ (y : Row). all_of (refusal_tests y deal why)) q ∙ sym tests_are)
 
 pub refused_none : (changes : ℕ) (settings : Option Settings) (vs : List AccountView) (issued p deal why detail : ℕ) → None ≡ position (λ (v : AccountView). v.id == p) vs → allowed (plain_state changes settings vs issued) (Refused p deal why detail) ≡ false
 refused_none changes settings vs issued p deal why detail at =

@@ -6,7 +6,8 @@ use Rattle.std.proofs.lemmas.Bool.{and_parts, lt-ltb, eq-eqb, true≢false}
 use Rattle.std.proofs.lemmas.List.{append_assoc}
 use Rattle.psb_model.specs.declared.change.Change.{Change}
 use Rattle.psb_model.specs.declared.change.Change.TheVariants.{TookFresh}
-use Rattle.psb_model.specs.Heads.{u32, u64, flag, head_of}
+use Rattle.psb_bytes.specs.Numbers.{u32_bytes as u32, u64_bytes as u64}
+use Rattle.psb_model.specs.Heads.{flag, head_of}
 use Rattle.psb_model.specs.Grammar.{fits, is_u8, is_u32, is_u64, is_digest, are_bytes, chunk_fits, body_fits, is_chunk_len}
 use Rattle.psb_ledger.specs.Records.{HasNoChange, IsRead}
 use Rattle.psb_ledger.proofs.Spelled.{same_parts, digest_length}

@@ -11,7 +11,8 @@ use Rattle.psb_model.specs.declared.deals.DealWhat.{DealWhat}
 use Rattle.psb_model.specs.declared.deals.DealWhat.TheVariants.{Fresh, Swap, Cancel, PutBack, Forward, Return}
 use Rattle.psb_model.specs.declared.change.Change.{Change}
 use Rattle.psb_model.specs.declared.change.Change.TheVariants.{Begun, Kept, Snapped, Forgot, TookFresh, TookSwap, LetGo, LetGoBack, Replaced, Refused, Proposed, Settled, Turned, Asked, Passed, Failed, Declined, Discarded, Chose}
-use Rattle.psb_model.specs.Heads.{u16, u32, u64, flag, counted, object, ticket, candidate, deal_fields, head_of}
+use Rattle.psb_bytes.specs.Numbers.{u16_bytes as u16, u32_bytes as u32, u64_bytes as u64}
+use Rattle.psb_model.specs.Heads.{flag, counted, object, ticket, candidate, deal_fields, head_of}
 use Rattle.psb_model.specs.Grammar.{in_grammar, fits, what_fits, what_in_grammar, ticket_fits, candidate_fits, object_fits, is_u16, is_u32, is_digest, is_count}
 use Rattle.psb_ledger.specs.Records.{IsRecord, OneChangeEach}
 use Rattle.psb_ledger.proofs.Spelled.{same_byte, same_u16, same_u32, same_u64, same_name, same_flag, same_object, same_counted, IsTold}

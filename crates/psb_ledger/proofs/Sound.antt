@@ -102,7 +102,7 @@ begun_sound ch st vs is total body nst nvs none_yet sound same some rows small =
     let s = plain_state ch st vs is in
     let n = plain_state 1 nst nvs is in
     let one : 1 ≡ ch + 1 = omega arith in
-    let is_after : n ≡ after s (Begun body) = λ i. record { changes = one i; settings = same i; rows = rows i; issued = is; own = []; kept = []; snapped = 0; chosen = [] } in
+    let is_after : n ≡ after s (Begun body) = λ i. record { changes = one i; settings = same i; rows = rows i; issued = is; own = []; kept = []; snapped = None; chosen = [] } in
     let may : allowed s (Begun body) ≡ true = rw (none_yet, some) refl in (
       is_after,
       record {
@@ -130,4 +130,4 @@ pub same_rows : (vs : List AccountView) (p i : ℕ) (v w : AccountView) → Foun
 same_rows vs p i v w f a b = found_set vs p i v w (λ r. r) f a b ∙ at_row_none p (map named_row vs)
 
 pub same_state : (ch : ℕ) (st : Option Settings) (vs ws : List AccountView) (is : ℕ) → map named_row ws ≡ map named_row vs → plain_state ch st ws is ≡ plain_state ch st vs is
-same_state ch st vs ws is h = λ i. record { changes = ch; settings = st; rows = h i; issued = is; own = []; kept = []; snapped = 0; chosen = [] }
+same_state ch st vs ws is h = λ i. record { changes = ch; settings = st; rows = h i; issued = is; own = []; kept = []; snapped = None; chosen = [] }

@@ -8,7 +8,8 @@ use Rattle.std.proofs.lemmas.List.{append_assoc}
 use Rattle.std.proofs.lemmas.Nat.{from_be_bytes-to_be_bytes_2, from_be_bytes-to_be_bytes_4, from_be_bytes-to_be_bytes_8}
 use Rattle.psb_bytes.specs.declared.ids.Object.{Object}
 use Rattle.psb_bytes.specs.declared.ids.Object.TheVariants.{Chunk, Slot}
-use Rattle.psb_model.specs.Heads.{u16, u32, u64, flag, counted, object}
+use Rattle.psb_bytes.specs.Numbers.{u16_bytes as u16, u32_bytes as u32, u64_bytes as u64}
+use Rattle.psb_model.specs.Heads.{flag, counted, object}
 use Rattle.psb_model.specs.Grammar.{is_count, is_u8, is_u16, is_u32, is_u64, is_digest, object_fits}
 
 -- two lists that are equal and begin with pieces of one length

@@ -1,9 +1,10 @@
 -- The records of changes: which record is a change's, and what a reader of records answers.
 use Rattle.std.specs.Prelude.{◌≡◌, ℕ, Bool, true, false, List, [], Option, unwrap_or, MatchBool}
 use Rattle.psb_model.specs.declared.change.Change.{Change}
-use Rattle.psb_model.specs.declared.change.Change.TheVariants.{Begun, Kept, TookFresh, TookSwap, LetGoBack, Replaced, Refused, Settled}
+use Rattle.psb_model.specs.declared.change.Change.TheVariants.{Begun, Kept, TookFresh, TookSwap, LetGoBack, Replaced, Settled}
 use Rattle.psb_model.specs.Heads.{head_of, body_of}
 use Rattle.psb_model.specs.Grammar.{in_grammar, fits}
+use Rattle.psb_model.specs.History.{is_built}
 
 -- the kinds that have a body part
 abbrev pub has_body : Change → Bool
@@ -22,16 +23,9 @@ pub record IsRecord (c : Change) (head : List ℕ) (body : Option (List ℕ)) : 
   pub head_is : head ≡ head_of c
   pub body_is : MatchBool (has_body c) (body ≡ body_of c) (unwrap_or body [] ≡ [])
 
--- the kinds that are read so far
-abbrev pub kind_is_read : Change → Bool
-kind_is_read (Begun body) = true
-kind_is_read (TookFresh p deal name first len new body) = true
-kind_is_read (Refused p deal why detail) = true
-kind_is_read _ = false
-
--- a change of a kind that is read, in the grammar and within the widths of its fields, has the record
+-- a change of a kind that is built, in the grammar and within the widths of its fields, has the record
 pub record IsRead (c : Change) (head : List ℕ) (body : Option (List ℕ)) : Type 0 where
-  pub kind : kind_is_read c ≡ true
+  pub kind : is_built c ≡ true
   pub grammar : in_grammar c ≡ true
   pub widths : fits c ≡ true
   pub stands : IsRecord c head body
@@ -44,7 +38,7 @@ OneChangeEach = (c d : Change) (head : List ℕ) (body : Option (List ℕ))
 
 -- no change has a record with this head; no change is read from this record
 abbrev pub HasNoChange : List ℕ → Type 0
-HasNoChange head = (c : Change) → kind_is_read c ≡ true → fits c ≡ true → head ≡ head_of c → ⊥
+HasNoChange head = (c : Change) → is_built c ≡ true → fits c ≡ true → head ≡ head_of c → ⊥
 
 abbrev pub NoneIsRead : List ℕ → Option (List ℕ) → Type 0
 NoneIsRead head body = (c : Change) → IsRead c head body → ⊥

@@ -1,5 +1,5 @@
 -- What contracts see of a ledger: the state, and the memory that was taken for a change.
-use Rattle.std.specs.Prelude.{◌≡◌, ℕ, ◌+◌, ◌==◌, nat_lt, nat_le, not, if◌then◌else◌, ◌^◌, ◌<◌, ◌≤◌, Bool, true, ◌&&◌, List, [], ◌∷◌, map, sum_by, Option, Some, None}
+use Rattle.std.specs.Prelude.{◌≡◌, ℕ, ◌==◌, nat_lt, if◌then◌else◌, ◌^◌, ◌<◌, ◌≤◌, Bool, true, ◌&&◌, List, [], ◌∷◌, map, sum_by, Option, Some, None}
 use Rattle.std.specs.List.{list_all}
 use Rattle.std.specs.Ordering.{is_lt}
 use Rattle.psb_bytes.specs.Objects.{object_cmp}
@@ -12,9 +12,9 @@ use Rattle.psb_model.specs.declared.entries.DebtEntry.{DebtEntry}
 use Rattle.psb_model.specs.declared.deals.LastDeal.{LastDeal}
 use Rattle.psb_model.specs.declared.change.Change.{Change}
 use Rattle.psb_model.specs.declared.change.Change.TheVariants.{Begun, TookFresh}
-use Rattle.psb_model.specs.Words.{units, all_of, has, with_one, with_all}
-use Rattle.psb_model.specs.State.{Row, State, blank, is_peer, used, in_key, in_size, out_key, out_size, debt_size, debt_of}
-use Rattle.psb_model.specs.Conditions.{settings_in, capacity, most_claims}
+use Rattle.psb_model.specs.Words.{units, with_one, with_all}
+use Rattle.psb_model.specs.State.{Row, State, blank, is_peer, used, in_key, in_size, out_key, out_size, debt_size}
+use Rattle.psb_model.specs.Conditions.{settings_in, capacity}
 use Rattle.psb_model.specs.Effects.{chunk_in, own_slots, took_deal, first_rows}
 use Rattle.psb_model.proofs.Balance.{Good}
 
@@ -42,7 +42,7 @@ named_row v = (v.id, v.row)
 
 -- a state with these accounts, without own chunks and snapshots
 abbrev pub plain_state : ℕ → Option Settings → List AccountView → ℕ → State
-plain_state changes settings accounts issued = record { changes = changes; settings = settings; rows = map named_row accounts; issued = issued; own = []; kept = []; snapped = 0; chosen = [] }
+plain_state changes settings accounts issued = record { changes = changes; settings = settings; rows = map named_row accounts; issued = issued; own = []; kept = []; snapped = None; chosen = [] }
 
 -- the row of an account that was looked for
 abbrev pub row_of : Option AccountView → Row
@@ -52,23 +52,6 @@ row_of (Some v) = v.row
 -- a row after a chunk was taken against new slots
 abbrev pub fresh_row : List ℕ → ℕ → ℕ → ℕ → ℕ → Row → Row
 fresh_row name u first deal change r = took_deal deal change (record r { ins = with_one in_key (chunk_in name u) r.ins; outs = with_all out_key (own_slots first u) r.outs })
-
--- what a chunk is measured by, beside its peer's row: whether a body is held under its name, the
--- units that are used, its own units, the capacity, and the claim numbers that were drawn
-abbrev pub fresh_tests : Row → ℕ → List ℕ → ℕ → Bool → Bool → ℕ → ℕ → ℕ → ℕ → Bool
-fresh_tests r deal name first new held used u most issued = all_of
-    ((deal == r.last.number + 1)
-    ∷ not (has in_key r.ins (Chunk name))
-    ∷ (if held then not new else new)
-    ∷ (debt_of r == 0)
-    ∷ nat_le (used + u) most
-    ∷ (first == issued)
-    ∷ nat_le (issued + u) most_claims
-    ∷ [])
-
--- a refusal answers the peer's next deal, with a reason of 1 to 9
-abbrev pub refusal_tests : Row → ℕ → ℕ → Bool
-refusal_tests r deal why = all_of ((deal == r.last.number + 1) ∷ nat_le 1 why ∷ nat_le why 9 ∷ [])
 
 -- a chunk, or a slot with a number below this one
 abbrev pub is_below_slot : ℕ → Object → Bool

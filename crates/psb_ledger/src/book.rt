@@ -5,13 +5,13 @@ ghost use Rattle.std.specs.List.{list_any};
 ghost use Rattle.std.specs.Option.{option_copied};
 ghost use Rattle.psb_bytes.specs.declared.ids.Object.TheVariants.{Chunk};
 ghost use Rattle.psb_model.specs.declared.change.Change.TheVariants.{Begun, TookFresh, Refused};
-ghost use Rattle.psb_model.specs.Words.{has, units};
+ghost use Rattle.psb_model.specs.Words.{has, units, all_of};
 ghost use Rattle.psb_model.specs.State.{row, row_in, used, is_held, in_key, held_of, back_of, debt_of, nothing_yet};
 ghost use Rattle.psb_model.specs.Grammar.{in_grammar};
-ghost use Rattle.psb_model.specs.Conditions.{allowed, settings_in, capacity};
+ghost use Rattle.psb_model.specs.Conditions.{allowed, settings_in, capacity, fresh_tests, refusal_tests};
 ghost use Rattle.psb_model.specs.Effects.{after, blank_rows, first_rows};
 ghost use Rattle.psb_model.specs.History.{is_built};
-ghost use Rattle.psb_ledger.specs.View.{named_row, row_of, fresh_tests, refusal_tests, IsSound, HasBegunRoom, HasFreshRoom, HasRoom};
+ghost use Rattle.psb_ledger.specs.View.{named_row, row_of, IsSound, HasBegunRoom, HasFreshRoom, HasRoom};
 
 use crate::account::Account;
 use crate::codec::{Refusal, Store};
@@ -21,9 +21,11 @@ use psb_settings::{PeerRow, Settings, SettingsError, read_settings};
 use std::alloc::Global;
 use std::marker::Model;
 use std::mem;
+use thiserror::Error;
 
 /// The condition of a change does not hold, or its kind is not built yet.
-#[derive(Clone, Copy, PartialEq, Eq, Debug)]
+#[derive(Clone, Copy, PartialEq, Eq, Debug, Error)]
+#[error("the change may not be made now")]
 pub struct NotNow;
 
 /// The three numbers of a peer, in units of 512 bytes: what the node answers for to it, what the
@@ -84,7 +86,7 @@ struct Measure {
 }
 
 fn allows_fresh(account: &Account, x: &Store, m: Measure) -> bool
-    ensures { result ≡ fresh_tests account.now.row x.now.deal x.now.name x.now.first x.now.new m.is_held m.used m.units m.capacity m.issued }
+    ensures { result ≡ all_of (fresh_tests account.now.row x.now.deal x.now.name x.now.first x.now.new m.is_held m.used m.units m.capacity m.issued) }
 {
     is_next(account, x.deal)
         && !account.has(&Object::Chunk(x.name))
@@ -96,7 +98,7 @@ fn allows_fresh(account: &Account, x: &Store, m: Measure) -> bool
 }
 
 fn allows_refusal(account: &Account, x: &Refusal) -> bool
-    ensures { result ≡ refusal_tests account.now.row x.now.deal x.now.why }
+    ensures { result ≡ all_of (refusal_tests account.now.row x.now.deal x.now.why) }
 {
     is_next(account, x.deal) && 1 <= x.why && x.why <= 9
 }

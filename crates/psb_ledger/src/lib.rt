@@ -9,4 +9,4 @@ mod laws;
 
 pub use book::{Balance, Ledger, NotNow};
 pub use codec::{ChangeError, decode_change, encode_change};
-pub use laws::{held_is_back_and_debt, one_record_stands_for_one_change};
+pub use laws::one_record_stands_for_one_change;

@@ -3,6 +3,7 @@ use Rattle.std.proofs.Common.{◌≡◌, ℕ, zero, suc, ◌+◌, ◌-◌, ◌�
 use Rattle.std.proofs.lemmas.List.{append-nil, take-append-le}
 use Rattle.psb_model.specs.declared.change.Change.{Change}
 use Rattle.psb_machine.specs.Machine.{Situation, Input, react, next}
+use Rattle.psb_machine.specs.Machine.Input.{Datagram}
 use Rattle.psb_machine.specs.Course.{after_all, letters_all, taken_in, dropped_in, told_by, unless_first}
 
 pub after_all-append : (n : Situation) (xs ys : List Input) → after_all n (xs ++ ys) ≡ after_all (after_all n xs) ys
@@ -13,9 +14,9 @@ pub letters_all-append : (n : Situation) (xs ys : List Input) → letters_all n 
 letters_all-append n [] ys = refl
 letters_all-append n (x ∷ xs) ys = ap (λ l. (react n x).letters ++ l) (letters_all-append (next n x) xs ys) ∙ sym (append_assoc (react n x).letters (letters_all (next n x) xs) (letters_all (after_all (next n x) xs) ys))
 
-pub taken_in-append : (n : Situation) (xs ys : List Input) → taken_in n (xs ++ ys) ≡ taken_in n xs + taken_in (after_all n xs) ys
-taken_in-append n [] ys = omega arith
-taken_in-append n (x ∷ xs) ys = omega (arith, taken_in-append (next n x) xs ys)
+pub taken_in-append : (xs ys : List Input) → taken_in (xs ++ ys) ≡ taken_in xs + taken_in ys
+taken_in-append [] ys = omega arith
+taken_in-append (Datagram x ∷ xs) ys = omega (arith, taken_in-append xs ys)
 
 pub dropped_in-append : (n : Situation) (xs ys : List Input) → dropped_in n (xs ++ ys) ≡ dropped_in n xs + dropped_in (after_all n xs) ys
 dropped_in-append n [] ys = omega arith

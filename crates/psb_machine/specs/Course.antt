@@ -1,6 +1,7 @@
 -- The course of a serving: what the answers of the outside make of a node, and what of it was told.
 use Rattle.std.specs.Prelude.{ℕ, zero, suc, ◌+◌, ◌-◌, if◌then◌else◌, is_some, List, [], ◌∷◌, ◌++◌, length}
 use Rattle.psb_machine.specs.Machine.{Situation, Input, react, next}
+use Rattle.psb_machine.specs.Machine.Input.{Datagram}
 
 -- a node after these inputs
 abbrev pub after_all : Situation → List Input → Situation
@@ -12,10 +13,10 @@ abbrev pub letters_all : Situation → List Input → List (ℕ × List ℕ)
 letters_all n [] = []
 letters_all n (x ∷ xs) = (react n x).letters ++ letters_all (next n x) xs
 
--- how many of them pass the tests of their format, and how many are dropped
-abbrev pub taken_in : Situation → List Input → ℕ
-taken_in n [] = 0
-taken_in n (x ∷ xs) = (if is_some (react n x).dropped then 0 else 1) + taken_in (next n x) xs
+-- how many datagrams came, and how many of them fail a test of their format and are dropped
+abbrev pub taken_in : List Input → ℕ
+taken_in [] = 0
+taken_in (Datagram x ∷ xs) = 1 + taken_in xs
 
 abbrev pub dropped_in : Situation → List Input → ℕ
 dropped_in n [] = 0

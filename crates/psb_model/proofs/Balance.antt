@@ -112,10 +112,7 @@ steps s (Proposed p deal what) g gr h = step_proposes s p deal what (g.rows p) g
 steps s (Settled p deal numbers body) g gr h = step_settles s p deal numbers body (g.rows p) (numbers_ascend numbers (and_parts (body_fits (512 * length numbers) body) (numbers_listed numbers) gr).1) h
 steps s (Turned p deal why detail) g gr h = let x = still_step s p (g.rows p) in record { weighs = x.2; tidy = x.0; stands = λ d e. cc }
 steps s (Asked p objects) g gr h = let x = still_step s p (g.rows p) in record { weighs = x.2; tidy = x.0; stands = x.1 }
-steps s (Passed p asked objects) g gr h =
-    by_cases (asked == 0)
-    (λ k. let x = still_step s p (g.rows p) in record { weighs = rw k x.2; tidy = rw k x.0; stands = rw k x.1 })
-    (λ k. let x = step_gives_back s p objects (g.rows p) in record { weighs = rw k x.2; tidy = rw k x.0; stands = rw k x.1 })
+steps s (Passed p asked objects) g gr h = let x = step_gives_back s p objects (g.rows p) in record { weighs = x.2; tidy = x.0; stands = by_cases (asked == 0) (λ k. rw k x.1) (λ k. rw k x.1) }
 steps s (Failed p asked how got objects) g gr h =
     let ts = parts (tests s (Failed p asked how got objects)) h in
     let x = step_loses s p false objects (g.rows p) (objects_apart objects gr) (λ o. each-listed (λ y. not (tied_out s p y)) objects o ts.1.1.1.1.0) in

@@ -147,7 +147,7 @@ pub record IsPlain (s : State) : Type 0 where
   pub rows : AllPlain s.rows
   pub own : s.own ≡ []
   pub kept : s.kept ≡ []
-  pub snapped : s.snapped ≡ 0
+  pub snapped : s.snapped ≡ None
   pub chosen : s.chosen ≡ []
   pub issued : held_total s.rows ≡ s.issued
   pub before : s.changes ≡ 0 → s.issued ≡ 0

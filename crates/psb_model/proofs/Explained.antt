@@ -316,16 +316,10 @@ origin s (Turned p deal why detail) g pe q d h = origin_of_peer s (Turned p deal
 origin s (Asked p objects) g pe q d h = origin_of_peer s (Asked p objects) p pe (λ x k. absurd k) (λ x k r. refl) (λ y o k. refl) q d h
 origin s (Passed p asked objects) g pe q d h =
     origin_of_peer s (Passed p asked objects) p pe
-    (by_cases (asked == 0) (λ b. rw b (λ x k. absurd k)) (λ b. rw b (λ x k. absurd k)))
-    (λ x k. by_cases (asked == 0)
-    (λ b r. rw b refl)
-    (λ b r. let r' = rw b at r in rw (b, eq-eqb p p refl) (lacks_so (is_whole_listed objects) x (row s p).debts k (let t = (g.rows p).tidy.outs_once x.object in omega (arith, t)) r')))
-    (λ y o k. rw k (and_last (not (asked == 0)) _))
+    (λ x k. absurd k)
+    (λ x k r. rw (eq-eqb p p refl) (lacks_so (is_whole_listed objects) x (row s p).debts k (let t = (g.rows p).tidy.outs_once x.object in omega (arith, t)) r))
+    (λ y o k. rw k refl)
     q d h
-  where
-    and_last : (a b : Bool) → ((a && false) && b) ≡ false
-    and_last true b = refl
-    and_last false b = refl
 origin s (Failed p asked how got objects) g pe q d h =
     origin_of_peer s (Failed p asked how got objects) p pe
     (λ x k. let b = booking_from s p false objects x g (booked_by s.changes false objects (row s p).outs x k) in record { books = (refl, b.0); number = b.1; least = b.2; most = b.3 })

@@ -45,6 +45,8 @@ worked_two : (text : List ℕ) → settings_of text ≡ Some two_peers → Worke
 worked_two text h = record {
   lost_lawful = rw h refl;
   lost_numbers = record { held_is = rw h refl; back_is = rw h refl; debt_is = rw h refl };
+  shown_lawful = rw h refl;
+  shown_numbers = record { held_is = rw h refl; back_is = rw h refl; debt_is = rw h refl };
   forwarded_lawful = rw h refl;
   forwarded_two = record { held_is = rw h refl; back_is = rw h refl; debt_is = rw h refl };
   forwarded_three = record { held_is = rw h refl; back_is = rw h refl; debt_is = rw h refl };

@@ -84,9 +84,7 @@ table s (Settled p deal numbers body) g gr h st = settled_moves s p numbers (row
 table s (Turned p deal why detail) g gr h st = still_moves (row s p) st.weighs
 table s (Asked p objects) g gr h st = still_moves (row s p) st.weighs
 table s (Passed p asked objects) g gr h st =
-    by_cases (asked == 0)
-    (λ k. let w = rw k at st.weighs in rw k (still_moves (row s p) w))
-    (λ k. let w = rw k at st.weighs in rw k (record { held = omega (arith, w.held); back = omega (arith, w.back, sum-out_again objects (row s p).debts); debt = omega (arith, w.debt) }))
+    let w = st.weighs in record { held = omega (arith, w.held); back = omega (arith, w.back, sum-out_again objects (row s p).debts); debt = omega (arith, w.debt) }
 table s (Failed p asked how got objects) g gr h st = loses_moves s.changes false objects (row s p) (objects_apart objects gr) st.weighs
 table s (Declined p asked places) g gr h st = loses_moves s.changes true (declined_objects s p asked places) (row s p) (Rattle.psb_model.proofs.Balance.declined_distinct s p asked places (g.asked p) (numbers_ascend places gr)) st.weighs
 table s (Discarded p objects) g gr h st = let w = st.weighs in record { held = omega (arith, w.held, sum_by-only in_key in_size (row s p).ins objects (objects_apart objects gr)); back = omega (arith, w.back); debt = omega (arith, w.debt, none_returned debt_size (row s p).debts) }

@@ -21,7 +21,7 @@ use Rattle.psb_model.specs.declared.change.Change.{Change}
 use Rattle.psb_model.specs.declared.change.Change.TheVariants.{Begun, Kept, Snapped, Forgot, TookFresh, TookSwap, LetGo, LetGoBack, Replaced, Refused, Proposed, Settled, Turned, Asked, Passed, Failed, Declined, Discarded, Chose}
 use Rattle.psb_settings.specs.Settings.{settings_of}
 use Rattle.psb_model.specs.Words.{units, object_eq, all_of, name_listed, has, has_so, units_at}
-use Rattle.psb_model.specs.State.{State, row, is_peer, in_key, in_size, out_key, out_size, debt_key, debt_of, own_has, own_marked, own_len, is_held, is_wanted, tied_in, tied_out, used}
+use Rattle.psb_model.specs.State.{Row, State, row, is_peer, in_key, in_size, out_key, out_size, debt_key, debt_of, own_has, own_marked, own_len, is_held, is_wanted, is_barred, snaps_made, tied_in, tied_out, used}
 use Rattle.psb_model.specs.Discards.{discards}
 use Rattle.psb_model.specs.Candidates.{in_select_order, distinct_peers}
 
@@ -115,7 +115,7 @@ place_tests s p name =
     ∷ is_wanted s name
     ∷ not (has out_key (row s p).outs (Chunk name))
     ∷ not (has debt_key (row s p).debts (Chunk name))
-    ∷ not (name_listed (row s p).barred name)
+    ∷ not (is_barred (row s p) name)
     ∷ [])
 
 -- what each own deal asks: its objects stand where it needs them, and no deal ties them
@@ -216,6 +216,23 @@ abbrev pub asked_count : Option (List Object) → ℕ
 asked_count None = 0
 asked_count (Some os) = length os
 
+-- what a Store without slots asks of its peer's row, and of this: whether a body is held under its
+-- name, the units that are used, its own units, the capacity, and the claim numbers that were drawn
+abbrev pub fresh_tests : Row → ℕ → List ℕ → ℕ → Bool → Bool → ℕ → ℕ → ℕ → ℕ → List Bool
+fresh_tests r deal name first new held in_use u most issued =
+    ((deal == r.last.number + 1)
+    ∷ not (has in_key r.ins (Chunk name))
+    ∷ (if held then not new else new)
+    ∷ (debt_of r == 0)
+    ∷ nat_le (in_use + u) most
+    ∷ (first == issued)
+    ∷ nat_le (issued + u) most_claims
+    ∷ [])
+
+-- a refusal answers the peer's next deal, with a reason of 1 to 9
+abbrev pub refusal_tests : Row → ℕ → ℕ → List Bool
+refusal_tests r deal why = (deal == r.last.number + 1) ∷ nat_le 1 why ∷ nat_le why 9 ∷ []
+
 -- what each kind asks
 abbrev pub tests : State → Change → List Bool
 tests s (Begun body) =
@@ -227,20 +244,13 @@ tests s (Kept name len new body) =
     ∷ (if is_held s name then not new else new)
     ∷ [])
 tests s (Snapped number ticket files folders bytes left names) =
-    ((number == s.snapped + 1)
+    ((number == snaps_made s + 1)
     ∷ names_ascend names
     ∷ list_all (own_has s.own) names
     ∷ [])
 tests s (Forgot number) = list_any (λ (k : Snapshot). k.number == number) s.kept ∷ []
 tests s (TookFresh p deal name first len new body) =
-    (is_next_deal s p deal
-    ∷ not (has in_key (row s p).ins (Chunk name))
-    ∷ (if is_held s name then not new else new)
-    ∷ (debt_of (row s p) == 0)
-    ∷ nat_le (used s + units len) (capacity s.settings)
-    ∷ (first == s.issued)
-    ∷ nat_le (s.issued + units len) most_claims
-    ∷ [])
+    fresh_tests (row s p) deal name first new (is_held s name) (used s) (units len) (capacity s.settings) s.issued
 tests s (TookSwap p deal name numbers len new body) =
     (is_next_deal s p deal
     ∷ not (has in_key (row s p).ins (Chunk name))
@@ -269,11 +279,7 @@ tests s (Replaced p deal slot place home body) =
     ∷ not (tied_in s p (Slot slot))
     ∷ ((place == 0 && home == 0) || (place == 1 && nat_lt home s.issued))
     ∷ [])
-tests s (Refused p deal why detail) =
-    (is_next_deal s p deal
-    ∷ nat_le 1 why
-    ∷ nat_le why 9
-    ∷ [])
+tests s (Refused p deal why detail) = refusal_tests (row s p) deal why
 tests s (Proposed p deal what) =
     ((deal == (row s p).mine + 1)
     ∷ is_none (row s p).pending

@@ -10,6 +10,7 @@ use Rattle.psb_model.specs.declared.entries.OutEntry.{OutEntry}
 use Rattle.psb_model.specs.declared.entries.DebtEntry.{DebtEntry}
 use Rattle.psb_model.specs.declared.entries.OwnEntry.{OwnEntry}
 use Rattle.psb_model.specs.declared.entries.Snapshot.{Snapshot}
+use Rattle.psb_model.specs.declared.entries.SnapMark.{SnapMark}
 use Rattle.psb_settings.specs.declared.settings.Settings.{Settings}
 use Rattle.psb_settings.specs.declared.settings.PeerRow.{PeerRow}
 use Rattle.psb_model.specs.declared.entries.Candidate.{Candidate}
@@ -92,7 +93,7 @@ move_of s (LetGo p deal name numbers) = record still { in_gone = Chunk name ∷ 
 move_of s (LetGoBack p deal name numbers body) = record still { in_gone = Chunk name ∷ []; in_new = direct_slots numbers }
 move_of s (Settled p deal numbers body) = settle_move s (row s p) (row s p).pending numbers
 move_of s (Passed p asked objects) =
-    if asked == 0 then still else record still { returned = is_whole_listed objects; out_new = map out_again (filter (is_whole_listed objects) (row s p).debts) }
+    record still { returned = is_whole_listed objects; out_new = map out_again (filter (is_whole_listed objects) (row s p).debts) }
 move_of s (Failed p asked how got objects) = loses s.changes false objects (row s p)
 move_of s (Declined p asked places) = loses s.changes true (declined_objects s p asked places) (row s p)
 move_of s (Discarded p objects) = record still { in_gone = objects; used_up = sum_by in_size (only in_key objects (row s p).ins) }
@@ -166,10 +167,10 @@ pending_name f None = []
 pending_name f (Some d) = f d.what
 
 -- the pending deal was turned down; for a bad name, a chunk already there and a clash for good
-abbrev pub was_turned : ℕ → Row → Row
-was_turned why r = record r {
+abbrev pub was_turned : ℕ → ℕ → Row → Row
+was_turned change why r = record r {
   pending = None;
-  barred = if nat_le 2 why && nat_le why 4 then r.barred ++ pending_name deal_name r.pending else r.barred;
+  barred = if nat_le 2 why && nat_le why 4 then r.barred ++ map (λ name. (name, change)) (pending_name deal_name r.pending) else r.barred;
   turned_cancels = r.turned_cancels ++ pending_name cancel_name r.pending;
 }
 
@@ -183,7 +184,7 @@ note_of s (Replaced p deal slot place home body) r = took_deal deal s.changes r
 note_of s (Refused p deal why detail) r = took_deal deal s.changes r
 note_of s (Proposed p deal what) r = record r { pending = Some (record { number = deal; what = what }); mine = deal }
 note_of s (Settled p deal numbers body) r = record r { pending = None }
-note_of s (Turned p deal why detail) r = was_turned why r
+note_of s (Turned p deal why detail) r = was_turned s.changes why r
 note_of s (Asked p objects) r = record r { asked = Some (s.changes, objects) }
 note_of s (Passed p asked objects) r = if asked == 0 then r else record r { fails = 0; asked = None }
 note_of s (Failed p asked how got objects) r = let r' = failed_again r in record r' { asked = if asked == 0 then r.asked else None }
@@ -231,8 +232,8 @@ kept_after s (Snapped number ticket files folders bytes left names) = s.kept ++ 
 kept_after s (Forgot number) = kept_without number s.kept
 kept_after s _ = s.kept
 
-abbrev pub snapped_after : State → Change → ℕ
-snapped_after s (Snapped number ticket files folders bytes left names) = number
+abbrev pub snapped_after : State → Change → Option SnapMark
+snapped_after s (Snapped number ticket files folders bytes left names) = Some (record { number = number; change = s.changes })
 snapped_after s _ = s.snapped
 
 abbrev pub chosen_after : State → Change → List ℕ

@@ -1,7 +1,7 @@
 -- The head and the body of a change: its one spelling as a record. Numbers are big-endian.
 use Rattle.std.specs.Prelude.{ℕ, Bool, if◌then◌else◌, List, [], ◌∷◌, ◌++◌, length, Option, Some}
 use Rattle.std.specs.List.{flat_map}
-use Rattle.std.specs.Int.{to_be_bytes, w16, w32, w64}
+use Rattle.psb_bytes.specs.Numbers.{u16_bytes as u16, u32_bytes as u32, u64_bytes as u64}
 use Rattle.psb_bytes.specs.declared.ids.Object.{Object}
 use Rattle.psb_bytes.specs.declared.ids.Object.TheVariants.{Chunk, Slot}
 use Rattle.psb_bytes.specs.declared.ids.Ticket.{Ticket}
@@ -11,15 +11,6 @@ use Rattle.psb_model.specs.declared.deals.DealWhat.{DealWhat}
 use Rattle.psb_model.specs.declared.deals.DealWhat.TheVariants.{Fresh, Swap, Cancel, PutBack, Forward, Return}
 use Rattle.psb_model.specs.declared.change.Change.{Change}
 use Rattle.psb_model.specs.declared.change.Change.TheVariants.{Begun, Kept, Snapped, Forgot, TookFresh, TookSwap, LetGo, LetGoBack, Replaced, Refused, Proposed, Settled, Turned, Asked, Passed, Failed, Declined, Discarded, Chose}
-
-abbrev pub u16 : ℕ → List ℕ
-u16 n = to_be_bytes w16 n
-
-abbrev pub u32 : ℕ → List ℕ
-u32 n = to_be_bytes w32 n
-
-abbrev pub u64 : ℕ → List ℕ
-u64 n = to_be_bytes w64 n
 
 abbrev pub flag : Bool → List ℕ
 flag b = (if b then 1 else 0) ∷ []

@@ -64,7 +64,7 @@ Books s _ q d = ⊥
 
 -- a Passed of q gives the object back
 abbrev pub gives_back : State → Change → ℕ → Object → Bool
-gives_back s (Passed p asked objects) q o = not (asked == 0) && p == q && has_so debt_key (is_whole_listed objects) (row s q).debts o
+gives_back s (Passed p asked objects) q o = p == q && has_so debt_key (is_whole_listed objects) (row s q).debts o
 gives_back s _ q o = false
 
 -- none of these changes gives the object back

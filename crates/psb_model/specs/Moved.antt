@@ -56,7 +56,7 @@ shift_of s (LetGoBack p deal name numbers body) = record no_shift { held_down = 
 shift_of s (Settled p deal numbers body) = settled_shift s (row s p) (row s p).pending numbers
 shift_of s (Passed p asked objects) =
     let n = sum_by debt_size (filter (is_whole_listed objects) (row s p).debts) in
-    if asked == 0 then no_shift else record no_shift { back_up = n; debt_down = n }
+    record no_shift { back_up = n; debt_down = n }
 shift_of s (Failed p asked how got objects) = lost (out_units (row s p) objects)
 shift_of s (Declined p asked places) = lost (out_units (row s p) (declined_objects s p asked places))
 shift_of s (Discarded p objects) = let n = in_units (row s p) objects in record no_shift { held_down = n; debt_down = n }

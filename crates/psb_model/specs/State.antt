@@ -1,6 +1,7 @@
 -- The state that a history of changes gives. Of each peer p it has three lists: in(p), what the node
--- answers for to p; out(p), what the node has on p; and debt(p), what p lost. A chunk of in(p) is
--- answered by slots of out(p), which carry claims, and the other way round.
+-- answers for to p; out(p), what the node has on p; and debt(p), what p lost. A chunk that is
+-- taken fresh is answered by new slots of out(p), which carry claims; one that is taken in a swap takes
+-- the place of slots of in(p).
 use Rattle.std.specs.Prelude.{ℕ, ◌+◌, Bool, false, ◌||◌, ◌==◌, if◌then◌else◌, List, [], ◌∷◌, sum_by, Option, Some, None}
 use Rattle.std.specs.List.{list_any}
 use Rattle.psb_model.specs.declared.entries.InEntry.{InEntry}
@@ -8,6 +9,7 @@ use Rattle.psb_model.specs.declared.entries.OutEntry.{OutEntry}
 use Rattle.psb_model.specs.declared.entries.DebtEntry.{DebtEntry}
 use Rattle.psb_model.specs.declared.entries.OwnEntry.{OwnEntry}
 use Rattle.psb_model.specs.declared.entries.Snapshot.{Snapshot}
+use Rattle.psb_model.specs.declared.entries.SnapMark.{SnapMark}
 use Rattle.psb_model.specs.declared.deals.LastDeal.{LastDeal}
 use Rattle.psb_model.specs.declared.deals.Deal.{Deal}
 use Rattle.psb_model.specs.declared.deals.DealWhat.{DealWhat}
@@ -28,7 +30,7 @@ pub record Row : Type 0 where
   pub asked : Option (ℕ × List Object)  -- the last Asked, while it has no outcome
   pub fails : ℕ  -- consecutive failures
   pub due : Bool  -- whether a discard is due
-  pub barred : List (List ℕ)  -- names of own deals that the peer turned down for good: reasons 2, 3 and 4
+  pub barred : List (List ℕ × ℕ)  -- names of own deals that the peer turned down for good (reasons 2, 3 and 4), each with the number of that Turned
   pub turned_cancels : List (List ℕ)  -- names of own Cancels that the peer turned down
 
 pub record State : Type 0 where
@@ -38,7 +40,7 @@ pub record State : Type 0 where
   pub issued : ℕ  -- claim numbers drawn
   pub own : List OwnEntry  -- own chunks, in byte order
   pub kept : List Snapshot  -- kept snapshots, by number
-  pub snapped : ℕ  -- snapshots made so far
+  pub snapped : Option SnapMark  -- the latest snapshot that was made
   pub chosen : List ℕ  -- the buddies of the last Chose
 
 -- nothing was done with the peer yet
@@ -47,7 +49,7 @@ blank = record { ins = []; outs = []; debts = []; pending = None; mine = 0; last
 
 -- before the first change
 abbrev pub nothing_yet : State
-nothing_yet = record { changes = 0; settings = None; rows = []; issued = 0; own = []; kept = []; snapped = 0; chosen = [] }
+nothing_yet = record { changes = 0; settings = None; rows = []; issued = 0; own = []; kept = []; snapped = None; chosen = [] }
 
 -- the row of a peer, blank for a stranger
 abbrev pub row_in : List (ℕ × Row) → ℕ → Row
@@ -142,6 +144,14 @@ ties_out (Some d) o = listed (out_ties d.what) o
 abbrev pub ties_in : ℕ → Option Deal → ℕ → Object → Bool
 ties_in p None q o = false
 ties_in p (Some d) q o = listed (in_ties p d.what q) o
+
+-- whether the peer turned the name down for good
+abbrev pub is_barred : Row → List ℕ → Bool
+is_barred r n = list_any (λ (b : List ℕ × ℕ). name_eq b.0 n) r.barred
+
+-- how many snapshots were made so far
+abbrev pub snaps_made : State → ℕ
+snaps_made s = elim s.snapped [ None ↦ 0 | Some mark ↦ mark.number ]
 
 -- whether the pending deal with p ties the object of out(p), and some pending deal that of in(q)
 abbrev pub tied_out : State → ℕ → Object → Bool

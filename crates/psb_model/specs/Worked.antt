@@ -7,7 +7,7 @@ use Rattle.psb_model.specs.declared.entries.OutState.TheVariants as on
 use Rattle.psb_settings.specs.declared.settings.Settings.{Settings}
 use Rattle.psb_settings.specs.declared.settings.PeerRow.{PeerRow}
 use Rattle.psb_model.specs.declared.change.Change.{Change}
-use Rattle.psb_model.specs.declared.change.Change.TheVariants.{Begun, Kept, Snapped, TookFresh, TookSwap, Proposed, Settled, Asked, Failed, Chose}
+use Rattle.psb_model.specs.declared.change.Change.TheVariants.{Begun, Kept, Snapped, TookFresh, TookSwap, Proposed, Settled, Asked, Passed, Failed, Chose}
 use Rattle.psb_model.specs.declared.deals.DealWhat.TheVariants.{Fresh, Forward}
 use Rattle.psb_settings.specs.Settings.{settings_of}
 use Rattle.psb_model.specs.State.{row}
@@ -70,6 +70,10 @@ lost_slot text =
     ∷ Failed 2 2 0 (name_of 0) (Slot 0 ∷ [])
     ∷ []
 
+-- and then the peer shows it after all, outside a probe
+abbrev pub shown_again : Change
+shown_again = Passed 2 0 (Slot 0 ∷ [])
+
 -- the own slot 0 on peer 2 carries slot 5 of peer 3, which is then swapped for a chunk
 abbrev pub forwarded : List ℕ → List Change
 forwarded text =
@@ -108,6 +112,8 @@ pub record SharedWorked (text chunk : List ℕ) : Type 0 where
 pub record Worked (text : List ℕ) : Type 0 where
   pub lost_lawful : is_lawful (lost_slot text) ≡ true
   pub lost_numbers : Numbers (lost_slot text) 2 1 0 1
+  pub shown_lawful : is_lawful (lost_slot text ++ shown_again ∷ []) ≡ true
+  pub shown_numbers : Numbers (lost_slot text ++ shown_again ∷ []) 2 1 1 0
   pub forwarded_lawful : is_lawful (forwarded text) ≡ true
   pub forwarded_two : Numbers (forwarded text) 2 1 1 0
   pub forwarded_three : Numbers (forwarded text) 3 1 1 0

@@ -1,7 +1,7 @@
 use psb_bytes::{Digest, DigestList, Items, Object, PeerId, Seat, Ticket};
 
 /// Where an entry of what the node answers for stands: its bytes here (a chunk's body, or a slot's
-/// 512 bytes), forwarded to a slot on another peer, or come home as an own claim.
+/// 512 bytes), forwarded to a slot on a peer, or come home as an own claim.
 #[derive(Clone, Copy, PartialEq, Eq, Debug)]
 pub enum InState {
     Body,
@@ -10,7 +10,7 @@ pub enum InState {
     Home(u32),
 }
 
-/// Where an entry of what the node has on a peer stands: a chunk's body, an own claim, another
+/// Where an entry of what the node has on a peer stands: a chunk's body, an own claim, a
 /// peer's claim that was forwarded, or a slot whose forwarded claim is gone.
 #[derive(Clone, Copy, PartialEq, Eq, Debug)]
 pub enum OutState {
@@ -64,6 +64,13 @@ pub struct OwnEntry {
     pub name: Digest,
     pub len: u32,
     pub marked: bool,
+}
+
+/// The latest snapshot that was made: its number, and that of its change.
+#[derive(Clone, Copy, PartialEq, Eq, Debug)]
+pub struct SnapMark {
+    pub number: u32,
+    pub change: u64,
 }
 
 /// A kept snapshot.

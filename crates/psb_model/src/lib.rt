@@ -9,6 +9,7 @@ mod laws;
 pub use change::Change;
 pub use deals::{Deal, DealWhat, LastDeal};
 pub use entries::{
-    Candidate, CandidateList, DebtEntry, InEntry, InState, OutEntry, OutState, OwnEntry, Snapshot,
+    Candidate, CandidateList, DebtEntry, InEntry, InState, OutEntry, OutState, OwnEntry, SnapMark,
+    Snapshot,
 };
 pub use laws::{balance_law, explanation_law, sums_law, worked_rows};

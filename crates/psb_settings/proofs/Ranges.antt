@@ -1,14 +1,16 @@
 -- What all settings that were read have.
-use Rattle.std.proofs.Common.{◌≡◌, ℕ, zero, suc, ◌+◌, ◌*◌, ◌<◌, ◌≤◌, nat_le, pos, negsuc, Bool, true, false, not, ◌&&◌, ◌==◌, List, [], ◌∷◌, length, codes, Option, Some, None, if◌then◌else◌, refl, subst, arith}
-use Rattle.std.proofs.lemmas.Bool.{and_parts, leb-true, eqb-true, not-true}
-use Rattle.std.proofs.lemmas.Bool.Decides.{nat_tests}
+use Rattle.std.proofs.Common.{◌≡◌, ℕ, ◌≤◌, nat_le, pos, negsuc, Bool, true, false, not, ◌&&◌, List, [], ◌∷◌, length, codes, Option, Some, None, Result, Ok, Err, if◌then◌else◌, refl, sym, ◌∙◌, ap, subst, arith}
+use Rattle.std.proofs.lemmas.Bool.{and_parts, leb-true, not-true}
 use Rattle.std.proofs.lemmas.List.Elements.{All-cons, All-nil}
 use Rattle.std.proofs.lemmas.Option.{none-some, same_Some, cond_some}
 use Rattle.std.specs.List.{All, list_all}
 use Rattle.toml.specs.Data.{Data, string, integer, float, boolean, datetime, array, table, Items, no_items, item, Members, as_str, as_array, as_table, get_member}
 use Rattle.toml.specs.Parse.{parse_document}
-use Rattle.psb_bytes.specs.Hex.{digit_value, byte_of_digits, byte_before, bytes_of_text, digest_of_text}
-use Rattle.psb_bytes.specs.Numbers.{AreBytes}
+use Rattle.std.specs.Result.{result_ok}
+use Rattle.hex.specs.Hex.{decode_sized}
+use Rattle.hex.specs.declared.error.FromHexError.{FromHexError}
+use Rattle.hex.proofs.HexLemmas.{decode_of-ok, decode_sized-ok, decode_sized-twice}
+use Rattle.psb_bytes.specs.Hex.{digest_of_text}
 use Rattle.std.specs.Str.{is_utf8}
 use Rattle.psb_settings.specs.declared.settings.PeerRow.{PeerRow}
 use Rattle.psb_settings.specs.declared.settings.Settings.{Settings}
@@ -78,47 +80,16 @@ address_in-is t a e =
 
 -- ---- digests
 
-AreBytes-cons : (b : ℕ) (bytes : List ℕ) → b < 256 → AreBytes bytes → AreBytes (b ∷ bytes)
-AreBytes-cons b bytes h more zero = h
-AreBytes-cons b bytes h more (suc i) = more i
-
-digit_small : (c v : ℕ) → digit_value c ≡ Some v → v < 16
-digit_small c v e = grind (arith, nat_tests)
-
-byte_parts : (P : Type 0) (oh ol : Option ℕ) (b : ℕ) → byte_of_digits oh ol ≡ Some b → ((h l : ℕ) → oh ≡ Some h → ol ≡ Some l → 16 * h + l ≡ b → P) → P
-byte_parts P (Some h) (Some l) b e f = f h l refl refl (same_Some _ _ e)
-byte_parts P (Some h) None b e f = absurd (none-some b e)
-byte_parts P None ol b e f = absurd (none-some b e)
-
-list_parts : (P : Type 0) (ob : Option ℕ) (os : Option (List ℕ)) (bytes : List ℕ) → byte_before ob os ≡ Some bytes → ((b : ℕ) (rest : List ℕ) → ob ≡ Some b → os ≡ Some rest → b ∷ rest ≡ bytes → P) → P
-list_parts P (Some b) (Some rest) bytes e f = f b rest refl refl (same_Some _ _ e)
-list_parts P (Some b) None bytes e f = absurd (none-some bytes e)
-list_parts P None os bytes e f = absurd (none-some bytes e)
-
--- the bytes of some digits
-record Spelled (text bytes : List ℕ) : Type 0 where
-  sized : 2 * length bytes ≡ length text
-  small : AreBytes bytes
-
-spelled : (text bytes : List ℕ) → bytes_of_text text ≡ Some bytes → Spelled text bytes
-unfolding bytes_of_text
-spelled [] bytes e = subst (Spelled []) (same_Some _ _ e) (record { sized = refl; small = λ i. omega arith })
-spelled (d ∷ []) bytes e = absurd (none-some bytes e)
-spelled (high ∷ low ∷ text) bytes e =
-    list_parts (Spelled (high ∷ low ∷ text) bytes) (byte_of_digits (digit_value high) (digit_value low)) (bytes_of_text text) bytes e
-    (λ b rest here more same.
-    let ih = spelled text rest more in
-    let small : b < 256 =
-    byte_parts (b < 256) (digit_value high) (digit_value low) b here (λ h l eh el is. omega (arith, digit_small high h eh, digit_small low l el)) in
-    subst (Spelled (high ∷ low ∷ text)) same (record { sized = omega (arith, ih.sized); small = AreBytes-cons b rest small ih.small }))
+ok_value : (r : Result (List ℕ) FromHexError) (bytes : List ℕ) → result_ok r ≡ Some bytes → r ≡ Ok bytes
+ok_value (Ok read) bytes e = ap Ok (same_Some read bytes e)
+ok_value (Err error) bytes e = absurd (none-some bytes e)
 
 digest_of_text-is : (text bytes : List ℕ) → digest_of_text text ≡ Some bytes → IsDigest bytes
-unfolding digest_of_text
 digest_of_text-is text bytes e =
-    let (long, read) = chosen (length text == 64) (bytes_of_text text) bytes e in
-    let s = spelled text bytes read in
-    let sixty_four = eqb-true (length text) 64 long in
-    record { sized = omega (arith, s.sized); small = s.small }
+    let read = ok_value (decode_sized text 32) bytes e in
+    let long = decode_sized-ok text 32 bytes read in
+    let spelled = decode_of-ok text bytes (sym (decode_sized-twice text 32 long) ∙ read) in
+    record { sized = omega (arith, long, spelled.2); small = spelled.3 }
 
 digest_in-is : (key : List ℕ) (t : Members) (bytes : List ℕ) → required key digest_of t ≡ Some bytes → IsDigest bytes
 digest_in-is key t bytes e =

@@ -1,12 +1,14 @@
 ghost use Rattle.std.specs.Prelude.{◌≡◌, ◌-◌, OnOk, OnErr, length, take, drop, min, Some, None, true};
 ghost use Rattle.std.specs.FinMap.{get, insert};
 ghost use Rattle.psb_station.specs.Folder.{plain, parent, Folder, File};
-ghost use Rattle.psb_station.specs.MemTree.{stored_of, takes_folder, takes_file, with_put};
+ghost use Rattle.psb_station.specs.MemTree.{stored_of, bytes_in, takes_folder, takes_file, with_put};
+ghost use Rattle.std.specs.Option.{option_map};
 
 use crate::call_log::{CallKind, CallLog};
 use crate::count::fault;
 use crate::mem_tree::{Node, Tree};
 use crate::paths::{parent, plain};
+use crate::plan::Planned;
 use crate::{Failed, Folder, FolderError, Item, Kind};
 use psb_bytes::Memory;
 use std::alloc::Global;
@@ -70,6 +72,26 @@ impl MemFolder {
             log: CallLog::new(alloc, faults),
             folder_faults: 0,
         }
+    }
+
+    /// Has the calls of these kinds and numbers fail, counted from here, and no other that was planned
+    /// by its kind.
+    pub fn plan(&mut self, faults: Vec<Planned<CallKind>>)
+        ensures { Puts (holds self.old) self.old self.new }
+    {
+        self.log.plan = faults;
+    }
+
+    /// The paths of all that it holds below its root, ascending by their bytes.
+    pub fn paths(&self) -> Result<Vec<String>, Memory> {
+        self.tree.paths()
+    }
+
+    /// The bytes of the file at a path. This is no call of the folder.
+    pub fn file(&self, path: &str) -> Option<&[u8]>
+        ensures { option_map (λ b. b.now) result ≡ bytes_in (get (holds self.now) (plain path.now)) }
+    {
+        self.tree.file(plain(path))
     }
 
     /// Whether a folder may be put at a path: no file stands there or above it.

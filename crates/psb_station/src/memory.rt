@@ -5,15 +5,22 @@ ghost use Rattle.psb_station.specs.Calls.{Grows};
 ghost use Rattle.psb_station.specs.Answers.{answer_of, heard_of, sent_of, joined_of, time_of, TicksBy, TicksBy-prop};
 
 use crate::answer::{Answer, Answered, Joining, SentFrame};
-use crate::count::{fault, is_due, write_fault};
+use crate::count::{fault, write_fault};
 use crate::crash::{Outcome, left};
 use crate::mem_disk::MemDisk;
+use crate::plan::Planned;
 use crate::{Disk, Failed, LONGEST_DISK, Station};
+use calls::{Plan, is_due};
 use psb_bytes::Memory;
 use std::alloc::{AllocError, Global};
 
+mod calls;
+
+pub use calls::StationCall;
+
 /// A station in memory. It keeps what was done, and fails at the calls of the given numbers, counted
-/// from 1 over all its methods. A call whose own growth is refused fails too.
+/// from 1 over all its methods, and at those that were planned by their kind. A call whose own growth
+/// is refused fails too.
 #[derive(Drop)]
 pub struct MemStation {
     alloc: Global,
@@ -28,6 +35,7 @@ pub struct MemStation {
     faults: Vec<u64>,
     /// How many calls were made.
     calls: u64,
+    plan: Plan,
     heard: Vec<Answered>,
     /// Whether each answer could be kept.
     whole: bool,
@@ -45,7 +53,7 @@ pub struct MemStation {
 }
 
 impl MemStation {
-    ghost use Rattle.psb_station.specs.Memory.{view_of, IsFresh, IsGiven, calls_made, left_image, may_leave_at};
+    ghost use Rattle.psb_station.specs.Memory.{view_of, IsFresh, IsGiven, Plans, change_of, calls_made, left_image, may_leave_at};
 
     /// A station whose disk reads `image`, whose link has these arrivals, each of at most 65,507 bytes,
     /// and whose clock gives these numbers, the last one again at the end, and 0 where there is none.
@@ -71,6 +79,7 @@ impl MemStation {
             ticks: 0,
             faults,
             calls: 0,
+            plan: Plan::new(alloc),
             heard: Vec::new(alloc),
             whole: true,
             sent: Vec::new(alloc),
@@ -82,6 +91,32 @@ impl MemStation {
             send_faults: 0,
             say_faults: 0,
         }
+    }
+
+    /// Has the calls of these kinds and numbers fail, counted from here, and no other that was planned
+    /// by its kind.
+    pub fn plan(&mut self, faults: Vec<Planned<StationCall>>)
+        ensures { Plans self.old self.new }
+    {
+        self.plan.faults = faults;
+    }
+
+    /// The number among all calls of a `write_at`, a `cut` or a `sync`, counted from 1 among these three,
+    /// where there were so many.
+    pub fn change_number(&self, change: u64) -> Option<u64>
+        ensures { result ≡ change_of self.now change }
+    {
+        if change == 0 {
+            return None;
+        }
+        self.plan.changes.get((change - 1) as usize).copied()
+    }
+
+    /// What the disk reads.
+    pub fn image(&self) -> &[u8]
+        ensures { (view_of self.now).bytes ≡ Some result.now }
+    {
+        &self.disk.bytes
     }
 
     /// All bytes that were said.
@@ -105,9 +140,9 @@ impl MemStation {
         self.calls
     }
 
-    /// An image that a crash may leave right after a call, counted from 1 as in the list of those that
-    /// fail. Outcome 0 leaves nothing that is unsynced then, 1 leaves all of it, 2 fills each range
-    /// that is unsynced with the byte 0xff.
+    /// An image that a crash may leave at a call, counted from 1 as in the list of those that fail. A
+    /// change by that call is unsynced then, and a sync by it has not happened. Outcome 0 leaves nothing
+    /// that is unsynced, 1 leaves all of it, 2 fills each range that is unsynced with the byte 0xff.
     pub fn left(&self, call: u64, outcome: u8) -> Result<Vec<u8>, Memory>
         requires made { (1 ≤ call) × (call ≤ calls_made self.now) }
         requires outcome { outcome ≤ 2 }
@@ -137,6 +172,22 @@ impl MemStation {
     {
         &self.sent[j].frame
     }
+
+    /// How many nodes the link was told of.
+    pub fn joined_count(&self) -> usize
+        ensures { IfSome (view_of self.now).outside.joined (λ joined. result ≡ length joined) }
+    {
+        self.joined.len()
+    }
+
+    /// A node that the link was told of, and its address.
+    pub fn joined_node(&self, j: usize) -> (u32, &[u8])
+        requires { IfSome (view_of self.now).outside.joined (λ joined. j < length joined) }
+        ensures { IfSome (view_of self.now).outside.joined (λ joined. IfSome (slice_get joined j) (λ node. (result.0 ≡ node.0) × (result.1.now ≡ node.1))) }
+    {
+        let node = &self.joined[j];
+        (node.id, &node.address)
+    }
 }
 
 impl Disk for MemStation {
@@ -159,14 +210,25 @@ impl Disk for MemStation {
 
     fn len(&mut self) -> Result<u64, Failed> {
         let len = self.disk.bytes.len() as u64;
-        if is_due(&self.faults, &mut self.calls) || len > LONGEST_DISK {
+        if is_due(
+            &self.faults,
+            &mut self.calls,
+            &mut self.plan,
+            StationCall::Len,
+        ) || len > LONGEST_DISK
+        {
             return Err(fault(&mut self.disk_faults));
         }
         Ok(len)
     }
 
     fn read(&mut self, at: u64, into: &mut [u8]) -> Result<usize, Failed> {
-        if is_due(&self.faults, &mut self.calls) {
+        if is_due(
+            &self.faults,
+            &mut self.calls,
+            &mut self.plan,
+            StationCall::Read,
+        ) {
             return Err(fault(&mut self.disk_faults));
         }
         let len = self.disk.bytes.len();
@@ -180,7 +242,13 @@ impl Disk for MemStation {
     }
 
     fn write_at(&mut self, at: u64, from: &[u8]) -> Result<(), Failed> {
-        if is_due(&self.faults, &mut self.calls) || at + from.len() as u64 > LONGEST_DISK {
+        if is_due(
+            &self.faults,
+            &mut self.calls,
+            &mut self.plan,
+            StationCall::Write,
+        ) || at + from.len() as u64 > LONGEST_DISK
+        {
             return Err(write_fault(&mut self.disk_faults, &mut self.write_faults));
         }
         match self.disk.write(self.calls, self.told, at, from) {
@@ -190,7 +258,12 @@ impl Disk for MemStation {
     }
 
     fn cut(&mut self, len: u64) -> Result<(), Failed> {
-        if is_due(&self.faults, &mut self.calls) {
+        if is_due(
+            &self.faults,
+            &mut self.calls,
+            &mut self.plan,
+            StationCall::Cut,
+        ) {
             return Err(write_fault(&mut self.disk_faults, &mut self.write_faults));
         }
         match self.disk.cut(self.calls, self.told, len) {
@@ -200,7 +273,12 @@ impl Disk for MemStation {
     }
 
     fn sync(&mut self) -> Result<(), Failed> {
-        if is_due(&self.faults, &mut self.calls) {
+        if is_due(
+            &self.faults,
+            &mut self.calls,
+            &mut self.plan,
+            StationCall::Sync,
+        ) {
             return Err(write_fault(&mut self.disk_faults, &mut self.write_faults));
         }
         match self.disk.sync(self.calls, self.told) {
@@ -272,7 +350,12 @@ impl Station for MemStation {
     ghost next_time = { time_next };
 
     fn join(&mut self, id: u32, address: &str) -> Result<(), Failed> {
-        if is_due(&self.faults, &mut self.calls) {
+        if is_due(
+            &self.faults,
+            &mut self.calls,
+            &mut self.plan,
+            StationCall::Join,
+        ) {
             let _ = keep(&mut self.heard, &mut self.whole, self.ticks, Answer::Fault);
             return Err(fault(&mut self.link_faults));
         }
@@ -288,7 +371,12 @@ impl Station for MemStation {
     }
 
     fn recv(&mut self, into: &mut [u8]) -> Result<Option<usize>, Failed> {
-        if is_due(&self.faults, &mut self.calls) {
+        if is_due(
+            &self.faults,
+            &mut self.calls,
+            &mut self.plan,
+            StationCall::Recv,
+        ) {
             let _ = keep(&mut self.heard, &mut self.whole, self.ticks, Answer::Fault);
             return Err(fault(&mut self.link_faults));
         }
@@ -320,7 +408,12 @@ impl Station for MemStation {
 
     fn send(&mut self, to: u32, frame: &[u8]) -> Result<(), Failed> {
         self.told = self.told.saturating_add(1);
-        if is_due(&self.faults, &mut self.calls) {
+        if is_due(
+            &self.faults,
+            &mut self.calls,
+            &mut self.plan,
+            StationCall::Send,
+        ) {
             return Err(fault(&mut self.send_faults));
         }
         if let Err(_) = keep_sent(self.alloc, &mut self.sent, to, frame) {
@@ -331,7 +424,12 @@ impl Station for MemStation {
 
     fn say(&mut self, text: &[u8]) -> Result<(), Failed> {
         self.told = self.told.saturating_add(1);
-        if is_due(&self.faults, &mut self.calls) {
+        if is_due(
+            &self.faults,
+            &mut self.calls,
+            &mut self.plan,
+            StationCall::Say,
+        ) {
             return Err(fault(&mut self.say_faults));
         }
         if let Err(_) = self.said.extend_from_slice(text) {

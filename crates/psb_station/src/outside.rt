@@ -2,10 +2,14 @@ ghost use Rattle.std.specs.Prelude.{◌≡◌, ◌⊎◌, ◌≤◌, ◌<◌, �
 ghost use Rattle.std.specs.Option.{option_map};
 ghost use Rattle.psb_station.specs.View.{View, Outside, Heard};
 ghost use Rattle.psb_station.specs.View.Heard.{Frame, Nothing, Clock, Joined, Fault};
+ghost use Rattle.psb_station.specs.Span.{Tells_bytes};
 ghost use Rattle.psb_station.specs.Calls.{Rose, Looks, Writes, Listens, Tells, Torn, CutShort, Same, Only, Grows, written};
 
+use thiserror::Error;
+
 /// The outside failed.
-#[derive(Clone, Copy, Debug, PartialEq, Eq)]
+#[derive(Clone, Copy, Debug, PartialEq, Eq, Error)]
+#[error("the outside failed")]
 pub struct Failed;
 
 /// No disk is longer, in bytes.
@@ -21,7 +25,7 @@ pub trait Disk {
     /// The length.
     fn len(&mut self) -> Result<u64, Failed>
         ensures due { fails_next self.old → IsErr result }
-        ensures length { IfOk result (λ n. IfSome (view self.old).bytes (λ b. n ≡ length b)) }
+        ensures length { IfOk result (λ n. IfSome (view self.new).bytes (λ b. n ≡ length b)) }
         ensures small { IfOk result (λ n. n ≤ 2 ^ 62) }
         ensures looks { Looks (view self.old) (view self.new) }
         ensures cause { OnErr result (Rose (view self.old).disk_faults (view self.new).disk_faults) };
@@ -30,7 +34,7 @@ pub trait Disk {
     fn read(&mut self, at: u64, into: &mut [u8]) -> Result<usize, Failed>
         ensures due { fails_next self.old → IsErr result }
         ensures within { IfOk result (λ n. n ≤ length into.new) }
-        ensures bytes { IfOk result (λ n. IfSome (view self.old).bytes (λ b.
+        ensures bytes { IfOk result (λ n. IfSome (view self.new).bytes (λ b.
             (n ≡ min (length into.new) (length b - at)) × (take n into.new ≡ take n (drop at b)))) }
         ensures looks { Looks (view self.old) (view self.new) }
         ensures cause { OnErr result (Rose (view self.old).disk_faults (view self.new).disk_faults) };
@@ -40,7 +44,7 @@ pub trait Disk {
         requires within { IfSome (view self.old).bytes (λ b. at ≤ length b) }
         requires fits { at + length from.now < 2 ^ 64 }
         ensures due { fails_next self.old → IsErr result }
-        ensures bytes { OnOk result ((view self.new).bytes ≡ option_map (written at from.now) (view self.old).bytes) }
+        ensures bytes { OnOk result (Tells_bytes (view self.new) → (view self.new).bytes ≡ option_map (written at from.now) (view self.old).bytes) }
         ensures small { OnOk result (at + length from.now ≤ 2 ^ 62) }
         ensures writes { Writes (Torn at (length from.now)) (view self.old) (view self.new) }
         ensures cause { OnErr result (Rose (view self.old).disk_faults (view self.new).disk_faults) }
@@ -50,7 +54,7 @@ pub trait Disk {
     fn cut(&mut self, len: u64) -> Result<(), Failed>
         requires { IfSome (view self.old).bytes (λ b. len ≤ length b) }
         ensures due { fails_next self.old → IsErr result }
-        ensures bytes { OnOk result ((view self.new).bytes ≡ option_map (take len) (view self.old).bytes) }
+        ensures bytes { OnOk result (Tells_bytes (view self.new) → (view self.new).bytes ≡ option_map (take len) (view self.old).bytes) }
         ensures writes { Writes (CutShort len) (view self.old) (view self.new) }
         ensures cause { OnErr result (Rose (view self.old).disk_faults (view self.new).disk_faults) }
         ensures write_cause { OnErr result (Rose (view self.old).write_faults (view self.new).write_faults) };
@@ -58,8 +62,8 @@ pub trait Disk {
     /// After it a crash leaves what a read gives.
     fn sync(&mut self) -> Result<(), Failed>
         ensures due { fails_next self.old → IsErr result }
-        ensures bytes { (view self.new).bytes ≡ (view self.old).bytes }
-        ensures durable { OnOk result (IfSome (view self.old).bytes (λ b. Only b (view self.new))) }
+        ensures bytes { Tells_bytes (view self.new) → (view self.new).bytes ≡ (view self.old).bytes }
+        ensures durable { OnOk result (IfSome (view self.new).bytes (λ b. Only b (view self.new))) }
         ensures writes { Writes Same (view self.old) (view self.new) }
         ensures cause { OnErr result (Rose (view self.old).disk_faults (view self.new).disk_faults) }
         ensures write_cause { OnErr result (Rose (view self.old).write_faults (view self.new).write_faults) };

@@ -1,11 +1,12 @@
 -- Where a text is cut by its content (cutting by content is of Pastiche, OSDI 2002).
 use Rattle.std.specs.Prelude.{ℕ, zero, suc, ◌+◌, ◌-◌, ◌%◌, Bool, ◌&&◌, ◌||◌, ◌==◌, nat_le, if◌then◌else◌, List, [], ◌∷◌, length, take, drop, Option, Some, None}
 use Rattle.std.specs.Option.{option_map_or}
+use Rattle.psb_bytes.specs.Units.{longest_chunk}
 use Rattle.rolling_chunks.specs.Fingerprints.{fingerprint}
 
 -- the greatest length of a chunk; the definitions take any as m
 abbrev pub longest : ℕ
-longest = 32768
+longest = longest_chunk
 
 -- the 48 bytes before a place
 abbrev pub window_before : List ℕ → ℕ → List ℕ

@@ -3,16 +3,13 @@ ghost use Rattle.rolling_chunks.specs.Cuts.{longest};
 ghost use Rattle.rolling_chunks.specs.Pushes.{progress, IsPush, IsFinish};
 
 use crate::fingerprints::Window;
-use psb_bytes::Memory;
+use psb_bytes::{LONGEST_CHUNK, Memory};
 use std::alloc::Global;
 use std::marker::Model;
 use std::mem;
 
 /// A chunk that ends before its text does has at least so many bytes.
 const SHORTEST: u32 = 2_048;
-
-/// No chunk has more bytes.
-const LONGEST: u32 = 32_768;
 
 /// A place is an anchor where the fingerprint leaves this residue of this divisor.
 const ANCHOR_DIVISOR: u64 = 8_192;
@@ -73,7 +70,7 @@ impl Cutter {
 
 // Whether a chunk of this length ends at a place with this fingerprint, wherever the text ends.
 fn ends_chunk(len: u32, fingerprint: u64) -> bool
-    ensures { result ≡ (nat_le SHORTEST len && ((len == LONGEST) || (fingerprint % ANCHOR_DIVISOR == ANCHOR_RESIDUE))) }
+    ensures { result ≡ (nat_le SHORTEST len && ((len == LONGEST_CHUNK) || (fingerprint % ANCHOR_DIVISOR == ANCHOR_RESIDUE))) }
 {
-    len >= SHORTEST && (len == LONGEST || fingerprint % ANCHOR_DIVISOR == ANCHOR_RESIDUE)
+    len >= SHORTEST && (len == LONGEST_CHUNK || fingerprint % ANCHOR_DIVISOR == ANCHOR_RESIDUE)
 }

@@ -14,7 +14,8 @@ use Rattle.skeleton.specs.declared.faults.Refusal.{Refusal}
 use Rattle.skeleton.specs.declared.faults.SkelFault.TheVariants.{BadPath, BadOrder, BadCount}
 use Rattle.skeleton.specs.declared.limits.TheConstants.{MOST_PATH_BYTES, MOST_CHUNK_BYTES, DIGEST_BYTES, FOLDER_KIND, FILE_KIND}
 use Rattle.std.specs.Str.{is_utf8}
-use Rattle.skeleton.specs.Paths.{within, is_name, parts, is_path}
+use Rattle.psb_bytes.specs.Names.{is_name, parts}
+use Rattle.skeleton.specs.Paths.{within, is_path}
 use Rattle.skeleton.specs.Entries.{in_order, is_ref, has_digests, has_chunk_len}
 use Rattle.skeleton.specs.Texts.{ref_bytes, kind_byte, path_bytes}
 use Rattle.skeleton.specs.Reading.{◌>>=◌, Unread, Reading, refused, bytes_at, u8_at, u16_at, u32_at, u64_at, kind_at, path_len_at, path_at, ref_len_at, ref_at}

@@ -15,7 +15,8 @@ use Rattle.std.proofs.lemmas.Option.{get_or_from_slice_get}
 use Rattle.std.proofs.lemmas.Slice.Eq.{bytes_eq-Decides}
 use Rattle.std.specs.List.Sorted.{IsNonDecreasingBy, IsPartitionPoint}
 use Rattle.skeleton.specs.declared.entry.Entry.{Entry}
-use Rattle.skeleton.specs.Paths.{is_path, is_below, is_slash, parents, parents_behind, has_no_slash, IsParent}
+use Rattle.psb_bytes.specs.Names.{is_slash}
+use Rattle.skeleton.specs.Paths.{is_path, is_below, parents, parents_behind, has_no_slash, IsParent}
 use Rattle.skeleton.specs.Entries.{IsSkeleton, fits_behind, in_order, has_folder, counts_agree, is_folder}
 use Rattle.skeleton.specs.declared.limits.TheConstants.{SLASH}
 use Rattle.skeleton.proofs.Lists.{by_cases, all_at, all_from, all_imply, any_none, any_only, push_parts}

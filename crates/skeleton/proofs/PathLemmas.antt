@@ -4,7 +4,8 @@ use Rattle.std.specs.List.{list_all}
 use Rattle.std.specs.Str.{IsUtf8, is_utf8}
 use Rattle.std.proofs.lemmas.Str.{IsUtf8-from_is_utf8, is_utf8-from_IsUtf8}
 use Rattle.skeleton.proofs.Lists.{by_cases}
-use Rattle.skeleton.specs.Paths.{within, is_name, parts, is_path}
+use Rattle.psb_bytes.specs.Names.{is_name, parts}
+use Rattle.skeleton.specs.Paths.{within, is_path}
 use Rattle.skeleton.specs.declared.limits.TheConstants.{MOST_PATH_BYTES}
 
 -- of a text, the length and the parts decide

@@ -16,7 +16,8 @@ use Rattle.skeleton.specs.declared.faults.SkelFault.TheVariants.{BadMark, TooLon
 use Rattle.skeleton.specs.declared.faults.Refusal.{Refusal}
 use Rattle.skeleton.specs.declared.limits.TheConstants.{SKELETON_MARK, REFS_MARK, MARK_BYTES, MOST_TEXT_BYTES, MOST_PATH_BYTES, MOST_CHUNK_BYTES}
 use Rattle.std.specs.Str.{is_utf8}
-use Rattle.skeleton.specs.Paths.{within, is_name, parts, is_path}
+use Rattle.psb_bytes.specs.Names.{is_name, parts}
+use Rattle.skeleton.specs.Paths.{within, is_path}
 use Rattle.skeleton.specs.Entries.{IsSkeleton, in_order, fits_behind, is_ref, has_digests, has_chunk_len, total, counts_agree}
 use Rattle.skeleton.specs.Texts.{ref_bytes, refs_bytes, path_bytes, content_bytes, entry_bytes, entries_bytes, skeleton_text, refs_text}
 use Rattle.skeleton.specs.Reading.{◌>>=◌, Unread, Reading, refused, bytes_at, marked, ended, refs_at, entries_at, skeleton_of, refs_of}

@@ -1,25 +1,15 @@
 -- Paths: which are valid, their order and their parents.
 use Rattle.std.specs.Prelude.{◌≡◌, ℕ, Bool, true, not, ◌&&◌, ◌==◌, nat_le, if◌then◌else◌, List, [], ◌∷◌, ◌++◌, length, bytes_eq, codes}
-use Rattle.std.specs.List.{list_all, list_any, slice_split}
+use Rattle.std.specs.List.{list_all}
 use Rattle.std.specs.Ordering.{nat_cmp, is_lt}
 use Rattle.std.specs.Cmp.Lexicographic.{slice_cmp}
 use Rattle.std.specs.Str.{is_utf8}
+use Rattle.psb_bytes.specs.Names.{is_slash, is_name, parts}
 use Rattle.skeleton.specs.declared.limits.TheConstants.{SLASH, MOST_PATH_BYTES}
 
 -- from the least to the most
 abbrev pub within : ℕ → ℕ → ℕ → Bool
 within least most n = nat_le least n && nat_le n most
-
-abbrev pub is_slash : ℕ → Bool
-is_slash b = b == SLASH
-
--- what may stand between two slashes: not empty, without NUL, and neither `.` nor `..`
-abbrev pub is_name : List ℕ → Bool
-is_name part = not (length part == 0) && (not (list_any (λ b. b == 0) part) && (not (bytes_eq part (codes ".")) && not (bytes_eq part (codes ".."))))
-
--- the parts of a path
-abbrev pub parts : List ℕ → List (List ℕ)
-parts path = slice_split is_slash path
 
 -- 1 to 4,096 bytes of UTF-8, whose parts are names
 unfoldable pub is_path : List ℕ → Bool

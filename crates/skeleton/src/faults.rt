@@ -6,24 +6,32 @@ ghost use Rattle.skeleton.specs.declared.faults.WriteError.TheVariants as write;
 
 use psb_bytes::Memory;
 use std::alloc::{AllocError, AllocFailed};
+use thiserror::Error;
 
 /// What is wrong with a text.
-#[derive(Clone, Copy, PartialEq, Eq, Debug)]
+#[derive(Clone, Copy, PartialEq, Eq, Debug, Error)]
 pub enum SkelFault {
     /// It does not begin with its mark.
+    #[error("the text begins with another mark")]
     BadMark = 1,
     /// A path does not ascend, or a parent of it is no folder before it.
+    #[error("a path is out of its order")]
     BadOrder,
     /// A path is not 1 to 4,096 bytes of UTF-8, or a part of it is no name.
+    #[error("a path is none")]
     BadPath,
     /// A size is not the sum of the lengths of its refs, a kind is unknown, or the length of a ref
     /// is out of range.
+    #[error("a size or a kind is wrong")]
     BadCount,
     /// It ends within a field.
+    #[error("the text ends within a field")]
     Short,
     /// Something stands behind its end.
+    #[error("something stands behind the end")]
     Trailing,
     /// It has more bytes than a text may have.
+    #[error("the text is too long")]
     TooLong,
 }
 
@@ -44,12 +52,14 @@ impl SkelFault {
 }
 
 /// Why a text was not read.
-#[derive(Clone, Copy, PartialEq, Eq, Debug)]
+#[derive(Clone, Copy, PartialEq, Eq, Debug, Error)]
 pub enum SkelError {
     /// It is not in the grammar: the first fault in reading order, and where the field that has it
     /// begins.
+    #[error("{fault} at byte {place}")]
     Bad { fault: SkelFault, place: u32 },
     /// Memory ran out.
+    #[error("no memory")]
     Memory,
 }
 
@@ -88,16 +98,20 @@ impl<T: Drop> From<AllocFailed<T>> for SkelError {
 }
 
 /// Why an entry was not added: the first of its rules that fails.
-#[derive(Clone, Copy, PartialEq, Eq, Debug)]
+#[derive(Clone, Copy, PartialEq, Eq, Debug, Error)]
 pub enum PushError {
     /// The path is not 1 to 4,096 bytes, or a part of it is no name.
+    #[error("the path is none")]
     BadPath,
     /// The path does not ascend, or a parent of it is no folder before it.
+    #[error("the path is out of its order")]
     BadOrder,
     /// The size is not the sum of the lengths of the refs, a folder has some, or the length of a
     /// ref is out of range.
+    #[error("the size is wrong")]
     BadCount,
     /// Memory ran out.
+    #[error("no memory")]
     Memory,
 }
 
@@ -110,11 +124,13 @@ impl<T: Drop> From<AllocFailed<T>> for PushError {
 }
 
 /// Why a text was not written.
-#[derive(Clone, Copy, PartialEq, Eq, Debug)]
+#[derive(Clone, Copy, PartialEq, Eq, Debug, Error)]
 pub enum WriteError {
     /// It would have more bytes than a text may have.
+    #[error("the text is too large")]
     TooLarge,
     /// Memory ran out.
+    #[error("no memory")]
     Memory,
 }
 

@@ -1,30 +1,12 @@
 //! Paths: which are valid, and what lies above them.
 ghost use Rattle.std.specs.Prelude.{◌≡◌, MatchOption, true, false};
-ghost use Rattle.skeleton.specs.Paths.{within, is_name, parts, is_path, is_below, has_no_slash, IsParent};
-ghost use Rattle.std.specs.List.{list_all};
+ghost use Rattle.skeleton.specs.Paths.{within, is_path, is_below, has_no_slash, IsParent};
 ghost use Rattle.skeleton.specs.declared.limits.TheConstants.{MOST_PATH_BYTES};
 
 use crate::limits::{MOST_PATH_BYTES, SLASH};
+use psb_bytes::has_names;
 use std::cmp::Ordering;
 use std::str::from_utf8;
-
-/// Whether a part of a path is a valid name.
-fn is_valid_name(part: &str) -> bool
-    ensures { result ≡ is_name part.now }
-{
-    let bytes = part.as_bytes();
-    !bytes.is_empty()
-        && !bytes.contains(&0)
-        && bytes != b".".as_slice()
-        && bytes != b"..".as_slice()
-}
-
-/// Whether each part of a path is a valid name.
-fn has_valid_names(path: &str) -> bool
-    ensures { result ≡ list_all is_name (parts path.now) }
-{
-    path.split('/').all(|part| is_valid_name(part))
-}
 
 /// Whether a path may have so many bytes.
 fn is_path_len(len: usize) -> bool
@@ -38,7 +20,7 @@ fn is_path_len(len: usize) -> bool
 pub(crate) fn is_valid_path(path: &str) -> bool
     ensures { result ≡ is_path path.now }
 {
-    is_path_len(path.len()) && has_valid_names(path)
+    is_path_len(path.len()) && has_names(path)
 }
 
 /// The path that these bytes are, where they are one.

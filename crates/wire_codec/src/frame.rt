@@ -1,4 +1,5 @@
 use psb_bytes::{Bytes, ClaimList, Digest, DigestList, ObjectList, PlaceList, SlotList};
+use thiserror::Error;
 
 /// What one node tells another. A Store, a Release (to cancel or to put back) and a Replace are
 /// deals, and a frame's number is the deal's. Every other frame is a reply and repeats the number
@@ -73,20 +74,27 @@ pub enum Frame {
 
 /// Why a datagram is no frame for this node: the first test that it fails, in the order in which they
 /// stand here.
-#[derive(Clone, Copy, PartialEq, Eq, Debug)]
+#[derive(Clone, Copy, PartialEq, Eq, Debug, Error)]
 pub enum Dropped {
     /// Fewer bytes than a header and a tag have.
+    #[error("the datagram is too short")]
     Short,
     /// It does not begin with the magic, or the padding is not zero.
+    #[error("the datagram begins with another mark")]
     BadMagic,
     /// There is no such kind.
+    #[error("there is no such kind of frame")]
     BadKind,
     /// It is for another node.
+    #[error("the frame is for another node")]
     NotForMe,
     /// The sender is no peer.
+    #[error("the sender is no peer")]
     Stranger,
     /// The last bytes are not the tag under the pair's key.
+    #[error("the tag is wrong")]
     BadTag,
     /// The length field is not the body's length, or the body is not in the grammar of its kind.
+    #[error("the body is not in its grammar")]
     BadBody,
 }

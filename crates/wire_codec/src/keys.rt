@@ -6,6 +6,7 @@ use indexmap::IndexMap;
 use psb_bytes::{Digest, PeerId};
 use std::alloc::{AllocFailed, Global};
 use std::marker::Model;
+use thiserror::Error;
 
 /// The peers of a node, each with the key of the pair, in the order in which they were put there.
 #[derive(Drop)]
@@ -22,10 +23,12 @@ impl Model for Keys {
 }
 
 /// Why a key was not put into the table.
-#[derive(Clone, Copy, PartialEq, Eq, Debug)]
+#[derive(Clone, Copy, PartialEq, Eq, Debug, Error)]
 pub enum KeyError {
     /// The peer has a key already.
+    #[error("the peer has a key already")]
     Twice,
+    #[error("no memory")]
     Memory,
 }
 

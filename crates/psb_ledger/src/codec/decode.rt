@@ -8,16 +8,19 @@ ghost use Rattle.psb_ledger.specs.declared.codec.decode.ChangeError.TheVariants.
 ghost use Rattle.psb_ledger.specs.Records.{IsRead, HasNoChange, NoneIsRead};
 
 use super::fields::{Refusal, Store};
-use psb_bytes::{Bytes, Cursor, Memory, PeerId, Short};
+use psb_bytes::{Bytes, Cursor, LONGEST_CHUNK, Memory, PeerId, Short};
 use psb_model::Change;
 use std::alloc::Global;
+use thiserror::Error;
 
 /// Why no change was read.
-#[derive(Clone, Copy, PartialEq, Eq, Debug)]
+#[derive(Clone, Copy, PartialEq, Eq, Debug, Error)]
 pub enum ChangeError {
     /// No change of a kind that is read has this record.
+    #[error("no change has this record")]
     BadHead,
     /// Memory ran out.
+    #[error("no memory")]
     Memory,
 }
 
@@ -107,7 +110,7 @@ fn decode_refused(fields: &[u8], body: Option<&[u8]>) -> Result<Change, ChangeEr
 fn is_chunk_len(len: u32) -> bool
     ensures { result ≡ is_chunk_len len }
 {
-    1 <= len && len <= 32_768
+    1 <= len && len <= LONGEST_CHUNK
 }
 
 /// How many bytes the body has: those of the chunk where they are new, else none.

@@ -1,7 +1,7 @@
 ghost use Rattle.std.specs.Prelude.{◌≡◌, IfOk, IsTrue, None};
 ghost use Rattle.psb_model.specs.Heads.{head_of};
 ghost use Rattle.psb_model.specs.declared.change.Change.TheVariants.{Begun, TookFresh, Refused};
-ghost use Rattle.psb_ledger.specs.Records.{kind_is_read};
+ghost use Rattle.psb_model.specs.History.{is_built};
 
 use super::fields::{Refusal, Store};
 use psb_bytes::{Memory, Page};
@@ -10,7 +10,7 @@ use std::alloc::Global;
 
 /// The head of a change: its kind, and its fields in order, numbers high byte first.
 pub fn encode_change(alloc: Global, c: &Change) -> Result<Vec<u8>, Memory>
-    requires { IsTrue (kind_is_read c.now) }
+    requires { IsTrue (is_built c.now) }
     ensures { IfOk result (λ v. v.items ≡ head_of c.now) }
 {
     match c {

@@ -1,4 +1,4 @@
-use crate::{Failed, Folder, FolderError, Item, Kind, MemFolder};
+use crate::{CallKind, Failed, Folder, FolderError, Item, Kind, MemFolder, Planned};
 use psb_bytes::Memory;
 use std::alloc::{AllocError, Global};
 use std::test::Fail;
@@ -268,5 +268,53 @@ fn a_name_is_what_may_stand_in_a_path(rt: HostRuntime) -> Result<(), Memory> {
     let names = [(" ", Kind::File), ("...", Kind::File), ("b", Kind::File)];
     assert!(rt; lists(&mut folder, "a", &names));
     assert!(rt; lists(&mut folder, "a/.", &[("b", Kind::File)]));
+    Ok(())
+}
+
+#[test]
+fn the_planned_calls_fail(rt: HostRuntime) -> Result<(), Fail> {
+    let alloc = rt.alloc();
+    let kinds = [
+        CallKind::List,
+        CallKind::ReadPiece,
+        CallKind::MakeFolder,
+        CallKind::MakeFile,
+        CallKind::Append,
+    ];
+    for (i, kind) in kinds.iter().enumerate() {
+        let Ok(mut folder) = home(alloc, Vec::new(alloc)) else {
+            return Err(Fail::from(AllocError));
+        };
+        folder.plan(vec![in alloc;
+            Planned {
+                kind: *kind,
+                number: 1
+            },
+        ]?);
+        for (j, fails) in call_each(&mut folder).iter().enumerate() {
+            assert_eq!(rt; *fails, i == j, "call {j} where {i} fails");
+        }
+        // each of them again, and the two that make something fail since it is there
+        let fails = call_each(&mut folder);
+        assert_eq!(rt; [fails[0], fails[1], fails[4]], [false; 3]);
+    }
+    Ok(())
+}
+
+#[test]
+fn the_paths_ascend(rt: HostRuntime) -> Result<(), Memory> {
+    let alloc = rt.alloc();
+    let folder = home(alloc, Vec::new(alloc))?;
+    let paths = folder.paths()?;
+    let wants = ["a", "a/b", "a/b/six", "a/c", "none"];
+    assert_eq!(rt; paths.len(), 5);
+    assert!(rt;
+        paths
+            .iter()
+            .zip(&wants)
+            .all(|(path, want)| path.as_str() == *want)
+    );
+    assert_eq!(rt; folder.file("a/b/six"), Some([1, 2, 3, 4, 5, 6].as_slice()));
+    assert_eq!(rt; folder.file("a/c"), None);
     Ok(())
 }

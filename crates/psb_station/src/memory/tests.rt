@@ -1,7 +1,7 @@
 ghost use Rattle.std.specs.Prelude.{◌≤◌, length, vec_len, All, IfOk};
 ghost use Rattle.psb_station.specs.Memory.{calls_made};
 
-use crate::{Disk, Failed, MemStation, Station};
+use crate::{Disk, Failed, MemStation, Planned, Station, StationCall};
 use psb_bytes::Memory;
 use std::alloc::{AllocError, Global};
 use std::test::Fail;
@@ -66,9 +66,14 @@ fn a_station_in_memory_hears_sends_and_says(rt: HostRuntime) -> Result<(), Fail>
     Ok(())
 }
 
-/// Which of ten calls fail, where these numbers are to fail. Call 10 is `now`, which cannot.
+/// Which of nine calls fail, where these numbers are to fail. `now` cannot.
 fn failures(alloc: Global, faults: Vec<u64>) -> Result<[bool; 9], AllocError> {
     let mut station = station(alloc, faults)?;
+    fail_each(alloc, &mut station)
+}
+
+/// Makes each call but `now` once, and says which fail.
+fn fail_each(alloc: Global, station: &mut MemStation) -> Result<[bool; 9], AllocError> {
     let mut into = frame_buffer(alloc)?;
     let mut piece = [0; 2];
     Ok([
@@ -101,6 +106,58 @@ fn the_calls_of_the_given_numbers_fail(rt: HostRuntime) -> Result<(), Fail> {
     Ok(())
 }
 
+/// Which of two calls of each kind fail, in the order of the kinds.
+fn failures_of_two(
+    alloc: Global,
+    faults: Vec<Planned<StationCall>>,
+) -> Result<[[bool; 9]; 2], AllocError> {
+    let mut station = station(alloc, Vec::new(alloc))?;
+    station.plan(faults);
+    Ok([
+        fail_each(alloc, &mut station)?,
+        fail_each(alloc, &mut station)?,
+    ])
+}
+
+const KINDS: [StationCall; 9] = [
+    StationCall::Len,
+    StationCall::Read,
+    StationCall::Write,
+    StationCall::Cut,
+    StationCall::Sync,
+    StationCall::Join,
+    StationCall::Recv,
+    StationCall::Send,
+    StationCall::Say,
+];
+
+#[test]
+fn the_planned_calls_fail(rt: HostRuntime) -> Result<(), Fail> {
+    let alloc = rt.alloc();
+    for (i, kind) in KINDS.iter().enumerate() {
+        let kind = *kind;
+        let [first, second] = failures_of_two(alloc, vec![in alloc; Planned { kind, number: 2 }]?)?;
+        assert_eq!(rt; first, [false; 9]);
+        for (j, one) in second.iter().enumerate() {
+            assert_eq!(rt; *one, i == j, "call {j} where {i} fails");
+        }
+    }
+    Ok(())
+}
+
+#[test]
+fn the_calls_that_write_are_numbered(rt: HostRuntime) -> Result<(), Fail> {
+    let alloc = rt.alloc();
+    let mut station = station(alloc, vec![in alloc; 4]?)?;
+    assert_eq!(rt;
+        fail_each(alloc, &mut station)?,
+        [false, false, false, true, false, false, false, false, false]
+    );
+    let numbers = [0, 1, 2, 3, 4].map(|change| station.change_number(change));
+    assert_eq!(rt; numbers, [None, Some(3), Some(4), Some(5), None]);
+    Ok(())
+}
+
 #[test]
 fn a_call_of_now_counts_among_the_calls(rt: HostRuntime) -> Result<(), Fail> {
     let alloc = rt.alloc();
@@ -125,7 +182,7 @@ fn an_empty_clock_gives_zero(rt: HostRuntime) {
     assert_eq!(rt; station.now(), 0);
 }
 
-/// The images that a crash after a call leaves, by outcome.
+/// The images that a crash at a call leaves, by outcome.
 fn leaves(station: &MemStation, call: u64) -> Result<[Vec<u8>; 3], Memory>
     requires { (1 ≤ call) × (call ≤ calls_made station.now) }
 {
@@ -149,7 +206,7 @@ fn a_crash_leaves_nothing_all_or_fillings_of_what_is_unsynced(rt: HostRuntime) -
     assert_eq!(rt; station.call_count(), 6);
     let wants: [[&[u8]; 3]; 6] = [
         [&[1, 2, 3], &[9, 8, 7, 6], &[255, 255, 255, 255]],
-        [&[9, 8, 7, 6], &[9, 8, 7, 6], &[9, 8, 7, 6]],
+        [&[1, 2, 3], &[9, 8, 7, 6], &[255, 255, 255, 255]],
         [&[9, 8, 7, 6], &[9, 8, 7, 6], &[9, 8, 7, 6]],
         [&[9, 8, 7, 6], &[5, 8, 7, 6], &[255, 8, 7, 6]],
         [&[9, 8, 7, 6], &[5, 8, 7, 6], &[255, 8, 7, 6]],

@@ -1,6 +1,7 @@
 -- Where bytes are missing, or are too many, or the flag is none, no change has the head.
-use Rattle.std.proofs.Common.{ℕ, true, ◌∙◌, ap, sym, length, arith, refl, length-drop}
+use Rattle.std.proofs.Common.{◌≡◌, ℕ, true, ◌∙◌, ap, sym, length, arith, refl, length-drop}
 use Rattle.std.proofs.lemmas.Bool.{false≢true}
+use Rattle.psb_model.specs.Grammar.{is_digest}
 use Rattle.psb_ledger.proofs.Decoded.{on_err, wrong_length, wrong_flag, name_in, taken_length, nothing_left, flag_length, widths_of}
 use Rattle.psb_ledger.proofs.codec.decode.read_store.Goals as goal
 
@@ -15,7 +16,7 @@ returns-in_err-take_u32-3-clause-bad c = on_err _ _ (wrong_length c.args.fields.
 
 pub returns-in_err-read_flag-clause-bad : goal.returns-in_err-read_flag-clause-bad
 returns-in_err-read_flag-clause-bad c =
-    let n = taken_length _ _ _ 32 c.in_ok-take_digest.ensures.front c.in_ok-take_digest.ensures.moved (c.in_ok-take_digest.ensures.enough.0 refl) in
+    let n : length c.in_ok-take_digest.field-0 ≡ 32 = taken_length _ _ _ 32 c.in_ok-take_digest.ensures.front c.in_ok-take_digest.ensures.moved (c.in_ok-take_digest.ensures.enough.0 refl) in
     on_err _ _ (wrong_flag c.args.fields.now _ _ _ _ _ _ _ _ _ _ (sym c.new-rest.ensures ∙ c.in_ok-take_u32.ensures.front) c.in_ok-take_u64.ensures.front c.in_ok-take_digest.ensures.front n c.in_ok-take_u32-2.ensures.front c.in_ok-take_u32-3.ensures.front c.in_err-read_flag.ensures.bad)
 
 pub returns-in_err-ended-clause-bad : goal.returns-in_err-ended-clause-bad
@@ -23,6 +24,6 @@ returns-in_err-ended-clause-bad c = on_err _ _ (wrong_length c.args.fields.now (
 
 pub returns-clause-widths : goal.returns-clause-widths
 returns-clause-widths c =
-    let n = taken_length _ _ _ 32 c.in_ok-take_digest.ensures.front c.in_ok-take_digest.ensures.moved (c.in_ok-take_digest.ensures.enough.0 refl) in
-    let name = name_in c.args.fields.now _ _ _ _ _ _ (λ k. omega (arith, c.type_inv.fields k)) (sym c.new-rest.ensures ∙ c.in_ok-take_u32.ensures.front) c.in_ok-take_u64.ensures.front c.in_ok-take_digest.ensures.front n in
+    let n : length c.in_ok-take_digest.field-0 ≡ 32 = taken_length _ _ _ 32 c.in_ok-take_digest.ensures.front c.in_ok-take_digest.ensures.moved (c.in_ok-take_digest.ensures.enough.0 refl) in
+    let name : is_digest c.in_ok-take_digest.field-0 ≡ true = name_in c.args.fields.now _ _ _ _ _ _ (λ k. omega (arith, c.type_inv.fields k)) (sym c.new-rest.ensures ∙ c.in_ok-take_u32.ensures.front) c.in_ok-take_u64.ensures.front c.in_ok-take_digest.ensures.front n in
     widths_of c.in_ok-take_u32.field-0 c.in_ok-take_u64.field-0 c.in_ok-take_u32-2.field-0 c.in_ok-take_u32-3.field-0 c.in_ok-take_digest.field-0 true (omega arith) (omega arith) (omega arith) (omega arith) name

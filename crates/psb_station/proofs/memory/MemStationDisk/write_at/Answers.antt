@@ -1,5 +1,6 @@
 use Rattle.std.proofs.Common.{◌≡◌, ◌+◌, ◌++◌, [], ◌∷◌, List, ℕ, length, refl, sym, ap, subst, arith}
 use Rattle.psb_station.specs.Calls.{Torn}
+use Rattle.psb_station.specs.Past.{ToldBy}
 use Rattle.psb_station.specs.declared.past.Past.{Past}
 use Rattle.psb_station.specs.declared.past.Call.TheVariants.{Write}
 use Rattle.psb_station.proofs.Kept.{torn_same, same_time, kept_images, kept_else, kept_keeps, kept_moment, refused_images, refused_since, pushed_ordered}
@@ -13,8 +14,11 @@ returns-then-is_due-clause-writes c = record {
   disk_faults = omega arith;
   write_faults = omega arith;
   outside = refl;
-  tells = refl;
+  tells = λ tells. tells;
 }
+
+pub invariant_of-self-in-Err-clause-ordered : goal.invariant_of-self-in-Err-clause-ordered
+invariant_of-self-in-Err-clause-ordered c = subst (ToldBy c.args.self.now.told) (sym c.in-Err.ensures.err) c.args.self.now.ordered
 
 pub returns-in-Err-clause-writes : goal.returns-in-Err-clause-writes
 returns-in-Err-clause-writes c =
@@ -29,7 +33,7 @@ returns-in-Err-clause-writes c =
       disk_faults = omega arith;
       write_faults = omega arith;
       outside = refl;
-      tells = refl;
+      tells = λ tells. tells;
     }
 
 pub invariant_of-self-in-Ok-clause-ordered : goal.invariant_of-self-in-Ok-clause-ordered
@@ -54,5 +58,5 @@ returns-in-Ok-clause-writes c =
       disk_faults = omega arith;
       write_faults = omega arith;
       outside = refl;
-      tells = refl;
+      tells = λ tells. tells;
     }

@@ -1,0 +1,79 @@
+//! The program's run over the machine: one file, one UDP socket, standard output, the clock and the folders.
+ghost use Rattle.std.specs.Prelude.{◌≡◌, ◌≢◌, ◌⊎◌, ◌↔◌, List, ℕ, [], Some, map, string_bytes};
+ghost use Rattle.psb_station.specs.Calls.{Rose};
+ghost use Rattle.psb_station.specs.Folder.{File as IsFile, Tells_content, found};
+ghost use Rattle.psb_station.specs.Span.{Tells_bytes};
+ghost use Rattle.psb_host.specs.HonestFolder.{IsFirst};
+ghost use Rattle.psb_host.specs.HonestStation.{IsBegun};
+ghost use Rattle.psb_settings.specs.Settings.{settings_of};
+ghost use Rattle.psb_settings.specs.declared.settings.Settings.{Settings};
+ghost use Rattle.psb_model.specs.History.{state};
+ghost use Rattle.psb_model.specs.Needed.{IsValid};
+ghost use Rattle.psb_model.specs.declared.change.Change.{Change};
+ghost use Rattle.node_journal.specs.Format.{Stands};
+ghost use Rattle.node_core.specs.Stands.{HoldsHistory};
+ghost use Rattle.backup_cli.specs.Begun.{Begins};
+ghost use Rattle.backup_cli.specs.Says.{Utters, IsRefusal};
+ghost use Rattle.backup_cli.specs.Served.{Serves};
+ghost use Rattle.backup_cli.specs.Words.{IsServe, IsInit, IsNoCommand};
+ghost use Rattle.backup_cli.specs.declared.status.Status.TheVariants as status;
+
+use backup_cli::{Status, run};
+use psb_host::{HostFolder, HostStation, Start, StartFolder};
+use psb_station::{Disk, Folder};
+use std::alloc::Global;
+use std::fs::{File, Files};
+use std::net::Net;
+use std::time::Clock;
+
+/// Carries out a command over a machine that was not touched yet. Its file held `S.first` and its folders `T.tree`,
+/// whatever these are. Bytes and content are told as long as the system's answers agree with that; what was heard,
+/// sent, said and joined is told always.
+pub fn run_on_machine<R, Q, S, T>(
+    alloc: Global,
+    station: &mut HostStation<R, S>,
+    folder: &mut HostFolder<Q, T>,
+    words: &[String],
+) -> Status
+where
+    R: Files<File = File> + Net + Print + Clock + Drop,
+    Q: Files + Alloc + Clone + Drop,
+    S: Start,
+    T: StartFolder,
+    requires begun { IsBegun S.Start.first S.Start.left (⟦<HostStation<R, S> as Disk>⟧.view station.old) }
+    requires first { IsFirst T.StartFolder.tree (⟦<HostFolder<Q, T> as Folder>⟧.view folder.old) }
+
+    // Usage comes exactly where the words are no command; then its line is tried and nothing else done.
+    ensures usage { (result ≡ status.Usage) ↔ IsNoCommand (map string_bytes words.now) }
+    ensures usage_said { result ≡ status.Usage → (text : List ℕ) × Utters (⟦<HostStation<R, S> as Disk>⟧.view station.old) (⟦<HostStation<R, S> as Disk>⟧.view station.new) 1 text
+        × IsRefusal status.Usage text (⟦<HostStation<R, S> as Disk>⟧.view station.old) (⟦<HostStation<R, S> as Disk>⟧.view station.new) }
+
+    // The headline. Whatever the file held: where that was a node's, this is a serving of that node, and so is what
+    // a crash leaves at each moment, as long as the file answered as one that held it.
+    ensures serves { (turns : ℕ) → IsServe (map string_bytes words.now) turns → Tells_bytes (⟦<HostStation<R, S> as Disk>⟧.view station.new)
+        → (h : List Change) (settings : Settings) → IsValid h → HoldsHistory Stands h S.Start.first → (state h).settings ≡ Some settings
+        → Serves Stands h settings (⟦<HostStation<R, S> as Disk>⟧.view station.old) (⟦<HostStation<R, S> as Disk>⟧.view station.new) turns result }
+    ensures not_node { result ≡ status.NotNode → Tells_bytes (⟦<HostStation<R, S> as Disk>⟧.view station.new) → (h : List Change) → IsValid h → ¬ HoldsHistory Stands h S.Start.first }
+
+    // The headline of `init`: what it comes to over each file and each folder. It leaves the folder as it was.
+    ensures begins { (file : List ℕ) → IsInit (map string_bytes words.now) file
+        → Begins Stands file (⟦<HostStation<R, S> as Disk>⟧.view station.old) (⟦<HostStation<R, S> as Disk>⟧.view station.new)
+        (⟦<HostFolder<Q, T> as Folder>⟧.view folder.old) (⟦<HostFolder<Q, T> as Folder>⟧.view folder.new) result }
+    ensures content { (file : List ℕ) → IsInit (map string_bytes words.now) file → Tells_content (⟦<HostFolder<Q, T> as Folder>⟧.view folder.new)
+        → (⟦<HostFolder<Q, T> as Folder>⟧.view folder.new).content ≡ Some T.StartFolder.tree }
+    ensures complete { (file text : List ℕ) (settings : Settings) → IsInit (map string_bytes words.now) file
+        → Tells_bytes (⟦<HostStation<R, S> as Disk>⟧.view station.new) → Tells_content (⟦<HostFolder<Q, T> as Folder>⟧.view folder.new)
+        → S.Start.first ≡ [] → found T.StartFolder.tree file ≡ Some (IsFile text) → settings_of text ≡ Some settings
+        → ¬ Rose (⟦<HostStation<R, S> as Disk>⟧.view station.old).disk_faults (⟦<HostStation<R, S> as Disk>⟧.view station.new).disk_faults
+        → ¬ Rose (⟦<HostFolder<Q, T> as Folder>⟧.view folder.old).folder_faults (⟦<HostFolder<Q, T> as Folder>⟧.view folder.new).folder_faults
+        → ¬ Rose (⟦<HostStation<R, S> as Disk>⟧.view station.old).outside.say_faults (⟦<HostStation<R, S> as Disk>⟧.view station.new).outside.say_faults
+        → (result ≡ status.Done) ⊎ (result ≡ status.Memory) }
+    ensures already { result ≡ status.Already → Tells_bytes (⟦<HostStation<R, S> as Disk>⟧.view station.new) → S.Start.first ≢ [] }
+
+    ensures disk_cause { result ≡ status.DiskFault → Rose (⟦<HostStation<R, S> as Disk>⟧.view station.old).disk_faults (⟦<HostStation<R, S> as Disk>⟧.view station.new).disk_faults }
+    ensures link_cause { result ≡ status.LinkFault → Rose (⟦<HostStation<R, S> as Disk>⟧.view station.old).outside.link_faults (⟦<HostStation<R, S> as Disk>⟧.view station.new).outside.link_faults }
+    ensures say_cause { result ≡ status.SayFault → Rose (⟦<HostStation<R, S> as Disk>⟧.view station.old).outside.say_faults (⟦<HostStation<R, S> as Disk>⟧.view station.new).outside.say_faults }
+    ensures folder_cause { result ≡ status.FolderFault → Rose (⟦<HostFolder<Q, T> as Folder>⟧.view folder.old).folder_faults (⟦<HostFolder<Q, T> as Folder>⟧.view folder.new).folder_faults }
+{
+    run(alloc, station, folder, words)
+}

@@ -1,0 +1,108 @@
+//! The world of a case: the disk, what will arrive, what will fail, and the folder.
+ghost use Rattle.std.specs.Prelude.{◌≤◌, length, All};
+ghost use Rattle.std.proofs.Props.{props};
+
+use crate::stop::Stop;
+use crate::words::Outcome;
+use backup_cli::Status;
+use psb_bytes::Memory;
+use psb_station::{CallKind, MemFolder, MemStation, Planned, StationCall};
+use std::alloc::Global;
+use std::mem;
+
+/// The most bytes of a datagram.
+const LONGEST_DATAGRAM: usize = 65_507;
+
+/// The world of a case between two runs.
+#[derive(Drop)]
+pub struct World {
+    alloc: Global,
+    pub image: Vec<u8>,
+    pub arrivals: Vec<Vec<u8>>,
+    pub clock: Vec<u64>,
+    pub faults: Vec<Planned<StationCall>>,
+    pub troubles: Vec<Planned<CallKind>>,
+    pub folder: MemFolder,
+    /// The station of the last run.
+    last: Option<MemStation>,
+    ghost short: { All (λ a. length a.items ≤ 65507) arrivals.items } by { Prim.hlevel props },
+}
+
+impl World {
+    /// Where a case begins. Takes no memory.
+    pub fn new(alloc: Global) -> World {
+        World {
+            alloc,
+            image: Vec::new(alloc),
+            arrivals: Vec::new(alloc),
+            clock: Vec::new(alloc),
+            faults: Vec::new(alloc),
+            troubles: Vec::new(alloc),
+            folder: MemFolder::new(alloc, Vec::new(alloc)),
+            last: None,
+        }
+    }
+
+    /// One more datagram will arrive. One that is too long for a datagram is outside of the language.
+    pub fn add_frame(&mut self, frame: Vec<u8>) -> Result<(), Stop> {
+        if frame.len() > LONGEST_DATAGRAM {
+            return Err(Stop::Outside);
+        }
+        self.arrivals.push(frame)?;
+        Ok(())
+    }
+
+    /// A file stands at a path, where it may be put there.
+    pub fn put_file(&mut self, path: &str, bytes: &[u8]) -> Result<(), Stop> {
+        if !self.folder.takes_file(path) {
+            return Err(Stop::Outside);
+        }
+        Ok(self.folder.put_file(path, bytes)?)
+    }
+
+    /// A folder stands at a path, where it may be put there.
+    pub fn put_folder(&mut self, path: &str) -> Result<(), Stop> {
+        if !self.folder.takes_folder(path) {
+            return Err(Stop::Outside);
+        }
+        Ok(self.folder.put_folder(path)?)
+    }
+
+    /// A station of the image, the arrivals, the clock and the faults, of which nothing stays.
+    fn take_station(&mut self) -> MemStation {
+        let image = mem::replace(&mut self.image, Vec::new(self.alloc));
+        let arrivals = mem::replace(&mut self.arrivals, Vec::new(self.alloc));
+        let clock = mem::replace(&mut self.clock, Vec::new(self.alloc));
+        let faults = mem::replace(&mut self.faults, Vec::new(self.alloc));
+        let mut station = MemStation::new(self.alloc, image, arrivals, clock, Vec::new(self.alloc));
+        station.plan(faults);
+        station
+    }
+
+    /// Runs the program with these words, and keeps the station that it was run over.
+    pub fn run(&mut self, words: &[String]) -> Result<(Status, &MemStation), Memory> {
+        let mut station = self.take_station();
+        let troubles = mem::replace(&mut self.troubles, Vec::new(self.alloc));
+        self.folder.plan(troubles);
+        let status = backup_cli::run(self.alloc, &mut station, &mut self.folder, words);
+        self.folder.plan(Vec::new(self.alloc));
+        self.image = Vec::from_slice(self.alloc, station.image())?;
+        Ok((status, self.last.insert(station)))
+    }
+
+    /// Makes the image that which a crash at a change of the disk in the last run leaves, and says
+    /// whether there was this change.
+    pub fn leave(&mut self, change: u64, outcome: Outcome) -> Result<bool, Memory> {
+        let Some(station) = &self.last else {
+            return Ok(false);
+        };
+        let Some(call) = station.change_number(change) else {
+            return Ok(false);
+        };
+        if call == 0 || call > station.call_count() {
+            return Ok(false);
+        }
+        self.image = station.left(call, outcome as u8)?;
+        Ok(true)
+    }
+}
