@@ -94,6 +94,3 @@ fn is_padded(text: &str) -> bool
 pub fn words_fix_the_command()
     ensures { FixTheCommand }
 {}
-
-#[cfg(test)]
-mod tests;
