@@ -16,7 +16,7 @@ use Rattle.node_core.specs.Begun.{begun_with, first_situation}
 use Rattle.node_core.specs.Stands.{ReopensTo}
 use Rattle.node_core.specs.Stored.{Knows, Stored}
 use Rattle.node_core.specs.declared.node.Node.{Node}
-use Rattle.node_core.proofs.Reopened.{reopens}
+use Rattle.node_core.proofs.Reopened.{image_reopens}
 use Rattle.node_serve.proofs.Tries.{told_from}
 use Rattle.backup_cli.specs.Files.{IsFrontOf, OnlyReads}
 use Rattle.backup_cli.specs.Lines.{node_line}
@@ -25,7 +25,7 @@ use Rattle.backup_cli.specs.Status.{refusal_line}
 use Rattle.backup_cli.specs.Begun.{IsEmpty, HasSettings, HasNoSettings, Stays, HasBegun, MayBegin, IsEnd, Begins, Completes, Stops}
 use Rattle.backup_cli.specs.declared.status.Status.{Status}
 use Rattle.backup_cli.specs.declared.status.Status.TheVariants.{Done, Usage, DiskFault, LinkFault, FolderFault, SayFault, NotNode, Already, BadSettings, Memory}
-use Rattle.backup_cli.proofs.Ends.{NoOther}
+use Rattle.backup_cli.proofs.Commanding.{NoOther}
 use Rattle.backup_cli.proofs.Utterances.{utters_tells}
 use Rattle.backup_cli.proofs.FileReads.{if_one}
 
@@ -66,11 +66,11 @@ empty_then v0 v1 keeps empty = if_some v1.bytes (λ b. b ≡ []) (λ b is. at_so
 
 -- the node that was begun holds its history on the disk
 pub disk_begun : {L : Type 0} (holds : L → List Entry → List ℕ → Type 0) (stands : List Entry → List ℕ → Type 0) (law : (log : L) (es : List Entry) (c : List ℕ) → holds log es c → stands es c)
-    (node : Node L) (text : List ℕ) (v0 v1 v2 : View) → Keeps v0 v1 → Knows node (first_situation text) → (Tells_bytes v2 → Stored holds node (begun_with text) v2)
+    (node : Node L) (text : List ℕ) (v0 v1 v2 : View) → Keeps v0 v1 → Knows node (first_situation text) → (Tells_bytes v2 → (s : Stored holds node (begun_with text) v2) × (s.less ≡ begun_with text))
     → Tells_bytes v2 → Shows (ReopensTo stands (begun_with text)) v2
 disk_begun holds stands law node text v0 v1 v2 keeps knows stored tells =
-    let st = stored tells in
-    shows_wider (holds node.log st.records) (ReopensTo stands (begun_with text)) v2 (λ c is. reopens stands (begun_with text) st.records c knows.valid st.decoded (law node.log st.records c is)) st.shows
+    let st = (stored tells).0 in
+    shows_wider (holds node.log st.records) (ReopensTo stands (begun_with text)) v2 (λ c is. image_reopens holds stands law node (begun_with text) v2 knows.valid st c is) st.shows
 
 -- the length tells whether the disk is empty
 length_none : (b : List ℕ) → length b ≡ 0 → b ≡ []

@@ -2,9 +2,9 @@ pub mod LineLemmas
 pub mod WordLemmas
 pub mod Utterances
 pub mod LinesSaid
+pub mod Commanding
 pub mod Ends
 pub mod Opened
-pub mod SettingsStay
 pub mod Outcomes
 pub mod FileReads
 pub mod Beginnings

@@ -22,6 +22,7 @@ fn expect_empty<S: Station>(station: &mut S) -> Result<(), Status>
     ensures ok { OnOk result (Tells_bytes (S.view station.new) → IsEmpty (S.view station.old)) }
     ensures already { result ≡ Err Status.Already → Tells_bytes (S.view station.new) → IfSome (S.view station.old).bytes (λ b. b ≢ []) }
     ensures cause { result ≡ Err Status.DiskFault → Rose (S.view station.old).disk_faults (S.view station.new).disk_faults }
+    ensures steady { (result ≡ Err Status.DiskFault) ⊎ ((S.view station.new).disk_faults ≡ (S.view station.old).disk_faults) }
     ensures only { OnErr result ((result ≡ Err Status.Already) ⊎ (result ≡ Err Status.DiskFault)) }
     ensures keeps { Keeps (S.view station.old) (S.view station.new) }
 {
@@ -47,6 +48,8 @@ fn begin_from<L: Log, S: Station, F: Folder>(
     ensures reads { OnlyReads file.now (F.view folder.old) (F.view folder.new) }
     ensures order { (folder.new ≡ folder.old) ⊎ (Tells_bytes (S.view station.new) → IsEmpty (S.view station.old)) }
     ensures unread { result ≡ Err Status.Already → folder.new ≡ folder.old }
+    ensures disk { (result ≡ Err Status.DiskFault) ⊎ ((S.view station.new).disk_faults ≡ (S.view station.old).disk_faults) }
+    ensures folder { (result ≡ Err Status.FolderFault) ⊎ ((F.view folder.new).folder_faults ≡ (F.view folder.old).folder_faults) }
 {
     match expect_empty(station) {
         Ok(()) => {}
@@ -77,6 +80,12 @@ pub(crate) fn init_command<L: Log, S: Station, F: Folder>(
     // A disk that is not empty is refused before the file is read.
     ensures order { (folder.new ≡ folder.old) ⊎ (Tells_bytes (S.view station.new) → IsEmpty (S.view station.old)) }
     ensures unread { result ≡ Status.Already → folder.new ≡ folder.old }
+
+    // The first fault decides: of no other device was there one before.
+    ensures disk { (result ≡ Status.DiskFault) ⊎ ((S.view station.new).disk_faults ≡ (S.view station.old).disk_faults) }
+    ensures link { (S.view station.new).outside.link_faults ≡ (S.view station.old).outside.link_faults }
+    ensures folder { (result ≡ Status.FolderFault) ⊎ ((F.view folder.new).folder_faults ≡ (F.view folder.old).folder_faults) }
+    ensures said { result ≡ Status.Done → (S.view station.new).outside.say_faults ≡ (S.view station.old).outside.say_faults }
 {
     let node = match begin_from::<L, S, F>(alloc, station, folder, file) {
         Ok(node) => node,

@@ -4,12 +4,14 @@
 mod beginning;
 mod files;
 mod lines;
+mod number;
 mod program;
 mod saying;
 mod serving;
 mod status;
 mod words;
 
+pub use number::read_number;
 pub use program::run;
 pub use status::Status;
 pub use words::words_fix_the_command;

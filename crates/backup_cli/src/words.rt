@@ -1,10 +1,11 @@
 ghost use Rattle.std.specs.Prelude.{◌≡◌, ◌≢◌, ℕ, ◌<◌, ◌≤◌, ◌^◌, ◌↔◌, ◌⊎◌, [], ◌∷◌, IsTrue, IfSome, IfNone, map, length, slice_index, string_bytes, decimal};
 ghost use Rattle.backup_cli.specs.Words.{is_path, below_root, IsCommand, IsNoCommand, FixTheCommand};
 
+use crate::read_number;
 use psb_bytes::has_names;
 
 /// The greatest number of turns that one command asks for.
-const MOST_TURNS: u32 = 1_000_000;
+const MOST_TURNS: u64 = 1_000_000;
 
 /// The most bytes of a path.
 const MOST_PATH_BYTES: usize = 4_096;
@@ -68,25 +69,7 @@ fn read_turns(text: &str) -> Option<u32>
     if turns == 0 || turns > MOST_TURNS {
         return None;
     }
-    Some(turns)
-}
-
-/// The number that a text spells: decimal digits without sign or leading zero.
-fn read_number(text: &str) -> Option<u32>
-    ensures some { IfSome result (λ number. text.now ≡ decimal number) }
-    ensures none { IfNone result ((number : ℕ) → number < 2 ^ 32 → text.now ≢ decimal number) }
-{
-    if is_padded(text) {
-        return None;
-    }
-    text.parse().ok()
-}
-
-/// Whether a plus sign, or a zero before a digit, is in front: `parse` passes over both.
-fn is_padded(text: &str) -> bool
-    ensures { IsTrue result ↔ ((slice_index text.now 0 ≡ 43) ⊎ ((slice_index text.now 0 ≡ 48) × (2 ≤ length text.now))) }
-{
-    matches!(text.as_bytes(), [b'+', ..] | [b'0', _, ..])
+    Some(turns as u32)
 }
 
 /// The law that words are those of one command at most, and name one number of turns or one file.

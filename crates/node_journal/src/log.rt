@@ -87,6 +87,7 @@ pub trait Log: Sized + Drop {
         ensures there { IfOk result (λ log. keeps_body log 0 ≡ true) }
         ensures works { DiskWorks (D.view disk.old) (D.view disk.new) }
         ensures disk_cause { result ≡ Err LogError.DiskFault → Rose (D.view disk.old).disk_faults (D.view disk.new).disk_faults }
+        ensures steady { (result ≡ Err LogError.DiskFault) ⊎ ((D.view disk.new).disk_faults ≡ (D.view disk.old).disk_faults) }
         ensures only { OnErr result ((result ≡ Err LogError.DiskFault) ⊎ (result ≡ Err LogError.Memory)) }
         ensures memory { result ≡ Err LogError.Memory → disk.new ≡ disk.old };
 
@@ -101,6 +102,7 @@ pub trait Log: Sized + Drop {
         ensures not_log { result ≡ Err LogError.NotLog → IfSome (D.view disk.new).bytes (λ b. (es : List Entry) → ¬ stands es b) }
         ensures keeps { Keeps (D.view disk.old) (D.view disk.new) }
         ensures disk_cause { result ≡ Err LogError.DiskFault → Rose (D.view disk.old).disk_faults (D.view disk.new).disk_faults }
+        ensures steady { (result ≡ Err LogError.DiskFault) ⊎ ((D.view disk.new).disk_faults ≡ (D.view disk.old).disk_faults) }
         ensures only { OnErr result ((result ≡ Err LogError.NotLog) ⊎ (result ≡ Err LogError.DiskFault) ⊎ (result ≡ Err LogError.Memory)) };
 
     /// Makes the buffer from which a record of these lengths is written. Room made earlier stays.
@@ -133,6 +135,7 @@ pub trait Log: Sized + Drop {
 
         ensures works { DiskWorks (D.view disk.old) (D.view disk.new) }
         ensures disk_cause { result ≡ Err LogError.DiskFault → Rose (D.view disk.old).disk_faults (D.view disk.new).disk_faults }
+        ensures steady { (result ≡ Err LogError.DiskFault) ⊎ ((D.view disk.new).disk_faults ≡ (D.view disk.old).disk_faults) }
         ensures write_cause { result ≡ Err LogError.DiskFault → Rose (D.view disk.old).write_faults (D.view disk.new).write_faults }
         ensures refused { (result ≡ Err LogError.Broken) ↔ (is_broken self.old ≡ true) }
         ensures untouched { is_broken self.old ≡ true → (disk.new ≡ disk.old) × (self.new ≡ self.old) }
@@ -154,6 +157,7 @@ pub trait Log: Sized + Drop {
         ensures keeps { Keeps (D.view disk.old) (D.view disk.new) }
         ensures reads { (D.view disk.new).write_faults ≡ (D.view disk.old).write_faults }
         ensures disk_cause { result ≡ Err LogError.DiskFault → Rose (D.view disk.old).disk_faults (D.view disk.new).disk_faults }
+        ensures steady { (result ≡ Err LogError.DiskFault) ⊎ ((D.view disk.new).disk_faults ≡ (D.view disk.old).disk_faults) }
         ensures refused { (result ≡ Err LogError.Broken) ↔ (is_broken self.old ≡ true) }
         ensures untouched { is_broken self.old ≡ true → (disk.new ≡ disk.old) × (into.new ≡ into.old) }
         ensures only { OnErr result ((result ≡ Err LogError.Broken) ⊎ (result ≡ Err LogError.DiskFault) ⊎ (result ≡ Err LogError.Memory)) }
@@ -174,6 +178,7 @@ pub trait Log: Sized + Drop {
         ensures keeps { Keeps (D.view disk.old) (D.view disk.new) }
         ensures reads { (D.view disk.new).write_faults ≡ (D.view disk.old).write_faults }
         ensures disk_cause { result ≡ Err LogError.DiskFault → Rose (D.view disk.old).disk_faults (D.view disk.new).disk_faults }
+        ensures steady { (result ≡ Err LogError.DiskFault) ⊎ ((D.view disk.new).disk_faults ≡ (D.view disk.old).disk_faults) }
         ensures refused { (result ≡ Err LogError.Broken) ↔ (is_broken self.old ≡ true) }
         ensures untouched { is_broken self.old ≡ true → (disk.new ≡ disk.old) × (into.new ≡ into.old) }
         ensures only { OnErr result ((result ≡ Err LogError.Broken) ⊎ (result ≡ Err LogError.DiskFault) ⊎ (result ≡ Err LogError.Memory)) }

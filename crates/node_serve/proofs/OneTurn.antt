@@ -1,41 +1,34 @@
 -- The runs that a turn is made of.
-use Rattle.std.proofs.Common.{◌≡◌, ◌⊎◌, inl, ⊎_elim, ℕ, ◌+◌, ◌≤◌, false, if◌then◌else◌, List, [], ◌∷◌, ◌++◌, length, take, Option, is_some, refl, sym, ◌∙◌, ap, subst, arith}
+use Rattle.std.proofs.Common.{◌≡◌, ◌⊎◌, inl, inr, ⊎_elim, ℕ, ◌+◌, ◌<◌, ◌≤◌, nat_lt, Bool, true, false, if◌then◌else◌, List, [], ◌∷◌, ◌++◌, length, map, take, flat_map, Option, Some, None, is_some, refl, sym, ◌∙◌, ap, subst, arith}
+use Rattle.std.proofs.lemmas.Bool.{lt-ltb, le-ltb}
 use Rattle.std.proofs.lemmas.List.{append-nil}
 use Rattle.psb_station.specs.View.{View, Outside, Heard}
-use Rattle.psb_station.specs.View.Heard.{Frame}
-use Rattle.psb_station.specs.Calls.{Listens, Grows, Rose}
+use Rattle.psb_station.specs.View.Heard.{Frame, Nothing, Clock, Fault}
+use Rattle.psb_station.specs.Calls.{Listens, Grows}
 use Rattle.psb_station.specs.Span.{Leaves, DiskWorks, Tells_bytes}
 use Rattle.psb_station.proofs.Spans.{at_start, rests_on, weakened, then_run, shows_rest}
 use Rattle.node_journal.specs.Entry.{Entry}
-use Rattle.psb_model.specs.Needed.{IsValid}
+use Rattle.psb_model.specs.declared.change.Change.{Change}
 use Rattle.wire_codec.specs.declared.frame.Dropped.{Dropped}
-use Rattle.psb_machine.specs.Machine.{Situation, Input, Datagram, Reaction, react, next}
-use Rattle.psb_machine.specs.Course.{letters_all}
+use Rattle.psb_machine.specs.Machine.{Situation, Input, Datagram, Tick, react, next}
+use Rattle.psb_machine.specs.Course.{Telling, Send, Step, Absorb, after_all, tellings, sent_of, said_of, sent_in, said_in, datagrams}
+use Rattle.psb_machine.specs.Commands.{Turn, ticks, came_steps, clock_steps, turn_steps, clock_after, serve_steps}
 use Rattle.node_core.specs.declared.node.Node.{Node}
 use Rattle.node_core.specs.Stands.{ReopensTo}
 use Rattle.node_core.specs.Stored.{Knows, Stored}
-use Rattle.node_core.proofs.Reopened.{stored_reopens}
+use Rattle.node_core.proofs.Reopened.{stored_at, stored_reopens}
 use Rattle.node_serve.specs.Sends.{AreSent, Sends}
-use Rattle.node_serve.specs.Hears.{inputs_of, is_fault}
-use Rattle.node_serve.specs.Turns.{Listened}
-use Rattle.node_serve.specs.Spans.{IsPrefixSoon, Tally, no_tally, Ran}
-use Rattle.node_serve.proofs.Tries.{rests_tells, sends_tells, grows_none, told_none, told_as, told_from, sent_none}
+use Rattle.node_serve.specs.Hears.{Hears, steps_of, clock_by, clock_of, heard_of, of_turn, of_turns, End, Whole, Cut, Stopped, Unbegun, AnswersAs, EndsAs, is_fed}
+use Rattle.node_serve.specs.Turns.{Listened, OnlySends, IsEarly}
+use Rattle.node_serve.specs.Spans.{IsPrefixSoon, Tally, no_tally, tally_sum, counts_sum, Fed, Received, RanTurns}
+use Rattle.node_serve.proofs.Tries.{rests_tells, grows_none, told_none, told_as, told_from, sent_none, lost_none}
 use Rattle.node_serve.proofs.Prefixes.{whole, first_image, next_image, whole_has_all, either_has_all}
-
--- a frame came
-pub record Came (v0 v1 : View) (x : List ℕ) : Type 0 where
-  pub listens : Listens v0 v1
-  pub kept : v1.outside ≡ record v0.outside { heard = v1.outside.heard; link_faults = v1.outside.link_faults }
-  pub heard : Grows v0.outside.heard v1.outside.heard (Frame x ∷ [])
+use Rattle.node_serve.proofs.Runs.{steps_of-append, hears_then, fed_none, fed_then, fed_as, uncounted}
 
 -- At a moment the images are those that a crash now may leave, and a run from it has no other.
 pub record Now (v : View) : Type 0 where
   pub counts : (t : ℕ) (c : List ℕ) → t ≤ v.moment → v.may_leave c → v.left_since t c v.told
   pub only : (c : List ℕ) (k : ℕ) → v.left_since v.moment c k → v.may_leave c × (k ≡ v.told)
-
--- what an input is taken for
-abbrev pub tally_of : Reaction → ℕ → Tally
-tally_of r lost = record { taken = 1; dropped = if is_some r.dropped then 1 else 0; lost = lost }
 
 -- what was written over the front of a vector is there
 written_front : (l rest : List ℕ) → take (length l) (l ++ rest) ≡ l
@@ -45,178 +38,354 @@ written_front (x ∷ l) rest = ap (λ (m : List ℕ). x ∷ m) (written_front l 
 pub written_back : (now l rest : List ℕ) (len : ℕ) → length l ≡ len → now ≡ take len (l ++ rest) → now ≡ l
 written_back now l rest len is there = there ∙ ap (λ (n : ℕ). take n (l ++ rest)) (sym is) ∙ written_front l rest
 
--- an answer that is no frame came
-pub received : (v0 v1 : View) (a : Heard) → Listens v0 v1 → v1.outside ≡ record v0.outside { heard = v1.outside.heard; link_faults = v1.outside.link_faults } → Grows v0.outside.heard v1.outside.heard (a ∷ []) → inputs_of (a ∷ []) ≡ []
-    → Listened v0 v1 [] a
-received v0 v1 a listens kept heard none =
+-- an answer of the link came
+pub received : (v0 v1 : View) (a : Heard) → Listens v0 v1 → v1.outside ≡ record v0.outside { heard = v1.outside.heard; link_faults = v1.outside.link_faults } → Grows v0.outside.heard v1.outside.heard (a ∷ []) → Listened v0 v1 [] a
+received v0 v1 a listens kept heard =
     let joined : v1.outside.joined ≡ v0.outside.joined = ap (λ (o : Outside). o.joined) kept in
     record {
       listens = listens;
       kept = kept ∙ ap (λ (j : Option (List (ℕ × List ℕ))). record v0.outside { heard = v1.outside.heard; joined = j; link_faults = v1.outside.link_faults }) (sym joined);
-      joined = subst (λ (j : Option (List (ℕ × List ℕ))). Grows v0.outside.joined j []) (sym joined) (grows_none v0.outside.joined);
-      heard = heard;
-      no_frame = none;
+      hears = record { heard = heard; joined = subst (λ (j : Option (List (ℕ × List ℕ))). Grows v0.outside.joined j []) (sym joined) (grows_none v0.outside.joined) };
     }
 
--- the counts of a turn
-pub tally_is : (n : Situation) (i : Input) (x : List ℕ) (dropped lost : ℕ) (d : Option Dropped) → d ≡ (react n i).dropped → dropped ≡ (if is_some d then 1 else 0) → i ≡ Datagram x
-    → tally_of (react n (Datagram x)) lost ≡ record { taken = 1; dropped = dropped; lost = lost }
-tally_is n i x dropped lost d is e input =
-    let same : (react n (Datagram x)).dropped ≡ d = ap (λ (j : Input). (react n j).dropped) (sym input) ∙ sym is in
-    ap (λ (o : Option Dropped). record { taken = 1; dropped = if is_some o then 1 else 0; lost = lost }) same
-    ∙ (λ k. record { taken = 1; dropped = sym e k; lost = lost })
+-- the letters of an input, as what is told
+sent_of-letters : (l : List (ℕ × List ℕ)) → sent_of (map Send l) ≡ l
+sent_of-letters [] = refl
+sent_of-letters (x ∷ l) = ap (λ (m : List (ℕ × List ℕ)). x ∷ m) (sent_of-letters l)
 
-module _ {L : Type 0} (holds : L → List Entry → List ℕ → Type 0) (stands : List Entry → List ℕ → Type 0) (law : (log : L) (es : List Entry) (c : List ℕ) → holds log es c → stands es c) where
-  pub listened : (node : Node L) (n : Situation) (v0 v1 : View) (joins : List (ℕ × List ℕ)) (a : Heard) (ok : Type 0) → Knows node n → Listened v0 v1 joins a → Ran holds stands node node v0 v1 n joins 1 no_tally (is_fault a) ok
-  listened node n v0 v1 joins a ok knows l = record {
+said_of-letters : (l : List (ℕ × List ℕ)) → said_of (map Send l) ≡ []
+said_of-letters [] = refl
+said_of-letters (x ∷ l) = said_of-letters l
+
+many_letters : (l : List (ℕ × List ℕ)) → length (map Send l) ≡ length l
+many_letters [] = refl
+many_letters (x ∷ l) = omega (arith, many_letters l)
+
+pub only_then : (v0 v1 v2 : View) → OnlySends v0 v1 → OnlySends v1 v2 → OnlySends v0 v2
+only_then v0 v1 v2 a b = b ∙ ap (λ (o : Outside). record o { sent = v2.outside.sent; send_faults = v2.outside.send_faults }) a
+
+-- a run that only sends hears nothing
+pub sends_hears : (v0 v1 : View) → OnlySends v0 v1 → Hears v0 v1 [] []
+sends_hears v0 v1 kept = record {
+  heard = subst (λ (o : Option (List Heard)). Grows v0.outside.heard o []) (sym (ap (λ (o : Outside). o.heard) kept)) (grows_none v0.outside.heard);
+  joined = subst (λ (o : Option (List (ℕ × List ℕ))). Grows v0.outside.joined o []) (sym (ap (λ (o : Outside). o.joined) kept)) (grows_none v0.outside.joined);
+}
+
+pub counts_zero : (u : Option Tally) → counts_sum (Some no_tally) u ≡ u
+counts_zero None = refl
+counts_zero (Some t) = ap (λ (s : Tally). Some s) (zero t)
+  where
+    plus : (m : ℕ) → 0 + m ≡ m
+    plus m = omega arith
+
+    zero : (t : Tally) → tally_sum no_tally t ≡ t
+    zero t = λ j. record { taken = plus t.taken j; dropped = plus t.dropped j; lost = plus t.lost j }
+
+-- a turn that heard the clock was made, or the node failed in it
+abbrev pub IsFull : End → Type 0
+IsFull Whole = Unit {0}
+IsFull Cut = ⊥
+IsFull Stopped = Unit {0}
+IsFull Unbegun = ⊥
+
+early_ends : (e : End) (a : Heard) → IsEarly e → AnswersAs e a → EndsAs e 0 1 (a ∷ [])
+early_ends Whole a early is = absurd early
+early_ends Cut a early is = (omega arith, ap (λ (b : Heard). b ∷ []) is)
+early_ends Stopped a early is = (omega arith, inl (is.0, ap (λ (b : Heard). b ∷ []) is.1))
+early_ends Unbegun a early is = absurd is
+
+early_clock : (e : End) (clock : ℕ) (a : Heard) → IsEarly e → AnswersAs e a → clock_by clock a ≡ clock
+early_clock Whole clock a early is = absurd early
+early_clock Cut clock a early is = ap (clock_by clock) is
+early_clock Stopped clock a early is = ap (clock_by clock) is.1
+early_clock Unbegun clock a early is = absurd is
+
+came_clock : (clock : ℕ) (came : Option (List ℕ)) → clock_by clock (heard_of came) ≡ clock
+came_clock clock None = refl
+came_clock clock (Some x) = refl
+
+turn_is : (peers : List ℕ) (clock : ℕ) (came : Option (List ℕ)) (time : ℕ) → steps_of peers clock (heard_of came ∷ []) ++ clock_steps peers clock time ≡ steps_of peers clock (heard_of came ∷ Clock time ∷ [])
+turn_is peers clock None time = sym (append-nil (clock_steps peers clock time))
+turn_is peers clock (Some x) time = ap (λ (l : List Step). Absorb (Datagram x) ∷ l) (sym (append-nil (clock_steps peers clock time)))
+
+pub ticks-append : (a b : List ℕ) → ticks (a ++ b) ≡ ticks a ++ ticks b
+ticks-append [] b = refl
+ticks-append (p ∷ a) b = ap (λ (l : List Step). Absorb (Tick p) ∷ l) (ticks-append a b)
+
+-- what is heard makes the steps of the turns
+pub serve_is : (peers : List ℕ) (clock : ℕ) (turns : List Turn) → steps_of peers clock (of_turns turns) ≡ serve_steps peers clock turns
+serve_is peers clock [] = refl
+serve_is peers clock (t ∷ ts) =
+    steps_of-append peers clock (of_turn t) (of_turns ts)
+    ∙ ap (λ (l : List Step). l ++ steps_of peers (clock_of clock (of_turn t)) (of_turns ts)) (sym (turn_is peers clock t.came t.time) ∙ same t.came)
+    ∙ ap (λ (c : ℕ). turn_steps peers clock t ++ steps_of peers (clock_after c t.time) (of_turns ts)) (came_clock clock t.came)
+    ∙ ap (λ (l : List Step). turn_steps peers clock t ++ l) (serve_is peers (clock_after clock t.time) ts)
+  where
+    same : (came : Option (List ℕ)) → steps_of peers clock (heard_of came ∷ []) ++ clock_steps peers clock t.time ≡ came_steps came ++ clock_steps peers clock t.time
+    same None = refl
+    same (Some x) = refl
+
+-- the clock was asked
+pub clocked : (v0 v1 : View) (a : Heard) → Listens v0 v1 → v1.outside ≡ record v0.outside { heard = v1.outside.heard } → Grows v0.outside.heard v1.outside.heard (a ∷ []) → Listened v0 v1 [] a
+clocked v0 v1 a listens kept heard =
+    let joined : v1.outside.joined ≡ v0.outside.joined = ap (λ (o : Outside). o.joined) kept in
+    let faults : v1.outside.link_faults ≡ v0.outside.link_faults = ap (λ (o : Outside). o.link_faults) kept in
+    record {
+      listens = listens;
+      kept = kept ∙ (λ k. record v0.outside { heard = v1.outside.heard; joined = sym joined k; link_faults = sym faults k });
+      hears = record { heard = heard; joined = subst (λ (j : Option (List (ℕ × List ℕ))). Grows v0.outside.joined j []) (sym joined) (grows_none v0.outside.joined) };
+    }
+
+counts_none : (t : Tally) → counts_sum (Some t) (Some no_tally) ≡ Some t
+counts_none t = λ j. Some (record { taken = plus t.taken j; dropped = plus t.dropped j; lost = plus t.lost j })
+  where
+    plus : (m : ℕ) → m + 0 ≡ m
+    plus m = omega arith
+
+not_later : (clock time : ℕ) → time ≤ clock → nat_lt clock time ≡ false
+not_later clock time le = le-ltb clock time le
+
+module _ {L : Type 0} (holds : L → List Entry → List ℕ → Type 0) (stands : List Entry → List ℕ → Type 0) (broken : L → Bool) (law : (log : L) (es : List Entry) (c : List ℕ) → holds log es c → stands es c) where
+  pub stored_on : (node : Node L) (n : Situation) (v0 v1 : View) (joins : List (ℕ × List ℕ)) (a : Heard) → Listened v0 v1 joins a → Tells_bytes v1 → Stored holds node n.history v0 → Stored holds node n.history v1
+  stored_on node n v0 v1 joins a l tells s = stored_at holds node n.history v0 v1 s (shows_rest (holds node.log s.records) v0 v1 l.listens.rests tells s.shows)
+
+  -- a call of the link feeds nothing
+  pub listened : (node : Node L) (n : Situation) (v0 v1 : View) (joins : List (ℕ × List ℕ)) (a : Heard) → Knows node n → Listened v0 v1 joins a → Tells_bytes v1 → Stored holds node n.history v0
+      → Fed holds stands broken node node v0 v1 n [] (Some no_tally) true
+  listened node n v0 v1 joins a knows l tells s = record {
     done = [];
     failed = [];
-    hears = record { answers = a ∷ []; heard = l.heard; inputs = l.no_frame; one = omega arith; ends = refl };
+    undone = [];
+    parts = refl;
+    one = refl;
     whole = λ is. refl;
-    all_answers = λ is. refl;
-    joined = l.joined;
     knows = λ is. knows;
-    stored = λ is tells s. record { records = s.records; decoded = s.decoded; shows = shows_rest (holds node.log s.records) v0 v1 l.listens.rests tells s.shows };
-    moments = λ tells s. rests_on v0 v0 v1 (λ c k. IsPrefixSoon stands n [] [] v0.told c k) (at_start v0 (λ c k. IsPrefixSoon stands n [] [] v0.told c k)) l.listens.rests
+    stored = λ is. stored_on node n v0 v1 joins a l tells s;
+    moments = rests_on v0 v0 v1 (λ c k. IsPrefixSoon stands n [] [] v0.told c k) (at_start v0 (λ c k. IsPrefixSoon stands n [] [] v0.told c k)) l.listens.rests
         (λ c left. record { prefix = whole stands n [] v0.told c v1.told (stored_reopens holds stands law node n v0 knows.valid s c left); soon = omega (arith, l.listens.told) });
-    ends = λ tells s c left. whole_has_all stands n [] c (stored_reopens holds stands law node n v0 knows.valid s c (l.listens.rests.images c left));
+    ends = λ c left. whole_has_all stands n [] c (stored_reopens holds stands law node n v0 knows.valid s c (l.listens.rests.images c left));
     told = told_from v0.told v0.told v1.told v0.told 0 refl (sym l.listens.told) (told_none v0.told);
+    lost = 0;
     sent = ([], sent_none, subst (λ (o : Outside). Grows v0.outside.sent o.sent []) (sym l.kept) (grows_none v0.outside.sent));
-    lost_cause = λ some. absurd (omega arith);
-    taken = λ is. refl;
-    dropped = λ is. refl;
-    said = ap (λ (o : Outside). o.said) l.kept;
-    say_faults = ap (λ (o : Outside). o.say_faults) l.kept;
-    counts = record {
-      disk_faults = omega (arith, l.listens.disk_faults);
-      link_faults = l.listens.link_faults;
-      send_faults = omega (arith, ap (λ (o : Outside). o.send_faults) l.kept);
-    };
-    tells = rests_tells v0 v1 l.listens.rests;
+    lost_cause = lost_none v0.outside.send_faults v1.outside.send_faults (omega (arith, ap (λ (o : Outside). o.send_faults) l.kept));
+    said = subst (λ (o : Outside). Grows v0.outside.said o.said []) (sym l.kept) (grows_none v0.outside.said);
+    counted = record { taken = refl; dropped = refl; lost_is = refl };
   }
 
-  -- the images while a frame comes, and while it is absorbed
-  absorbing : (node : Node L) (n : Situation) (v0 v1 v2 : View) (x : List ℕ) (done failed : List Input) → done ++ failed ≡ Datagram x ∷ []
-      → Came v0 v1 x → IsValid n.history → Stored holds node n.history v0
-      → Leaves v1 v2 (λ c k. (k ≡ v1.told) × (ReopensTo stands n.history c ⊎ ReopensTo stands (next n (Datagram x)).history c))
-      → Leaves v0 v2 (λ c k. IsPrefixSoon stands n done failed v0.told c k)
-  absorbing node n v0 v1 v2 x done failed are came valid s run =
-      let P : List ℕ → ℕ → Type 0 = λ c k. IsPrefixSoon stands n done failed v0.told c k in
-      let first : Leaves v0 v1 P = rests_on v0 v0 v1 P (at_start v0 P) came.listens.rests (λ c left. first_image stands n done failed v0.told c v1.told came.listens.told (stored_reopens holds stands law node n v0 valid s c left)) in
-      then_run v0 v1 v2 P first (weakened v1 v2 (λ c k. (k ≡ v1.told) × (ReopensTo stands n.history c ⊎ ReopensTo stands (next n (Datagram x)).history c)) P
-      (λ c k both. ⊎_elim (λ i. first_image stands n done failed v0.told c k (both.0 ∙ came.listens.told) i) (λ i. next_image stands n (Datagram x) done failed v0.told c k are (both.0 ∙ came.listens.told) i) both.1) run)
+  -- the images while an input is absorbed
+  absorbing : (n : Situation) (v1 v2 : View) (i : Input) (done failed : List Step) → done ++ failed ≡ Absorb i ∷ []
+      → Leaves v1 v2 (λ c k. (k ≡ v1.told) × (ReopensTo stands n.history c ⊎ ReopensTo stands (next n i).history c))
+      → Leaves v1 v2 (λ c k. IsPrefixSoon stands n done failed v1.told c k)
+  absorbing n v1 v2 i done failed are run =
+      weakened v1 v2 (λ c k. (k ≡ v1.told) × (ReopensTo stands n.history c ⊎ ReopensTo stands (next n i).history c)) (λ c k. IsPrefixSoon stands n done failed v1.told c k)
+      (λ c k both. ⊎_elim (λ image. first_image stands n done failed v1.told c k both.0 image) (λ image. next_image stands n i done failed v1.told c k are both.0 image) both.1) run
 
-  pub stored_came : (node : Node L) (n : Situation) (v0 v1 : View) (x : List ℕ) → Came v0 v1 x → Tells_bytes v1 → Stored holds node n.history v0 → Stored holds node n.history v1
-  stored_came node n v0 v1 x came tells s = record { records = s.records; decoded = s.decoded; shows = shows_rest (holds node.log s.records) v0 v1 came.listens.rests tells s.shows }
-
-  -- a frame that was not absorbed
-  pub refused : (node node' : Node L) (n : Situation) (v0 v1 v2 : View) (x : List ℕ) (ok : Type 0) → (ok → ⊥) → Now v1 → Now v2 → Came v0 v1 x → IsValid n.history → DiskWorks v1 v2
-      → (Stored holds node n.history v1 → Leaves v1 v2 (λ c k. (k ≡ v1.told) × (ReopensTo stands n.history c ⊎ ReopensTo stands (next n (Datagram x)).history c)))
-      → Ran holds stands node node' v0 v2 n [] 1 no_tally false ok
-  refused node node' n v0 v1 v2 x ok not_ok now1 now2 came valid works run = record {
+  -- an input in which the node failed
+  pub refused : (node node' : Node L) (n : Situation) (v1 v2 : View) (i : Input) → Now v1 → Now v2 → Knows node n → Stored holds node n.history v1 → DiskWorks v1 v2 → Tells_bytes v2
+      → Leaves v1 v2 (λ c k. (k ≡ v1.told) × (ReopensTo stands n.history c ⊎ ReopensTo stands (next n i).history c))
+      → (broken node'.log ≡ false → ((m : Situation) → Knows node m → Knows node' m) × (Tells_bytes v2 → (h : List Change) → Stored holds node h v1 → Stored holds node' h v2))
+      → Fed holds stands broken node node' v1 v2 n (Absorb i ∷ []) None false
+  refused node node' n v1 v2 i now1 now2 knows st works tells run kept = record {
     done = [];
-    failed = Datagram x ∷ [];
-    hears = record { answers = Frame x ∷ []; heard = subst (λ (o : Outside). Grows v0.outside.heard o.heard (Frame x ∷ [])) (sym works.outside) came.heard; inputs = refl; one = omega arith; ends = refl };
-    whole = λ is. absurd (not_ok is);
-    all_answers = λ is. absurd (not_ok is);
-    joined = subst (λ (o : Outside). Grows v0.outside.joined o.joined []) (sym (works.outside ∙ came.kept)) (grows_none v0.outside.joined);
-    knows = λ is. absurd (not_ok is);
-    stored = λ is tells s. absurd (not_ok is);
-    moments = λ tells s. absorbing node n v0 v1 v2 x [] (Datagram x ∷ []) refl came valid s (run (stored_came node n v0 v1 x came (works.tells tells) s));
-    ends = λ tells s c left.
-        let st = stored_came node n v0 v1 x came (works.tells tells) s in
-        let span = run st in
-        either_has_all stands n (Datagram x) c
-        (⊎_elim (λ before. inl (stored_reopens holds stands law node n v1 valid st c (now1.only c v2.told before).0)) (λ is. is.1)
-        (span.each v1.moment c v2.told (omega arith) (now2.counts v1.moment c span.later left)));
-    told = told_from v0.told v0.told v2.told v0.told 0 refl (sym (works.told ∙ came.listens.told)) (told_none v0.told);
-    sent = ([], sent_none, subst (λ (o : Outside). Grows v0.outside.sent o.sent []) (sym (works.outside ∙ came.kept)) (grows_none v0.outside.sent));
-    lost_cause = λ some. absurd (omega arith);
-    taken = λ is. absurd (not_ok is);
-    dropped = λ is. absurd (not_ok is);
-    said = ap (λ (o : Outside). o.said) (works.outside ∙ came.kept);
-    say_faults = ap (λ (o : Outside). o.say_faults) (works.outside ∙ came.kept);
-    counts = record {
-      disk_faults = omega (arith, came.listens.disk_faults, works.disk_faults);
-      link_faults = omega (arith, came.listens.link_faults, ap (λ (o : Outside). o.link_faults) works.outside);
-      send_faults = omega (arith, ap (λ (o : Outside). o.send_faults) (works.outside ∙ came.kept));
-    };
-    tells = λ tells. rests_tells v0 v1 came.listens.rests (works.tells tells);
+    failed = Absorb i ∷ [];
+    undone = [];
+    parts = refl;
+    one = refl;
+    whole = λ is. refl;
+    knows = λ is. (kept is).0 n knows;
+    stored = λ is. (kept is).1 tells n.history st;
+    moments = absorbing n v1 v2 i [] (Absorb i ∷ []) refl run;
+    ends = λ c left.
+        either_has_all stands n i c
+        (⊎_elim (λ before. inl (stored_reopens holds stands law node n v1 knows.valid st c (now1.only c v2.told before).0)) (λ is. is.1)
+        (run.each v1.moment c v2.told (omega arith) (now2.counts v1.moment c run.later left)));
+    told = told_from v1.told v1.told v2.told v1.told 0 refl (sym works.told) (told_none v1.told);
+    lost = 0;
+    sent = ([], sent_none, subst (λ (o : Outside). Grows v1.outside.sent o.sent []) (sym works.outside) (grows_none v1.outside.sent));
+    lost_cause = lost_none v1.outside.send_faults v2.outside.send_faults (omega (arith, ap (λ (o : Outside). o.send_faults) works.outside));
+    said = subst (λ (o : Outside). Grows v1.outside.said o.said []) (sym works.outside) (grows_none v1.outside.said);
+    counted = tt;
   }
 
-  -- a frame that was absorbed, and its letters sent
-  pub answered : (node node' : Node L) (n : Situation) (v0 v1 v2 v3 : View) (x : List ℕ) (lost : ℕ) (ok : Type 0) → Came v0 v1 x → IsValid n.history → DiskWorks v1 v2
-      → (Stored holds node n.history v1 → Leaves v1 v2 (λ c k. (k ≡ v1.told) × (ReopensTo stands n.history c ⊎ ReopensTo stands (next n (Datagram x)).history c)))
-      → Knows node' (next n (Datagram x)) → (Stored holds node n.history v1 → Stored holds node' (next n (Datagram x)).history v2)
-      → (letters : List (ℕ × List ℕ)) → letters ≡ (react n (Datagram x)).letters → Sends v2 v3 letters lost
-      → Ran holds stands node node' v0 v3 n [] 1 (tally_of (react n (Datagram x)) lost) false ok
-  answered node node' n v0 v1 v2 v3 x lost ok came valid works run knows stored letters are s =
-      let P : List ℕ → ℕ → Type 0 = λ c k. IsPrefixSoon stands n (Datagram x ∷ []) [] v0.told c k in
-      let r = react n (Datagram x) in
-      let mid : Tells_bytes v3 → Tells_bytes v1 = λ tells. works.tells (sends_tells v2 v3 letters lost s tells) in
-      let all : letters_all n (Datagram x ∷ []) ≡ letters = append-nil r.letters ∙ sym are in
-      let many : length (letters_all n (Datagram x ∷ [])) ≡ length letters = ap (λ (l : List (ℕ × List ℕ)). length l) all in
-      let before : v2.told ≡ v0.told = works.told ∙ came.listens.told in
-      let same_heard : v3.outside.heard ≡ v1.outside.heard = ap (λ (o : Outside). o.heard) s.kept ∙ ap (λ (o : Outside). o.heard) works.outside in
-      let same_joined : v3.outside.joined ≡ v0.outside.joined = ap (λ (o : Outside). o.joined) s.kept ∙ ap (λ (o : Outside). o.joined) (works.outside ∙ came.kept) in
-      let from_sent : v2.outside.sent ≡ v0.outside.sent = ap (λ (o : Outside). o.sent) (works.outside ∙ came.kept) in
-      let from_faults : v2.outside.send_faults ≡ v0.outside.send_faults = ap (λ (o : Outside). o.send_faults) (works.outside ∙ came.kept) in
+  -- an input that was absorbed, and its letters sent
+  pub answered : (node node' : Node L) (n : Situation) (v1 v2 v3 : View) (i : Input) (t : Tally) → Knows node n → DiskWorks v1 v2 → Tells_bytes v3
+      → Leaves v1 v2 (λ c k. (k ≡ v1.told) × (ReopensTo stands n.history c ⊎ ReopensTo stands (next n i).history c))
+      → Knows node' (next n i) → Stored holds node' (next n i).history v2
+      → (letters : List (ℕ × List ℕ)) → letters ≡ (react n i).letters → Sends v2 v3 letters t.lost
+      → (d : Option Dropped) → d ≡ (react n i).dropped → t.taken ≡ datagrams i → t.dropped ≡ (if is_some d then 1 else 0)
+      → Fed holds stands broken node node' v1 v3 n (Absorb i ∷ []) (Some t) true
+  answered node node' n v1 v2 v3 i t known works tells run knows stored letters are s d drop taken dropped =
+      let P : List ℕ → ℕ → Type 0 = λ c k. IsPrefixSoon stands n (Absorb i ∷ []) [] v1.told c k in
+      let r = react n i in
+      let all : tellings n (Absorb i ∷ []) ≡ map Send r.letters = append-nil (map Send r.letters) in
+      let sent : sent_in n (Absorb i ∷ []) ≡ letters = ap sent_of all ∙ sent_of-letters r.letters ∙ sym are in
+      let said : said_in n (Absorb i ∷ []) ≡ [] = ap said_of all ∙ said_of-letters r.letters in
+      let many : length (tellings n (Absorb i ∷ [])) ≡ length letters = ap (λ (l : List Telling). length l) all ∙ many_letters r.letters ∙ ap (λ (l : List (ℕ × List ℕ)). length l) (sym are) in
+      let from_sent : v2.outside.sent ≡ v1.outside.sent = ap (λ (o : Outside). o.sent) works.outside in
+      let from_faults : v2.outside.send_faults ≡ v1.outside.send_faults = ap (λ (o : Outside). o.send_faults) works.outside in
+      let same_said : v3.outside.said ≡ v1.outside.said = ap (λ (o : Outside). o.said) s.kept ∙ ap (λ (o : Outside). o.said) works.outside in
       record {
-        done = Datagram x ∷ [];
+        done = Absorb i ∷ [];
         failed = [];
-        hears = record { answers = Frame x ∷ []; heard = subst (λ (o : Option (List Heard)). Grows v0.outside.heard o (Frame x ∷ [])) (sym same_heard) came.heard; inputs = refl; one = omega arith; ends = refl };
+        undone = [];
+        parts = refl;
+        one = refl;
         whole = λ is. refl;
-        all_answers = λ is. refl;
-        joined = subst (λ (o : Option (List (ℕ × List ℕ))). Grows v0.outside.joined o []) (sym same_joined) (grows_none v0.outside.joined);
         knows = λ is. knows;
-        stored = λ is tells st.
-            let t = stored (stored_came node n v0 v1 x came (mid tells) st) in
-            record { records = t.records; decoded = t.decoded; shows = record { bytes = t.shows.bytes; told = s.bytes tells ∙ t.shows.told; reads = t.shows.reads; images = λ c left. t.shows.images c (s.images c left) } };
-        moments = λ tells st.
-            let there = stored_came node n v0 v1 x came (mid tells) st in
-            let first = absorbing node n v0 v1 v2 x (Datagram x ∷ []) [] refl came valid st (run there) in
-            let t = stored there in
-            then_run v0 v2 v3 P first (weakened v2 v3 (λ c k. v2.may_leave c × (k ≤ v2.told + length letters)) P
+        stored = λ is. stored_at holds node' (next n i).history v2 v3 stored (record { bytes = stored.shows.bytes; told = s.bytes tells ∙ stored.shows.told; reads = stored.shows.reads; images = λ c left. stored.shows.images c (s.images c left) });
+        moments = then_run v1 v2 v3 P (absorbing n v1 v2 i (Absorb i ∷ []) [] refl run) (weakened v2 v3 (λ c k. v2.may_leave c × (k ≤ v2.told + length letters)) P
             (λ c k both. record {
-              prefix = whole stands n (Datagram x ∷ []) v0.told c k (stored_reopens holds stands law node' (next n (Datagram x)) v2 knows.valid t c both.0);
-              soon = omega (arith, both.1, before, many);
+              prefix = whole stands n (Absorb i ∷ []) v1.told c k (stored_reopens holds stands law node' (next n i) v2 knows.valid stored c both.0);
+              soon = omega (arith, both.1, works.told, many);
             }) s.moments);
-        ends = λ tells st c left. whole_has_all stands n (Datagram x ∷ []) c (stored_reopens holds stands law node' (next n (Datagram x)) v2 knows.valid (stored (stored_came node n v0 v1 x came (mid tells) st)) c (s.images c left));
-        told = told_as v0.told v3.told (length letters) (length (letters_all n (Datagram x ∷ []))) (sym many) (told_from v0.told v2.told v3.told v3.told (length letters) before refl s.told);
+        ends = λ c left. whole_has_all stands n (Absorb i ∷ []) c (stored_reopens holds stands law node' (next n i) v2 knows.valid stored c (s.images c left));
+        told = told_as v1.told v3.told (length letters) (length (tellings n (Absorb i ∷ [])) + 0) (omega (arith, many)) (told_from v1.told v2.told v3.told v3.told (length letters) works.told refl s.told);
+        lost = t.lost;
         sent = (
           s.sent.0,
-          subst (λ (l : List (ℕ × List ℕ)). AreSent l s.sent.0 lost) (sym all) s.sent.1,
+          subst (λ (l : List (ℕ × List ℕ)). AreSent l s.sent.0 t.lost) (sym sent) s.sent.1,
           subst (λ (o : Option (List (ℕ × List ℕ))). Grows o v3.outside.sent s.sent.0) from_sent s.sent.2,
         );
-        lost_cause = λ some. subst (λ (m : ℕ). Rose m v3.outside.send_faults) from_faults (s.lost_cause some);
-        taken = λ is. omega arith;
-        dropped = λ is. omega arith;
-        said = ap (λ (o : Outside). o.said) s.kept ∙ ap (λ (o : Outside). o.said) (works.outside ∙ came.kept);
-        say_faults = ap (λ (o : Outside). o.say_faults) s.kept ∙ ap (λ (o : Outside). o.say_faults) (works.outside ∙ came.kept);
-        counts = record {
-          disk_faults = omega (arith, came.listens.disk_faults, works.disk_faults, s.disk_faults);
-          link_faults = omega (arith, came.listens.link_faults, ap (λ (o : Outside). o.link_faults) works.outside, ap (λ (o : Outside). o.link_faults) s.kept);
-          send_faults = omega (arith, from_faults, s.counts);
+        lost_cause = omega (arith, s.lost_cause, from_faults);
+        said = subst (λ (l : List ℕ). Grows v1.outside.said v3.outside.said l) (sym (ap (flat_map (λ (line : List ℕ). line)) said))
+            (subst (λ (o : Option (List ℕ)). Grows v1.outside.said o []) (sym same_said) (grows_none v1.outside.said));
+        counted = record {
+          taken = omega (arith, taken);
+          dropped = omega (arith, subst (λ (o : Option Dropped). t.dropped ≡ (if is_some o then 1 else 0)) drop dropped);
+          lost_is = refl;
         };
-        tells = λ tells. rests_tells v0 v1 came.listens.rests (mid tells);
       }
 
-  -- the same for an input that is the datagram
-  pub input_refused : (node node' : Node L) (n : Situation) (v0 v1 v2 : View) (i : Input) (x : List ℕ) (ok : Type 0) → (ok → ⊥) → Now v1 → Now v2 → Came v0 v1 x → IsValid n.history → DiskWorks v1 v2
-      → (Stored holds node n.history v1 → Leaves v1 v2 (λ c k. (k ≡ v1.told) × (ReopensTo stands n.history c ⊎ ReopensTo stands (next n i).history c)))
-      → i ≡ Datagram x → Ran holds stands node node' v0 v2 n [] 1 no_tally false ok
-  input_refused node node' n v0 v1 v2 i x ok not_ok now1 now2 came valid works run is =
-      refused node node' n v0 v1 v2 x ok not_ok now1 now2 came valid works
-      (subst (λ (j : Input). Stored holds node n.history v1 → Leaves v1 v2 (λ c k. (k ≡ v1.told) × (ReopensTo stands n.history c ⊎ ReopensTo stands (next n j).history c))) is run)
+  -- ---- the first part of a turn
 
-  pub input_answered : (node node' : Node L) (n : Situation) (v0 v1 v2 v3 : View) (i : Input) (x : List ℕ) (lost : ℕ) (ok : Type 0) → Came v0 v1 x → IsValid n.history → DiskWorks v1 v2
-      → (Stored holds node n.history v1 → Leaves v1 v2 (λ c k. (k ≡ v1.told) × (ReopensTo stands n.history c ⊎ ReopensTo stands (next n i).history c)))
-      → Knows node' (next n i) → (Stored holds node n.history v1 → Stored holds node' (next n i).history v2)
-      → (letters : List (ℕ × List ℕ)) → letters ≡ (react n i).letters → Sends v2 v3 letters lost → i ≡ Datagram x
-      → Ran holds stands node node' v0 v3 n [] 1 (tally_of (react n (Datagram x)) lost) false ok
-  input_answered node node' n v0 v1 v2 v3 i x lost ok came valid works run knows stored letters are s is =
-      answered node node' n v0 v1 v2 v3 x lost ok came valid works
-      (subst (λ (j : Input). Stored holds node n.history v1 → Leaves v1 v2 (λ c k. (k ≡ v1.told) × (ReopensTo stands n.history c ⊎ ReopensTo stands (next n j).history c))) is run)
-      (subst (λ (j : Input). Knows node' (next n j)) is knows)
-      (subst (λ (j : Input). Stored holds node n.history v1 → Stored holds node' (next n j).history v2) is stored)
-      letters (are ∙ ap (λ (j : Input). (react n j).letters) is) s
+  -- the link answered what is no frame
+  pub idle : (node : Node L) (v0 v1 : View) → Listened v0 v1 [] Nothing → Received holds stands broken node node v0 v1 (Some no_tally) Whole
+  idle node v0 v1 l = record {
+    answer = Nothing;
+    ended = (None, refl);
+    hears = l.hears;
+    fed = λ tells n k s peers clock. listened node n v0 v1 [] Nothing k l tells s;
+  }
+
+  pub cut : (node : Node L) (v0 v1 : View) → Listened v0 v1 [] Fault → Received holds stands broken node node v0 v1 None Cut
+  cut node v0 v1 l = record {
+    answer = Fault;
+    ended = refl;
+    hears = l.hears;
+    fed = λ tells n k s peers clock. uncounted holds stands broken law node node v0 v1 n [] (Some no_tally) true (listened node n v0 v1 [] Fault k l tells s);
+  }
+
+  -- a frame came, and was fed
+  came : (node node' : Node L) (v0 v1 v2 : View) (x : List ℕ) (i : Input) (t : Option Tally) (ok : Bool) → i ≡ Datagram x → (broken node.log ≡ false) → Listened v0 v1 [] (Frame x) → (Tells_bytes v2 → Tells_bytes v1)
+      → (Tells_bytes v2 → (n : Situation) → Knows node n → Stored holds node n.history v1 → Fed holds stands broken node node' v1 v2 n (Absorb i ∷ []) t ok)
+      → Tells_bytes v2 → (n : Situation) → Knows node n → Stored holds node n.history v0 → (peers : List ℕ) (clock : ℕ) → Fed holds stands broken node node' v0 v2 n (steps_of peers clock (Frame x ∷ [])) t ok
+  unfolding listened
+  came node node' v0 v1 v2 x i t ok is sound l mid run tells n k s peers clock =
+      let f = listened node n v0 v1 [] (Frame x) k l (mid tells) s in
+      let g = fed_as holds stands broken law node node' v1 v2 n (Absorb i ∷ []) (Absorb (Datagram x) ∷ []) t ok (ap (λ (j : Input). Absorb j ∷ []) is) (run tells n k (stored_on node n v0 v1 [] (Frame x) l (mid tells) s)) in
+      subst (λ (u : Option Tally). Fed holds stands broken node node' v0 v2 n (Absorb (Datagram x) ∷ []) u ok) (counts_zero t)
+      (fed_then holds stands broken law node node node' v0 v1 v2 n [] (Absorb (Datagram x) ∷ []) (Some no_tally) t ok f g)
+
+  pub received_fed : (node node' : Node L) (v0 v1 v2 : View) (x : List ℕ) (i : Input) (t : Tally) → i ≡ Datagram x → (broken node.log ≡ false) → Listened v0 v1 [] (Frame x) → OnlySends v1 v2 → (Tells_bytes v2 → Tells_bytes v1)
+      → (Tells_bytes v2 → (n : Situation) → Knows node n → Stored holds node n.history v1 → Fed holds stands broken node node' v1 v2 n (Absorb i ∷ []) (Some t) true)
+      → Received holds stands broken node node' v0 v2 (Some t) Whole
+  received_fed node node' v0 v1 v2 x i t is sound l only mid run = record {
+    answer = Frame x;
+    ended = (Some x, refl);
+    hears = hears_then v0 v1 v2 [] [] (Frame x ∷ []) [] l.hears (sends_hears v1 v2 only);
+    fed = came node node' v0 v1 v2 x i (Some t) true is sound l mid run;
+  }
+
+  pub received_stopped : (node node' : Node L) (v0 v1 v2 : View) (x : List ℕ) (i : Input) → i ≡ Datagram x → (broken node.log ≡ false) → Listened v0 v1 [] (Frame x) → OnlySends v1 v2 → (Tells_bytes v2 → Tells_bytes v1)
+      → (Tells_bytes v2 → (n : Situation) → Knows node n → Stored holds node n.history v1 → Fed holds stands broken node node' v1 v2 n (Absorb i ∷ []) None false)
+      → Received holds stands broken node node' v0 v2 None Stopped
+  received_stopped node node' v0 v1 v2 x i is sound l only mid run = record {
+    answer = Frame x;
+    ended = (x, refl);
+    hears = hears_then v0 v1 v2 [] [] (Frame x ∷ []) [] l.hears (sends_hears v1 v2 only);
+    fed = came node node' v0 v1 v2 x i None false is sound l mid run;
+  }
+
+  -- ---- ticks
+
+  pub tick_more : (n0 n1 n2 : Node L) (v0 v1 v2 : View) (n : Situation) (first : List ℕ) (p : ℕ) (i : Input) (t u : Option Tally) (ok : Bool) → i ≡ Tick p → broken n1.log ≡ false
+      → (r : Fed holds stands broken n0 n1 v0 v1 n (ticks first) t true)
+      → ((m : Situation) → Knows n1 m → Stored holds n1 m.history v1 → Fed holds stands broken n1 n2 v1 v2 m (Absorb i ∷ []) u ok)
+      → Fed holds stands broken n0 n2 v0 v2 n (ticks (first ++ p ∷ [])) (counts_sum t u) ok
+  tick_more n0 n1 n2 v0 v1 v2 n first p i t u ok is sound r run =
+      fed_as holds stands broken law n0 n2 v0 v2 n (ticks first ++ Absorb i ∷ []) (ticks (first ++ p ∷ [])) (counts_sum t u) ok
+      (ap (λ (j : Input). ticks first ++ Absorb j ∷ []) is ∙ sym (ticks-append first (p ∷ [])))
+      (fed_then holds stands broken law n0 n1 n2 v0 v1 v2 n (ticks first) (Absorb i ∷ []) t u ok r (run (after_all n r.done) (r.knows sound) (r.stored sound)))
+
+  -- ---- a whole turn
+
+  -- it ended in its first part
+  pub turn_early : (peers : List ℕ) (clock : ℕ) (node node' : Node L) (v0 v1 : View) (t : Option Tally) (e : End) → IsEarly e → Received holds stands broken node node' v0 v1 t e → RanTurns holds stands broken peers clock clock node node' v0 v1 1 t e
+  turn_early peers clock node node' v0 v1 t e early r = record {
+    full = [];
+    last = r.answer ∷ [];
+    ended = early_ends e r.answer early r.ended;
+    hears = r.hears;
+    clock_is = sym (early_clock e clock r.answer early r.ended);
+    fed = λ tells n k s. r.fed tells n k s peers clock;
+  }
+
+  -- the answers of a whole turn, as one that was made or as the last
+  turn_as : (peers : List ℕ) (clock clock' : ℕ) (node node2 : Node L) (v0 v3 : View) (turn : Turn) (t : Option Tally) (e : End) → IsFull e → Hears v0 v3 [] (of_turn turn) → clock' ≡ clock_of clock (of_turn turn)
+      → (Tells_bytes v3 → (n : Situation) → Knows node n → Stored holds node n.history v0 → Fed holds stands broken node node2 v0 v3 n (steps_of peers clock (of_turn turn)) t (is_fed e))
+      → RanTurns holds stands broken peers clock clock' node node2 v0 v3 1 t e
+  turn_as peers clock clock' node node2 v0 v3 turn t Whole is_full hears clocked run = record { full = turn ∷ []; last = []; ended = (refl, refl); hears = hears; clock_is = clocked; fed = run }
+  turn_as peers clock clock' node node2 v0 v3 turn t Stopped is_full hears clocked run = record { full = []; last = of_turn turn; ended = (omega arith, inr (turn, refl)); hears = hears; clock_is = clocked; fed = run }
+  turn_as peers clock clock' node node2 v0 v3 turn t Cut is_full hears clocked run = absurd is_full
+  turn_as peers clock clock' node node2 v0 v3 turn t Unbegun is_full hears clocked run = absurd is_full
+
+  -- the clock was asked, and the ticks that this makes were fed
+  pub turn_clocked : (peers : List ℕ) (clock clock' : ℕ) (node node1 node2 : Node L) (v0 v1 v2 v3 : View) (time : ℕ) (t u : Option Tally) (e : End) → IsFull e → broken node1.log ≡ false → clock' ≡ clock_after clock time
+      → Received holds stands broken node node1 v0 v1 t Whole → Listened v1 v2 [] (Clock time) → OnlySends v2 v3 → (Tells_bytes v3 → Tells_bytes v2)
+      → (Tells_bytes v3 → (n : Situation) → Knows node1 n → Stored holds node1 n.history v2 → Fed holds stands broken node1 node2 v2 v3 n (clock_steps peers clock time) u (is_fed e))
+      → RanTurns holds stands broken peers clock clock' node node2 v0 v3 1 (counts_sum t u) e
+  turn_clocked peers clock clock' node node1 node2 v0 v1 v2 v3 time t u e is_full sound now r l only mid run =
+      let turn : Turn = record { came = r.ended.0; time = time } in
+      let all : r.answer ∷ Clock time ∷ [] ≡ of_turn turn = ap (λ (a : Heard). a ∷ Clock time ∷ []) r.ended.1 in
+      let hears : Hears v0 v3 [] (of_turn turn) = subst (λ (a : List Heard). Hears v0 v3 [] a) all
+      (hears_then v0 v1 v3 [] [] (r.answer ∷ []) (Clock time ∷ []) r.hears (hears_then v1 v2 v3 [] [] (Clock time ∷ []) [] l.hears (sends_hears v2 v3 only))) in
+      let clocked : clock' ≡ clock_of clock (of_turn turn) = now ∙ ap (λ (c : ℕ). clock_after c time) (sym (came_clock clock r.ended.0)) in
+      let steps : steps_of peers clock (r.answer ∷ []) ++ clock_steps peers clock time ≡ steps_of peers clock (of_turn turn) =
+      ap (λ (a : Heard). steps_of peers clock (a ∷ []) ++ clock_steps peers clock time) r.ended.1 ∙ turn_is peers clock r.ended.0 time in
+      turn_as peers clock clock' node node2 v0 v3 turn (counts_sum t u) e is_full hears clocked
+      (λ tells n k s.
+      let m2 = mid tells in
+      let m1 = rests_tells v1 v2 l.listens.rests m2 in
+      let f = r.fed m1 n k s peers clock in
+      let here = after_all n f.done in
+      let k1 = f.knows sound in
+      let s1 = f.stored sound in
+      let quiet = listened node1 here v1 v2 [] (Clock time) k1 l m2 s1 in
+      let g = subst (λ (w : Option Tally). Fed holds stands broken node1 node2 v1 v3 here (clock_steps peers clock time) w (is_fed e)) (counts_zero u)
+      (fed_then holds stands broken law node1 node1 node2 v1 v2 v3 here [] (clock_steps peers clock time) (Some no_tally) u (is_fed e) quiet
+      (run tells (after_all here quiet.done) (quiet.knows sound) (quiet.stored sound))) in
+      fed_as holds stands broken law node node2 v0 v3 n (steps_of peers clock (r.answer ∷ []) ++ clock_steps peers clock time) (steps_of peers clock (of_turn turn)) (counts_sum t u) (is_fed e) steps
+      (fed_then holds stands broken law node node1 node2 v0 v1 v3 n (steps_of peers clock (r.answer ∷ [])) (clock_steps peers clock time) t u (is_fed e) f g))
+
+  -- the clock is not above the call's
+  pub turn_still : (peers : List ℕ) (clock : ℕ) (node node1 : Node L) (v0 v1 v2 : View) (time : ℕ) (t : Tally) → broken node1.log ≡ false → time ≤ clock
+      → Received holds stands broken node node1 v0 v1 (Some t) Whole → Listened v1 v2 [] (Clock time) → RanTurns holds stands broken peers clock clock node node1 v0 v2 1 (Some t) Whole
+  turn_still peers clock node node1 v0 v1 v2 time t sound le r l =
+      let no : nat_lt clock time ≡ false = not_later clock time le in
+      let none : [] ≡ clock_steps peers clock time = ap (λ (b : Bool). if b then ticks peers else []) (sym no) in
+      let same : clock ≡ clock_after clock time = ap (λ (b : Bool). if b then time else clock) (sym no) in
+      subst (λ (u : Option Tally). RanTurns holds stands broken peers clock clock node node1 v0 v2 1 u Whole) (counts_none t)
+      (turn_clocked peers clock clock node node1 node1 v0 v1 v2 v2 time (Some t) (Some no_tally) Whole tt sound same r l refl (λ tells. tells)
+      (λ tells n k s. fed_as holds stands broken law node1 node1 v2 v2 n [] (clock_steps peers clock time) (Some no_tally) true none (fed_none holds stands broken law node1 n v2 k s)))
+
+  -- it is, and the peers' ticks were fed
+  pub turn_ticked : (peers : List ℕ) (clock : ℕ) (node node1 node2 : Node L) (v0 v1 v2 v3 : View) (time : ℕ) (t u : Option Tally) (e : End) → IsFull e → broken node1.log ≡ false → clock < time
+      → Received holds stands broken node node1 v0 v1 t Whole → Listened v1 v2 [] (Clock time) → OnlySends v2 v3 → (Tells_bytes v3 → Tells_bytes v2)
+      → (Tells_bytes v3 → (n : Situation) → Knows node1 n → Stored holds node1 n.history v2 → Fed holds stands broken node1 node2 v2 v3 n (ticks peers) u (is_fed e))
+      → RanTurns holds stands broken peers clock time node node2 v0 v3 1 (counts_sum t u) e
+  turn_ticked peers clock node node1 node2 v0 v1 v2 v3 time t u e is_full sound lt r l only mid run =
+      let yes : nat_lt clock time ≡ true = lt-ltb clock time lt in
+      let all : ticks peers ≡ clock_steps peers clock time = ap (λ (b : Bool). if b then ticks peers else []) (sym yes) in
+      let set : time ≡ clock_after clock time = ap (λ (b : Bool). if b then time else clock) (sym yes) in
+      turn_clocked peers clock time node node1 node2 v0 v1 v2 v3 time t u e is_full sound set r l only mid
+      (λ tells n k s. fed_as holds stands broken law node1 node2 v2 v3 n (ticks peers) (clock_steps peers clock time) u (is_fed e) all (run tells n k s))

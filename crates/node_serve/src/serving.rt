@@ -1,16 +1,21 @@
-ghost use Rattle.std.specs.Prelude.{◌≡◌, ◌⊎◌, ◌+◌, ◌≤◌, [], true, false, if◌then◌else◌, is_some, IfOk, IsOk, OnOk, OnErr, length};
+ghost use Rattle.std.specs.Prelude.{◌≡◌, ℕ, ◌⊎◌, ◌+◌, ◌≤◌, [], ◌∷◌, Some, true, false, if◌then◌else◌, is_some, is_ok, IfOk, IsOk, OnOk, OnErr, length};
 ghost use Rattle.psb_station.specs.Calls.{Rose};
 ghost use Rattle.psb_station.specs.Span.{Tells_bytes};
 ghost use Rattle.psb_machine.specs.Machine.{Situation};
+ghost use Rattle.psb_machine.specs.Course.{Absorb, datagrams};
+ghost use Rattle.psb_machine.specs.Commands.{ticks};
 ghost use Rattle.node_core.specs.declared.fault.Fault.TheVariants as fault;
+ghost use Rattle.node_core.specs.Letters.{input_of};
 ghost use Rattle.node_core.specs.Stored.{Knows, Stored};
-ghost use Rattle.node_serve.specs.Spans.{IsReady, Counts, Ran, Tally};
-ghost use Rattle.node_serve.specs.Turns.{is_link, turned_tally, total_tally};
+ghost use Rattle.node_serve.specs.Hears.{End, Stopped};
+ghost use Rattle.node_serve.specs.Spans.{IsReady, Counts, Fed, Received, RanTurns};
+ghost use Rattle.node_serve.specs.Turns.{IsEnd, IsEarly, OnlySends, peers_in, end_of, turned_counts, total_counts};
 
 use crate::Buffer;
 use crate::sending::send_all;
 use node_core::{Fault, Input, Node};
 use node_journal::Log;
+use psb_bytes::{Items, Memory, PeerId};
 use psb_station::Station;
 use std::alloc::Global;
 use thiserror::Error;
@@ -46,9 +51,21 @@ pub enum ServeFault {
     Memory,
 }
 
+/// How many datagrams came with an input.
+fn taken_in(input: &Input<'_>) -> u32
+    ensures count { result ≡ datagrams (input_of input.now) }
+    ensures small { result ≤ 1 }
+{
+    match input {
+        Input::Frame(_) => 1,
+        Input::Tick(_) => 0,
+    }
+}
+
 /// How many datagrams were dropped, by what the one was dropped for.
 fn dropped_in(dropped: Option<Dropped>) -> u32
-    ensures { result ≡ (if is_some dropped then 1 else 0) }
+    ensures count { result ≡ (if is_some dropped then 1 else 0) }
+    ensures small { result ≤ 1 }
 {
     match dropped {
         None => 0,
@@ -56,9 +73,46 @@ fn dropped_in(dropped: Option<Dropped>) -> u32
     }
 }
 
-/// Makes one turn: takes a datagram where one is ready, absorbs it, and sends its letters. A letter
-/// that cannot be sent is lost, and counted.
-pub fn turn<L: Log, S: Station>(
+/// Absorbs one input, and sends its letters. A letter that cannot be sent is lost, and counted.
+fn feed<L: Log, S: Station>(
+    node: &mut Node<L>,
+    station: &mut S,
+    input: &Input<'_>,
+) -> Result<Turned, ServeFault>
+    requires ready { IsReady L.holds node.old (S.view station.old) }
+    requires whole { L.is_broken node.old.log ≡ false }
+    requires counted { node.old.ledger.state.changes ≡ L.size node.old.log }
+    ensures tells { Tells_bytes (S.view station.new) → Tells_bytes (S.view station.old) }
+    ensures fed { Tells_bytes (S.view station.new) → (n : Situation) → Knows node.old n → Stored L.holds node.old n.history (S.view station.old)
+        → Fed L.holds L.stands L.is_broken node.old node.new (S.view station.old) (S.view station.new) n (Absorb (input_of input.now) ∷ []) (turned_counts result) (is_ok result) }
+    ensures only_sends { OnlySends (S.view station.old) (S.view station.new) }
+    ensures ready { OnOk result (IsReady L.holds node.new (S.view station.new)) }
+    ensures counts { Counts (S.view station.old) (S.view station.new) }
+    ensures whole { OnOk result (L.is_broken node.new.log ≡ false) }
+    ensures unbroken { result ≡ Err ServeFault.Memory → L.is_broken node.new.log ≡ false }
+    ensures counted { OnOk result (node.new.ledger.state.changes ≡ L.size node.new.log) }
+    ensures small { IfOk result (λ t. (t.taken + t.dropped ≤ 2) × (t.lost ≤ 2)) }
+    ensures disk_cause { result ≡ Err (ServeFault.Node fault.DiskFault) → Rose (S.view station.old).disk_faults (S.view station.new).disk_faults }
+    ensures steady { (result ≡ Err (ServeFault.Node fault.DiskFault)) ⊎ ((S.view station.new).disk_faults ≡ (S.view station.old).disk_faults) }
+    ensures stops { OnErr result (end_of result ≡ Stopped) }
+    ensures only { OnErr result ((result ≡ Err (ServeFault.Node fault.DiskFault)) ⊎ (result ≡ Err ServeFault.Memory)) }
+{
+    let outcome = match node.absorb(station, input) {
+        Ok(outcome) => outcome,
+        Err(Fault::DiskFault) => return Err(ServeFault::Node(Fault::DiskFault)),
+        Err(Fault::Memory) => return Err(ServeFault::Memory),
+        Err(_) => unreachable!(),
+    };
+    let lost = send_all(station, outcome.out.as_slice());
+    Ok(Turned {
+        taken: taken_in(input),
+        dropped: dropped_in(outcome.dropped),
+        lost,
+    })
+}
+
+/// Takes a datagram where one is ready, absorbs it, and sends its letters.
+fn receive<L: Log, S: Station>(
     node: &mut Node<L>,
     station: &mut S,
     buffer: &mut Buffer,
@@ -67,16 +121,20 @@ pub fn turn<L: Log, S: Station>(
     requires whole { L.is_broken node.old.log ≡ false }
     requires counted { node.old.ledger.state.changes ≡ L.size node.old.log }
     ensures tells { Tells_bytes (S.view station.new) → Tells_bytes (S.view station.old) }
-    ensures ran { Tells_bytes (S.view station.new) → (n : Situation) → Knows node.old n → Stored L.holds node.old n.history (S.view station.old)
-        → Ran L.holds L.stands node.old node.new (S.view station.old) (S.view station.new) n [] 1 (turned_tally result) (is_link result) (IsOk result) }
+
+    ensures ran { Received L.holds L.stands L.is_broken node.old node.new (S.view station.old) (S.view station.new) (turned_counts result) (end_of result) }
     ensures ready { OnOk result (IsReady L.holds node.new (S.view station.new)) }
     ensures counts { Counts (S.view station.old) (S.view station.new) }
     ensures unsaid { (S.view station.new).outside.say_faults ≡ (S.view station.old).outside.say_faults }
     ensures whole { OnOk result (L.is_broken node.new.log ≡ false) }
+    ensures unbroken { (result ≡ Err ServeFault.Memory) ⊎ (result ≡ Err ServeFault.Link) → L.is_broken node.new.log ≡ false }
+    ensures early { OnErr result (IsEarly (end_of result)) }
     ensures counted { OnOk result (node.new.ledger.state.changes ≡ L.size node.new.log) }
-    ensures small { IfOk result (λ t. (t.taken ≤ 1) × (t.dropped ≤ t.taken) × (t.lost ≤ 1)) }
+    ensures small { IfOk result (λ t. (t.taken + t.dropped ≤ 2) × (t.lost ≤ 2)) }
     ensures disk_cause { result ≡ Err (ServeFault.Node fault.DiskFault) → Rose (S.view station.old).disk_faults (S.view station.new).disk_faults }
+    ensures steady { (result ≡ Err (ServeFault.Node fault.DiskFault)) ⊎ ((S.view station.new).disk_faults ≡ (S.view station.old).disk_faults) }
     ensures link_cause { result ≡ Err ServeFault.Link → Rose (S.view station.old).outside.link_faults (S.view station.new).outside.link_faults }
+    ensures link { (result ≡ Err ServeFault.Link) ⊎ ((S.view station.new).outside.link_faults ≡ (S.view station.old).outside.link_faults) }
     ensures only { OnErr result ((result ≡ Err (ServeFault.Node fault.DiskFault)) ⊎ (result ≡ Err ServeFault.Link) ⊎ (result ≡ Err ServeFault.Memory)) }
 {
     let count = match station.recv(&mut buffer.bytes) {
@@ -90,18 +148,116 @@ pub fn turn<L: Log, S: Station>(
         }
         Ok(Some(count)) => count,
     };
-    let outcome = match node.absorb(station, &Input::Frame(&buffer.bytes[..count])) {
-        Ok(outcome) => outcome,
-        Err(Fault::DiskFault) => return Err(ServeFault::Node(Fault::DiskFault)),
-        Err(Fault::Memory) => return Err(ServeFault::Memory),
-        Err(_) => unreachable!(),
+    match feed(node, station, &Input::Frame(&buffer.bytes[..count])) {
+        Ok(turned) => Ok(turned),
+        Err(fault) => Err(fault),
+    }
+}
+
+/// Gives the node a tick of each peer in order, and sends the letters.
+fn tick_all<L: Log, S: Station>(
+    node: &mut Node<L>,
+    station: &mut S,
+    peers: &[PeerId],
+) -> Result<Turned, ServeFault>
+    requires ready { IsReady L.holds node.old (S.view station.old) }
+    requires whole { L.is_broken node.old.log ≡ false }
+    requires counted { node.old.ledger.state.changes ≡ L.size node.old.log }
+    requires few { length peers.now ≤ 64 }
+    ensures tells { Tells_bytes (S.view station.new) → Tells_bytes (S.view station.old) }
+    ensures fed { Tells_bytes (S.view station.new) → (n : Situation) → Knows node.old n → Stored L.holds node.old n.history (S.view station.old)
+        → Fed L.holds L.stands L.is_broken node.old node.new (S.view station.old) (S.view station.new) n (ticks peers.now) (turned_counts result) (is_ok result) }
+    ensures only_sends { OnlySends (S.view station.old) (S.view station.new) }
+    ensures ready { OnOk result (IsReady L.holds node.new (S.view station.new)) }
+    ensures counts { Counts (S.view station.old) (S.view station.new) }
+    ensures whole { OnOk result (L.is_broken node.new.log ≡ false) }
+    ensures unbroken { result ≡ Err ServeFault.Memory → L.is_broken node.new.log ≡ false }
+    ensures counted { OnOk result (node.new.ledger.state.changes ≡ L.size node.new.log) }
+    ensures small { IfOk result (λ t. (t.taken + t.dropped ≤ 128) × (t.lost ≤ 128)) }
+    ensures disk_cause { result ≡ Err (ServeFault.Node fault.DiskFault) → Rose (S.view station.old).disk_faults (S.view station.new).disk_faults }
+    ensures steady { (result ≡ Err (ServeFault.Node fault.DiskFault)) ⊎ ((S.view station.new).disk_faults ≡ (S.view station.old).disk_faults) }
+    ensures stops { OnErr result (end_of result ≡ Stopped) }
+    ensures only { OnErr result ((result ≡ Err (ServeFault.Node fault.DiskFault)) ⊎ (result ≡ Err ServeFault.Memory)) }
+{
+    let mut sum = Turned {
+        taken: 0,
+        dropped: 0,
+        lost: 0,
     };
-    let lost = send_all(station, outcome.out.as_slice());
+    for peer in peers {
+        let turned = match feed(node, station, &Input::Tick(*peer)) {
+            Ok(turned) => turned,
+            Err(fault) => return Err(fault),
+        };
+        sum.taken += turned.taken;
+        sum.dropped += turned.dropped;
+        sum.lost += turned.lost;
+    }
+    Ok(sum)
+}
+
+/// Makes one turn: takes a datagram where one is ready, absorbs it, and sends its letters. Then it asks
+/// the clock, and where that is above the call's clock, gives the node a tick of each peer.
+pub fn turn<L: Log, S: Station>(
+    node: &mut Node<L>,
+    station: &mut S,
+    buffer: &mut Buffer,
+    peers: &[PeerId],
+    clock: &mut u64,
+) -> Result<Turned, ServeFault>
+    requires ready { IsReady L.holds node.old (S.view station.old) }
+    requires whole { L.is_broken node.old.log ≡ false }
+    requires counted { node.old.ledger.state.changes ≡ L.size node.old.log }
+    requires few { length peers.now ≤ 64 }
+    ensures tells { Tells_bytes (S.view station.new) → Tells_bytes (S.view station.old) }
+
+    // It receives once and asks the clock once, whatever the disk is, and absorbs what comes of it.
+    ensures ran { RanTurns L.holds L.stands L.is_broken peers.now clock.old clock.new node.old node.new (S.view station.old) (S.view station.new) 1 (turned_counts result) (end_of result) }
+    ensures ready { OnOk result (IsReady L.holds node.new (S.view station.new)) }
+    ensures counts { Counts (S.view station.old) (S.view station.new) }
+    ensures unsaid { (S.view station.new).outside.say_faults ≡ (S.view station.old).outside.say_faults }
+    ensures whole { OnOk result (L.is_broken node.new.log ≡ false) }
+    ensures unbroken { (result ≡ Err ServeFault.Memory) ⊎ (result ≡ Err ServeFault.Link) → L.is_broken node.new.log ≡ false }
+    ensures counted { OnOk result (node.new.ledger.state.changes ≡ L.size node.new.log) }
+    ensures small { IfOk result (λ t. (t.taken + t.dropped ≤ 130) × (t.lost ≤ 130)) }
+    ensures disk_cause { result ≡ Err (ServeFault.Node fault.DiskFault) → Rose (S.view station.old).disk_faults (S.view station.new).disk_faults }
+    ensures steady { (result ≡ Err (ServeFault.Node fault.DiskFault)) ⊎ ((S.view station.new).disk_faults ≡ (S.view station.old).disk_faults) }
+    ensures link_cause { result ≡ Err ServeFault.Link → Rose (S.view station.old).outside.link_faults (S.view station.new).outside.link_faults }
+    ensures link { (result ≡ Err ServeFault.Link) ⊎ ((S.view station.new).outside.link_faults ≡ (S.view station.old).outside.link_faults) }
+    ensures only { OnErr result ((result ≡ Err (ServeFault.Node fault.DiskFault)) ⊎ (result ≡ Err ServeFault.Link) ⊎ (result ≡ Err ServeFault.Memory)) }
+{
+    let first = match receive(node, station, buffer) {
+        Ok(turned) => turned,
+        Err(fault) => return Err(fault),
+    };
+    let time = station.now();
+    if time <= *clock {
+        return Ok(first);
+    }
+    *clock = time;
+    let then = match tick_all(node, station, peers) {
+        Ok(turned) => turned,
+        Err(fault) => return Err(fault),
+    };
     Ok(Turned {
-        taken: 1,
-        dropped: dropped_in(outcome.dropped),
-        lost,
+        taken: first.taken + then.taken,
+        dropped: first.dropped + then.dropped,
+        lost: first.lost + then.lost,
     })
+}
+
+/// The ids of the peers, in the order of the settings.
+fn peers_of<L: Log>(alloc: Global, node: &Node<L>) -> Result<Items<PeerId>, Memory>
+    ensures ids { IfOk result (λ ids. ids ≡ peers_in node.now.ledger.state.settings) }
+{
+    let mut ids = Vec::new(alloc);
+    let Some(settings) = node.ledger().settings() else {
+        return Ok(Items::from_vec(ids));
+    };
+    for peer in settings.peers.as_slice() {
+        ids.push(peer.id)?;
+    }
+    Ok(Items::from_vec(ids))
 }
 
 /// Makes so many turns.
@@ -115,20 +271,30 @@ pub fn serve<L: Log, S: Station>(
     requires whole { L.is_broken node.old.log ≡ false }
     requires counted { node.old.ledger.state.changes ≡ L.size node.old.log }
     ensures tells { Tells_bytes (S.view station.new) → Tells_bytes (S.view station.old) }
-    ensures ran { Tells_bytes (S.view station.new) → (n : Situation) → Knows node.old n → Stored L.holds node.old n.history (S.view station.old) → (t : Tally)
-        × Ran L.holds L.stands node.old node.new (S.view station.old) (S.view station.new) n [] turns t (is_link result) (IsOk result)
-        × IfOk result (λ total. t ≡ total_tally total) }
+
+    // So many turns, each with one `recv` and one `now`; and a failure of the link or of the node is the last.
+    ensures ran { (e : End) × IsEnd result e × (clock : ℕ) × RanTurns L.holds L.stands L.is_broken (peers_in node.old.ledger.state.settings) 0 clock node.old node.new (S.view station.old) (S.view station.new) turns (total_counts result) e }
+    ensures unbroken { (result ≡ Err ServeFault.Memory) ⊎ (result ≡ Err ServeFault.Link) → L.is_broken node.new.log ≡ false }
+    ensures whole { OnOk result (L.is_broken node.new.log ≡ false) }
+    ensures counts { Counts (S.view station.old) (S.view station.new) }
     ensures ready { OnOk result (IsReady L.holds node.new (S.view station.new)) }
     ensures unsaid { (S.view station.new).outside.say_faults ≡ (S.view station.old).outside.say_faults }
     ensures turns { IfOk result (λ total. total.turns ≡ turns) }
     ensures disk_cause { result ≡ Err (ServeFault.Node fault.DiskFault) → Rose (S.view station.old).disk_faults (S.view station.new).disk_faults }
+    ensures steady { (result ≡ Err (ServeFault.Node fault.DiskFault)) ⊎ ((S.view station.new).disk_faults ≡ (S.view station.old).disk_faults) }
     ensures link_cause { result ≡ Err ServeFault.Link → Rose (S.view station.old).outside.link_faults (S.view station.new).outside.link_faults }
+    ensures link { (result ≡ Err ServeFault.Link) ⊎ ((S.view station.new).outside.link_faults ≡ (S.view station.old).outside.link_faults) }
     ensures only { OnErr result ((result ≡ Err (ServeFault.Node fault.DiskFault)) ⊎ (result ≡ Err ServeFault.Link) ⊎ (result ≡ Err ServeFault.Memory)) }
 {
     let mut buffer = match Buffer::new(alloc) {
         Ok(buffer) => buffer,
         Err(_) => return Err(ServeFault::Memory),
     };
+    let peers = match peers_of(alloc, node) {
+        Ok(peers) => peers,
+        Err(_) => return Err(ServeFault::Memory),
+    };
+    let mut clock = 0;
     let mut total = Total {
         turns,
         taken: 0,
@@ -136,7 +302,7 @@ pub fn serve<L: Log, S: Station>(
         lost: 0,
     };
     for _turn in 0..turns {
-        let turned = match turn(node, station, &mut buffer) {
+        let turned = match turn(node, station, &mut buffer, peers.as_slice(), &mut clock) {
             Ok(turned) => turned,
             Err(fault) => return Err(fault),
         };

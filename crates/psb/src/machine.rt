@@ -1,5 +1,5 @@
 //! The program's run over the machine: one file, one UDP socket, standard output, the clock and the folders.
-ghost use Rattle.std.specs.Prelude.{◌≡◌, ◌≢◌, ◌⊎◌, ◌↔◌, List, ℕ, [], Some, map, string_bytes};
+ghost use Rattle.std.specs.Prelude.{◌≡◌, ◌≢◌, ◌⊎◌, ◌↔◌, Bool, List, ℕ, [], Some, map, string_bytes};
 ghost use Rattle.psb_station.specs.Calls.{Rose};
 ghost use Rattle.psb_station.specs.Folder.{File as IsFile, Tells_content, found};
 ghost use Rattle.psb_station.specs.Span.{Tells_bytes};
@@ -52,7 +52,7 @@ where
     // a crash leaves at each moment, as long as the file answered as one that held it.
     ensures serves { (turns : ℕ) → IsServe (map string_bytes words.now) turns → Tells_bytes (⟦<HostStation<R, S> as Disk>⟧.view station.new)
         → (h : List Change) (settings : Settings) → IsValid h → HoldsHistory Stands h S.Start.first → (state h).settings ≡ Some settings
-        → Serves Stands h settings (⟦<HostStation<R, S> as Disk>⟧.view station.old) (⟦<HostStation<R, S> as Disk>⟧.view station.new) turns result }
+        → (opened : Bool) × Serves Stands h settings opened (⟦<HostStation<R, S> as Disk>⟧.view station.old) (⟦<HostStation<R, S> as Disk>⟧.view station.new) turns result }
     ensures not_node { result ≡ status.NotNode → Tells_bytes (⟦<HostStation<R, S> as Disk>⟧.view station.new) → (h : List Change) → IsValid h → ¬ HoldsHistory Stands h S.Start.first }
 
     // The headline of `init`: what it comes to over each file and each folder. It leaves the folder as it was.
@@ -74,6 +74,11 @@ where
     ensures link_cause { result ≡ status.LinkFault → Rose (⟦<HostStation<R, S> as Disk>⟧.view station.old).outside.link_faults (⟦<HostStation<R, S> as Disk>⟧.view station.new).outside.link_faults }
     ensures say_cause { result ≡ status.SayFault → Rose (⟦<HostStation<R, S> as Disk>⟧.view station.old).outside.say_faults (⟦<HostStation<R, S> as Disk>⟧.view station.new).outside.say_faults }
     ensures folder_cause { result ≡ status.FolderFault → Rose (⟦<HostFolder<Q, T> as Folder>⟧.view folder.old).folder_faults (⟦<HostFolder<Q, T> as Folder>⟧.view folder.new).folder_faults }
+    // The first fault decides: no other device failed before it, and where all was done, none did.
+    ensures disk { (result ≡ status.DiskFault) ⊎ ((⟦<HostStation<R, S> as Disk>⟧.view station.new).disk_faults ≡ (⟦<HostStation<R, S> as Disk>⟧.view station.old).disk_faults) }
+    ensures link { (result ≡ status.LinkFault) ⊎ ((⟦<HostStation<R, S> as Disk>⟧.view station.new).outside.link_faults ≡ (⟦<HostStation<R, S> as Disk>⟧.view station.old).outside.link_faults) }
+    ensures folder { (result ≡ status.FolderFault) ⊎ ((⟦<HostFolder<Q, T> as Folder>⟧.view folder.new).folder_faults ≡ (⟦<HostFolder<Q, T> as Folder>⟧.view folder.old).folder_faults) }
+    ensures all_said { result ≡ status.Done → (⟦<HostStation<R, S> as Disk>⟧.view station.new).outside.say_faults ≡ (⟦<HostStation<R, S> as Disk>⟧.view station.old).outside.say_faults }
 {
     run(alloc, station, folder, words)
 }

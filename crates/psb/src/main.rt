@@ -2,7 +2,9 @@
 //! the words are the command.
 #![tactic(auto)]
 
-ghost use Rattle.std.specs.Prelude.{◌≡◌, ◌↔◌, drop, map, string_bytes};
+ghost use Rattle.std.specs.Prelude.{◌≡◌, ◌↔◌, List, ℕ, [], ◌∷◌, drop, map, string_bytes};
+ghost use Rattle.std.specs.Process.{exit_status};
+ghost use Rattle.backup_cli.specs.Status.{code_of};
 ghost use Rattle.backup_cli.specs.Words.{IsNoCommand};
 ghost use Rattle.backup_cli.specs.declared.status.Status.TheVariants.{Usage};
 
@@ -11,7 +13,7 @@ mod machine;
 use crate::machine::run_on_machine;
 use backup_cli::Status;
 use psb_host::{HostFolder, HostStation, Start, StartFolder, Unknown};
-use std::alloc::AllocError;
+use std::alloc::{AllocError, Global};
 use std::env;
 use std::env::Env;
 use std::fs::{File, Files};
@@ -31,9 +33,22 @@ fn words_given<R: Env + AllocGlobal>(rt: &R) -> Result<Vec<String>, AllocError> 
     args.collect(rt.alloc())
 }
 
-/// Runs the command that the words behind DISK are. With no DISK there are no words either, and no
-/// words are no command.
-fn run_given<R, S, T>(rt: &R, file: S, tree: T, mut words: Vec<String>) -> Status
+/// DISK, the first of the words, and those behind it. With no DISK there are no words either, and no words
+/// are no command.
+fn disk_and_words(alloc: Global, mut words: Vec<String>) -> (String, Vec<String>)
+    ensures none { words.items ≡ [] → string_bytes result.0 ≡ [] }
+    ensures disk { (first : List ℕ) (rest : List (List ℕ)) → map string_bytes words.items ≡ first ∷ rest → string_bytes result.0 ≡ first }
+    ensures words { map string_bytes result.1.items ≡ drop 1 (map string_bytes words.items) }
+{
+    if words.is_empty() {
+        return (String::new(alloc), words);
+    }
+    let disk = words.remove(0);
+    (disk, words)
+}
+
+/// Runs the command that the words behind DISK are, over the file at DISK.
+fn run_given<R, S, T>(rt: &R, file: S, tree: T, words: Vec<String>) -> Status
 where
     R: Files<File = File> + Net + Print + Clock + AllocGlobal,
     S: Start,
@@ -41,14 +56,17 @@ where
     ensures usage { (result ≡ Usage) ↔ IsNoCommand (drop 1 (map string_bytes words.items)) }
 {
     let alloc = rt.alloc();
-    let disk = if words.is_empty() {
-        String::new(alloc)
-    } else {
-        words.remove(0)
-    };
+    let (disk, words) = disk_and_words(alloc, words);
     let mut station = HostStation::new(alloc, rt, disk, file);
     let mut folder = HostFolder::new(alloc, rt, tree);
     run_on_machine(alloc, &mut station, &mut folder, &words)
+}
+
+/// The exit code that a status ends the program with.
+fn exit_code(status: Status) -> ExitCode
+    ensures { exit_status result ≡ code_of status }
+{
+    ExitCode::from(status.code())
 }
 
 fn main(rt: HostRuntime) -> ExitCode {
@@ -59,5 +77,5 @@ fn main(rt: HostRuntime) -> ExitCode {
             Status::Memory
         }
     };
-    ExitCode::from(status.code())
+    exit_code(status)
 }

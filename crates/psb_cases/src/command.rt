@@ -14,8 +14,9 @@
 //! - `tree`
 use crate::stop::Stop;
 use crate::words::{
-    Outcome, read_folder_call, read_hex, read_number, read_ordinal, read_outcome, read_station_call,
+    Outcome, read_folder_call, read_hex, read_ordinal, read_outcome, read_station_call,
 };
+use backup_cli::read_number;
 use psb_station::{CallKind, Planned, StationCall};
 use std::alloc::Global;
 

@@ -7,6 +7,7 @@ ghost use Rattle.psb_cases.specs.declared.words.Outcome.{Outcome};
 ghost use Rattle.psb_cases.specs.Words.{station_word, folder_word, outcome_word};
 
 use crate::stop::Stop;
+use backup_cli::read_number;
 use psb_station::{CallKind, StationCall};
 use std::alloc::Global;
 
@@ -16,24 +17,6 @@ pub enum Outcome {
     Nothing,
     All,
     Filled,
-}
-
-/// The number that a word spells: decimal digits without sign or leading zero.
-pub fn read_number(word: &str) -> Option<u64>
-    ensures some { IfSome result (λ number. word.now ≡ decimal number) }
-    ensures none { IfNone result ((number : ℕ) → number < 2 ^ 64 → word.now ≢ decimal number) }
-{
-    if is_padded(word) {
-        return None;
-    }
-    word.parse().ok()
-}
-
-/// Whether a plus sign, or a zero before a digit, is in front: `parse` passes over both.
-fn is_padded(word: &str) -> bool
-    ensures { IsTrue result ↔ ((slice_index word.now 0 ≡ 43) ⊎ ((slice_index word.now 0 ≡ 48) × (2 ≤ length word.now))) }
-{
-    matches!(word.as_bytes(), [b'+', ..] | [b'0', _, ..])
 }
 
 /// A number from 1 on.

@@ -11,13 +11,13 @@ use Rattle.std.proofs.lemmas.List.Elements.{All-contains, All-weaker, All-contai
 use Rattle.std.proofs.lemmas.Slice.Eq.{bytes_eq-Decides}
 use Rattle.std.proofs.lemmas.Map.Text.{is_eq-slice_cmp}
 use Rattle.std.specs.Str.{bytes_eq}
-use Rattle.psb_station.specs.Folder.{Content, Stored, Folder, File, Special, IsName, Lists, plain, found, child, kind_of}
+use Rattle.psb_station.specs.Folder.{Content, Stored, Folder, File, Special, IsName, Lists, plain, found, child, kind_of, is_name}
 use Rattle.psb_station.specs.MemTree.{under}
 use Rattle.psb_station.specs.declared.item.Item.{Item}
 use Rattle.psb_station.specs.declared.item.Kind.{Kind}
 use Rattle.psb_station.specs.declared.item.Kind.TheVariants as kind
 use Rattle.psb_station.proofs.PathText.{by_cases, plain_child}
-use Rattle.psb_host.specs.HonestFolder.{where_holds, is_folder, is_kind, is_name, behind, name_in, names_of, is_listed, lists_so}
+use Rattle.psb_host.specs.HonestFolder.{where_holds, is_folder, is_kind, behind, name_in, names_of, is_listed, lists_so}
 
 -- what a test of a content lets through
 pub passed : (test : Content → Bool) (P : Content → Type 0) → ((c : Content) → test c ≡ true → P c) → (o : Option Content) → IfSome (where_holds test o) P
@@ -36,17 +36,7 @@ Decides-byte b l =
     (Decides-by_or (λ d. d == b) (λ d. d ≡ b) (list_any (λ d. d == b)) (λ d. Decides-eqb d b) refl (λ d ds. refl) l)
 
 Decides-is_name : (name : List ℕ) → Decides (is_name name) (IsName name)
-Decides-is_name name =
-    Decides-like (is_name name)
-    (λ all. record { not_empty = all.0.0.0.0; no_slash = all.0.0.0.1; no_nul = all.0.0.1; not_dot = all.0.1; not_dots = all.1 })
-    (λ is. ((((is.not_empty, is.no_slash), is.no_nul), is.not_dot), is.not_dots))
-    (Decides-and _ _
-    (Decides-and _ _
-    (Decides-and _ _
-    (Decides-and _ _ (Decides-not _ (bytes_eq-Decides name [])) (Decides-not _ (Decides-byte 47 name)))
-    (Decides-not _ (Decides-byte 0 name)))
-    (Decides-not _ (bytes_eq-Decides name (46 ∷ []))))
-    (Decides-not _ (bytes_eq-Decides name (46 ∷ 46 ∷ []))))
+Decides-is_name name = (λ is. is, λ is. is)
 
 Decides-is_folder : (o : Option Stored) → Decides (is_folder o) (o ≡ Some Folder)
 Decides-is_folder None = (λ e. absurd (cc), λ e. absurd (cc))

@@ -3,7 +3,7 @@
 use Rattle.std.specs.Prelude.{◌≡◌, ℕ, ◌-◌, ◌==◌, nat_le, bytes_eq, Bool, true, false, not, ◌&&◌, ◌||◌, if◌then◌else◌, List, [], ◌∷◌, ◌++◌, length, take, drop, map, Option, Some, None}
 use Rattle.std.specs.List.{list_all, list_any}
 use Rattle.std.specs.FinMap.{get, insert, keys}
-use Rattle.psb_station.specs.Folder.{FolderView, Content, Stored, Folder, File, Special, plain, parent, found, child}
+use Rattle.psb_station.specs.Folder.{FolderView, Content, Stored, Folder, File, Special, plain, parent, found, child, is_name}
 use Rattle.psb_station.specs.declared.item.Item.{Item}
 use Rattle.psb_station.specs.declared.item.Kind.{Kind}
 use Rattle.psb_station.specs.declared.item.Kind.TheVariants as kind
@@ -31,10 +31,6 @@ is_kind k _ = false
 abbrev pub is_free : Option Stored → Bool
 is_free None = true
 is_free (Some s) = false
-
--- a valid name: not empty, no `/` (47) and no NUL, neither `.` (46) nor `..`
-abbrev pub is_name : List ℕ → Bool
-is_name name = not (bytes_eq name []) && not (list_any (λ b. b == 47) name) && not (list_any (λ b. b == 0) name) && not (bytes_eq name (46 ∷ [])) && not (bytes_eq name (46 ∷ 46 ∷ []))
 
 -- what follows a front
 abbrev pub behind : List ℕ → List ℕ → Option (List ℕ)

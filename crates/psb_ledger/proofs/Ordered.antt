@@ -17,10 +17,7 @@ use Rattle.std.proofs.lemmas.List.Sorted.{searchable_from_sorted}
 use Rattle.psb_bytes.specs.Objects.{object_eq, object_cmp, name_eq}
 use Rattle.psb_bytes.specs.declared.ids.Object.{Object}
 use Rattle.psb_bytes.specs.declared.ids.Object.TheVariants.{Chunk, Slot}
-use Rattle.psb_model.specs.declared.entries.InEntry.{InEntry}
-use Rattle.psb_model.specs.declared.entries.InState.TheVariants as at
 use Rattle.psb_model.specs.Words.{has, with_one}
-use Rattle.psb_model.specs.State.{in_key}
 use Rattle.psb_ledger.specs.View.{in_order}
 
 pub by_cases : {P : Type 0} → (b : Bool) → (b ≡ true → P) → (b ≡ false → P) → P
@@ -84,42 +81,52 @@ is_less Greater h = cc
 pub comes_first : (a b : Object) → is_lt (object_cmp a b) ≡ true → is_lt (object_cmp b a) ≡ false
 comes_first a b h = ap is_lt (object_total.antisymm b a ∙ ap ordering_reverse (is_less (object_cmp a b) h))
 
+pub less_then : (a b c : Object) → is_lt (object_cmp a b) ≡ true → is_lt (object_cmp b c) ≡ true → is_lt (object_cmp a c) ≡ true
+less_then a b c h k = ap is_lt (object_total.trans a b c (is_less (object_cmp a b) h) (is_less (object_cmp b c) k))
+
 -- A SEARCH
 
-no_entry : InEntry
-no_entry = record { object = Slot 0; units = 0; state = at.Body }
-
 -- the head comes before what stands at a later place
-before_at : (e : InEntry) (es : List InEntry) (k : ℕ) (d : InEntry) → list_all (λ (x : InEntry). is_lt (object_cmp e.object x.object)) es ≡ true → k < length es → is_lt (object_cmp e.object (get_or es k d).object) ≡ true
-before_at e [] k d h lt = absurd (omega arith)
-before_at e (x ∷ xs) zero d h lt = (and_parts (is_lt (object_cmp e.object x.object)) (list_all (λ (x : InEntry). is_lt (object_cmp e.object x.object)) xs) h).0
-before_at e (x ∷ xs) (suc k) d h lt = before_at e xs k d (and_parts (is_lt (object_cmp e.object x.object)) (list_all (λ (x : InEntry). is_lt (object_cmp e.object x.object)) xs) h).1 (omega arith)
+before_at : {E : Type 0} (key : E → Object) (e : E) (es : List E) (k : ℕ) (d : E) → list_all (λ x. is_lt (object_cmp (key e) (key x))) es ≡ true → k < length es → is_lt (object_cmp (key e) (key (get_or es k d))) ≡ true
+before_at key e [] k d h lt = absurd (omega arith)
+before_at key e (x ∷ xs) zero d h lt = (and_parts (is_lt (object_cmp (key e) (key x))) (list_all (λ x. is_lt (object_cmp (key e) (key x))) xs) h).0
+before_at key e (x ∷ xs) (suc k) d h lt = before_at key e xs k d (and_parts (is_lt (object_cmp (key e) (key x))) (list_all (λ x. is_lt (object_cmp (key e) (key x))) xs) h).1 (omega arith)
 
 -- a list in order is sorted, as std says it
-pub sorted : (l : List InEntry) → in_order l ≡ true → (k : ℕ) (d : InEntry) → k + 1 < length l → is_lt (object_cmp (get_or l (k + 1) d).object (get_or l k d).object) ≡ false
-sorted [] h k d lt = absurd (omega arith)
-sorted (e ∷ es) h zero d lt = comes_first e.object (get_or es 0 d).object (before_at e es 0 d (and_parts (list_all (λ (x : InEntry). is_lt (object_cmp e.object x.object)) es) (in_order es) h).0 (omega arith))
-sorted (e ∷ es) h (suc k) d lt =
+pub sorted : {E : Type 0} (key : E → Object) (l : List E) → in_order key l ≡ true → (k : ℕ) (d : E) → k + 1 < length l → is_lt (object_cmp (key (get_or l (k + 1) d)) (key (get_or l k d))) ≡ false
+sorted key [] h k d lt = absurd (omega arith)
+sorted key (e ∷ es) h zero d lt = comes_first (key e) (key (get_or es 0 d)) (before_at key e es 0 d (and_parts (list_all (λ x. is_lt (object_cmp (key e) (key x))) es) (in_order key es) h).0 (omega arith))
+sorted key (e ∷ es) h (suc k) d lt =
     let more : suc k + 1 ≡ suc (k + 1) = omega arith in
-    rw more (sorted es (and_parts (list_all (λ (x : InEntry). is_lt (object_cmp e.object x.object)) es) (in_order es) h).1 k d (omega arith))
+    rw more (sorted key es (and_parts (list_all (λ x. is_lt (object_cmp (key e) (key x))) es) (in_order key es) h).1 k d (omega arith))
+
+-- what comes before an object is parted from what does not
+pub parted : {E : Type 0} (key : E → Object) (o : Object) (l : List E) → in_order key l ≡ true → (i j : ℕ) (d : E) → i ≤ j → j < length l → is_lt (object_cmp (key (get_or l j d)) o) ≡ true → is_lt (object_cmp (key (get_or l i d)) o) ≡ true
+parted key o [] h i j d le lt below = absurd (omega arith)
+parted key o (e ∷ es) h zero zero d le lt below = below
+parted key o (e ∷ es) h zero (suc j) d le lt below =
+    let first = before_at key e es j d (and_parts (list_all (λ x. is_lt (object_cmp (key e) (key x))) es) (in_order key es) h).0 (omega arith) in
+    less_then (key e) (key (get_or es j d)) o first below
+parted key o (e ∷ es) h (suc i) zero d le lt below = absurd (omega arith)
+parted key o (e ∷ es) h (suc i) (suc j) d le lt below = parted key o es (and_parts (list_all (λ x. is_lt (object_cmp (key e) (key x))) es) (in_order key es) h).1 i j d (omega arith) (omega arith) below
 
 none_passes : {X : Type 0} (p : X → Bool) (xs : List X) → ((k : ℕ) (d : X) → k < length xs → p (get_or xs k d) ≡ false) → list_any p xs ≡ false
 none_passes p [] h = refl
 none_passes p (x ∷ xs) h = rw (h 0 x (omega arith)) (none_passes p xs (λ k d lt. h (suc k) d (omega arith)))
 
 -- a search for an object ends at its entry, or at the place where it would go
-pub searched : (l : List InEntry) (o : Object) (r : Result ℕ ℕ) → in_order l ≡ true → IsSearchInRange r (length l) → IsBinarySearchResult (λ e. object_cmp (in_key e) o) l r → (is_ok r ≡ has in_key l o) × IfErr r (λ i. i ≡ position_or_len (λ e. is_lt (object_cmp o (in_key e))) l) × IfOk r (λ i. (i < length l) × ((d : InEntry) → object_eq (in_key (get_or l i d)) o ≡ true))
-searched l o (Ok i) h range at =
-    let here : (d : InEntry) → object_eq (in_key (get_or l i d)) o ≡ true = λ d. same_object (in_key (get_or l i d)) o ∙ ap is_eq (at d) in
-    (sym (list_any_at (λ e. object_eq (in_key e) o) l i no_entry range (here no_entry)), tt, (range, here))
-searched l o (Err i) h range at =
-    let parted = at (searchable_from_sorted object_total in_key l o (λ k d low high. sorted l h k d high)) in
-    let other : (k : ℕ) (d : InEntry) → k < length l → object_eq (in_key (get_or l k d)) o ≡ false = λ k d lt. by_cases (nat_lt k i)
-    (λ b. same_object (in_key (get_or l k d)) o ∙ ap is_eq (parted.0 k d (omega arith) (ltb-true k i b)))
-    (λ b. same_object (in_key (get_or l k d)) o ∙ ap is_eq (parted.1 k d (ltb-false k i b) lt)) in
-    let first : (k : ℕ) → k < i → is_lt (object_cmp o (in_key (get_or l k no_entry))) ≡ false = λ k lt. ap is_lt (object_total.antisymm o (in_key (get_or l k no_entry)) ∙ ap ordering_reverse (parted.0 k no_entry (omega arith) lt)) in
-    let then : i < length l → is_lt (object_cmp o (in_key (get_or l i no_entry))) ≡ true = λ lt. ap is_lt (object_total.antisymm o (in_key (get_or l i no_entry)) ∙ ap ordering_reverse (parted.1 i no_entry (omega arith) lt)) in
-    (sym (none_passes (λ e. object_eq (in_key e) o) l other), sym (position_or_len_is (λ e. is_lt (object_cmp o (in_key e))) l i no_entry range first then), tt)
+pub searched : {E : Type 0} (key : E → Object) (none : E) (l : List E) (o : Object) (r : Result ℕ ℕ) → in_order key l ≡ true → IsSearchInRange r (length l) → IsBinarySearchResult (λ e. object_cmp (key e) o) l r → (is_ok r ≡ has key l o) × IfErr r (λ i. i ≡ position_or_len (λ e. is_lt (object_cmp o (key e))) l) × IfOk r (λ i. (i < length l) × ((d : E) → object_eq (key (get_or l i d)) o ≡ true))
+searched {E = E} key none l o (Ok i) h range at =
+    let here : (d : E) → object_eq (key (get_or l i d)) o ≡ true = λ d. same_object (key (get_or l i d)) o ∙ ap is_eq (at d) in
+    (sym (list_any_at (λ e. object_eq (key e) o) l i none range (here none)), tt, (range, here))
+searched {E = E} key none l o (Err i) h range at =
+    let parted = at (searchable_from_sorted object_total key l o (λ k d low high. sorted key l h k d high)) in
+    let other : (k : ℕ) (d : E) → k < length l → object_eq (key (get_or l k d)) o ≡ false = λ k d lt. by_cases (nat_lt k i)
+    (λ b. same_object (key (get_or l k d)) o ∙ ap is_eq (parted.0 k d (omega arith) (ltb-true k i b)))
+    (λ b. same_object (key (get_or l k d)) o ∙ ap is_eq (parted.1 k d (ltb-false k i b) lt)) in
+    let first : (k : ℕ) → k < i → is_lt (object_cmp o (key (get_or l k none))) ≡ false = λ k lt. ap is_lt (object_total.antisymm o (key (get_or l k none)) ∙ ap ordering_reverse (parted.0 k none (omega arith) lt)) in
+    let then : i < length l → is_lt (object_cmp o (key (get_or l i none))) ≡ true = λ lt. ap is_lt (object_total.antisymm o (key (get_or l i none)) ∙ ap ordering_reverse (parted.1 i none (omega arith) lt)) in
+    (sym (none_passes (λ e. object_eq (key e) o) l other), sym (position_or_len_is (λ e. is_lt (object_cmp o (key e))) l i none range first then), tt)
 
 -- AN ENTRY THAT GOES IN
 
@@ -139,21 +146,20 @@ placed key e l n h = ap (λ m. insert l m e) h ∙ at_first key e l
         rw (k, more) (ap (λ l. x ∷ l) (at_first key e xs)))
 
 -- what is below an entry is below the others behind it
-below_rest : (e x : InEntry) (xs : List InEntry) → is_lt (object_cmp e.object x.object) ≡ true → list_all (λ (y : InEntry). is_lt (object_cmp x.object y.object)) xs ≡ true → list_all (λ (y : InEntry). is_lt (object_cmp e.object y.object)) xs ≡ true
-below_rest e x [] h k = refl
-below_rest e x (y ∷ ys) h k =
-    let a = and_parts (is_lt (object_cmp x.object y.object)) (list_all (λ (y : InEntry). is_lt (object_cmp x.object y.object)) ys) k in
-    let one : is_lt (object_cmp e.object y.object) ≡ true = ap is_lt (object_total.trans e.object x.object y.object (is_less (object_cmp e.object x.object) h) (is_less (object_cmp x.object y.object) a.0)) in
-    rw one (below_rest e x ys h a.1)
+below_rest : {E : Type 0} (key : E → Object) (e x : E) (xs : List E) → is_lt (object_cmp (key e) (key x)) ≡ true → list_all (λ y. is_lt (object_cmp (key x) (key y))) xs ≡ true → list_all (λ y. is_lt (object_cmp (key e) (key y))) xs ≡ true
+below_rest key e x [] h k = refl
+below_rest key e x (y ∷ ys) h k =
+    let a = and_parts (is_lt (object_cmp (key x) (key y))) (list_all (λ y. is_lt (object_cmp (key x) (key y))) ys) k in
+    rw (less_then (key e) (key x) (key y) h a.0) (below_rest key e x ys h a.1)
 
-below_with : (x e : InEntry) (xs : List InEntry) → is_lt (object_cmp x.object e.object) ≡ true → list_all (λ (y : InEntry). is_lt (object_cmp x.object y.object)) xs ≡ true → list_all (λ (y : InEntry). is_lt (object_cmp x.object y.object)) (with_one in_key e xs) ≡ true
-below_with x e [] h k = rw h refl
-below_with x e (y ∷ ys) h k =
-    by_cases (is_lt (object_cmp e.object y.object))
+below_with : {E : Type 0} (key : E → Object) (x e : E) (xs : List E) → is_lt (object_cmp (key x) (key e)) ≡ true → list_all (λ y. is_lt (object_cmp (key x) (key y))) xs ≡ true → list_all (λ y. is_lt (object_cmp (key x) (key y))) (with_one key e xs) ≡ true
+below_with key x e [] h k = rw h refl
+below_with key x e (y ∷ ys) h k =
+    by_cases (is_lt (object_cmp (key e) (key y)))
     (λ b. rw (b, h) k)
     (λ b.
-    let a = and_parts (is_lt (object_cmp x.object y.object)) (list_all (λ (y : InEntry). is_lt (object_cmp x.object y.object)) ys) k in
-    rw (b, a.0) (below_with x e ys h a.1))
+    let a = and_parts (is_lt (object_cmp (key x) (key y))) (list_all (λ y. is_lt (object_cmp (key x) (key y))) ys) k in
+    rw (b, a.0) (below_with key x e ys h a.1))
 
 -- of two that are not one, one comes before the other
 one_is_first : (a b : Object) → object_eq a b ≡ false → is_lt (object_cmp b a) ≡ false → is_lt (object_cmp a b) ≡ true
@@ -164,14 +170,14 @@ one_is_first a b other h = by_order (object_cmp a b) (sym (same_object a b) ∙ 
     by_order Equal h k = cc
     by_order Greater h k = cc
 
-pub in_order_with : (e : InEntry) (l : List InEntry) → in_order l ≡ true → has in_key l e.object ≡ false → in_order (with_one in_key e l) ≡ true
-in_order_with e [] h absent = refl
-in_order_with e (x ∷ xs) h absent =
-    let a = and_parts (list_all (λ (y : InEntry). is_lt (object_cmp x.object y.object)) xs) (in_order xs) h in
-    let n = neither (object_eq x.object e.object) (has in_key xs e.object) absent in
-    by_cases (is_lt (object_cmp e.object x.object))
-    (λ b. rw b (rw b (rw (below_rest e x xs b a.0) h)))
-    (λ b. rw b (rw (below_with x e xs (one_is_first x.object e.object n.0 b) a.0) (in_order_with e xs a.1 n.1)))
+pub in_order_with : {E : Type 0} (key : E → Object) (e : E) (l : List E) → in_order key l ≡ true → has key l (key e) ≡ false → in_order key (with_one key e l) ≡ true
+in_order_with key e [] h absent = refl
+in_order_with key e (x ∷ xs) h absent =
+    let a = and_parts (list_all (λ y. is_lt (object_cmp (key x) (key y))) xs) (in_order key xs) h in
+    let n = neither (object_eq (key x) (key e)) (has key xs (key e)) absent in
+    by_cases (is_lt (object_cmp (key e) (key x)))
+    (λ b. rw b (rw b (rw (below_rest key e x xs b a.0) h)))
+    (λ b. rw b (rw (below_with key x e xs (one_is_first (key x) (key e) n.0 b) a.0) (in_order_with key e xs a.1 n.1)))
   where
     neither : (p q : Bool) → (p || q) ≡ false → (p ≡ false) × (q ≡ false)
     neither true q h = absurd (true≢false h)

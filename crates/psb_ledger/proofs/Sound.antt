@@ -1,5 +1,5 @@
 -- What a change leaves sound: what fits, the state after it, and what every ledger keeps.
-use Rattle.std.proofs.Common.{◌≡◌, ℕ, ◌+◌, ◌<◌, ◌≤◌, ◌^◌, Bool, true, ◌&&◌, List, [], ◌∷◌, map, get_or, set, Option, Some, None, refl, sym, ap, ◌∙◌, subst, arith}
+use Rattle.std.proofs.Common.{◌≡◌, ℕ, ◌+◌, ◌<◌, ◌≤◌, ◌^◌, Bool, true, ◌&&◌, List, [], ◌∷◌, ◌++◌, map, get_or, set, Option, Some, None, refl, sym, ap, ◌∙◌, subst, arith}
 use Rattle.std.specs.Prelude.{◌==◌, position, sum_by, nat_lt, is_some}
 use Rattle.std.proofs.lemmas.Bool.{and_parts, leb-true}
 use Rattle.psb_settings.specs.declared.settings.Settings.{Settings}
@@ -14,11 +14,23 @@ use Rattle.psb_model.specs.Grammar.{in_grammar}
 use Rattle.psb_model.specs.Conditions.{capacity, tests, allowed, settings_in}
 use Rattle.psb_model.specs.Effects.{took_deal, after, blank_rows, first_rows}
 use Rattle.psb_model.proofs.Steps.{parts}
-use Rattle.psb_model.proofs.Balance.{Good, good_after}
-use Rattle.psb_ledger.specs.View.{AccountView, named_row, plain_state, fresh_row, IsSound}
+use Rattle.psb_model.proofs.Balance.{Good, good_state}
+use Rattle.psb_model.proofs.Prefixes.{state_snoc, lawful_snoc}
+use Rattle.psb_ledger.specs.View.{AccountView, named_row, plain_state, fresh_row, IsReached, IsSound}
 use Rattle.psb_ledger.proofs.Ordered.{by_cases}
 use Rattle.psb_ledger.proofs.Places.{Found, found_row, found_peer, found_here, found_set}
 use Rattle.psb_ledger.proofs.After.{row_within, used_more, used_same, fresh_held, after_fresh, after_refused}
+
+-- a state that a history gives is good, and so is each that a lawful change makes of it
+pub good_of : (s : State) → IsReached s → Good s
+good_of s r = subst Good r.gives (good_state r.history r.lawful)
+
+reached_after : (s : State) (c : Change) → IsReached s → in_grammar c ≡ true → allowed s c ≡ true → IsReached (after s c)
+reached_after s c r grammar may = record {
+  history = r.history ++ c ∷ [];
+  lawful = lawful_snoc r.history c ∙ rw (r.lawful, grammar) (ap (λ t. allowed t c) r.gives ∙ may);
+  gives = state_snoc r.history c ∙ ap (λ t. after t c) r.gives;
+}
 
 abbrev pub fresh_change : ℕ → ℕ → List ℕ → ℕ → ℕ → Bool → Change
 fresh_change p deal name first len new = TookFresh p deal name first len new None
@@ -48,7 +60,7 @@ pub back_fits : (ch : ℕ) (st : Option Settings) (vs : List AccountView) (is to
 back_fits ch st vs is total p deal name first len new i r u f e =
     let s = plain_state ch st vs is in
     let q : row s p ≡ r.row = found_row vs p i r (found_here vs p i r f.place f.here) in
-    omega (arith, held_fits ch st vs is total p deal name first len new i r u f e, (f.sound.good.rows p).tidy.balanced, ap held_of q, ap back_of q)
+    omega (arith, held_fits ch st vs is total p deal name first len new i r u f e, ((good_of s f.sound.reached).rows p).tidy.balanced, ap held_of q, ap back_of q)
 
 pub taken : (ch : ℕ) (st : Option Settings) (vs : List AccountView) (is total p deal : ℕ) (name : List ℕ) (first len : ℕ) (new : Bool) (i : ℕ) (r w : AccountView) (u : ℕ) → FreshAt ch st vs is total p deal name first len new i r → u ≡ units len → w.id ≡ r.id → w.row ≡ fresh_row name u first deal ch r.row → plain_state (ch + 1) st (set vs i w) (is + u) ≡ after (plain_state ch st vs is) (fresh_change p deal name first len new)
 taken ch st vs is total p deal name first len new i r w u f e same changed =
@@ -65,7 +77,7 @@ taken_sound ch st vs is total p deal name first len new i r w u f e same changed
     let rows : map named_row (set vs i w) ≡ at_row p (fresh_row name u first deal ch) (map named_row vs) = found_set vs p i r w (fresh_row name u first deal ch) at same changed in
     record {
       used_is = omega (arith, f.sound.used_is, ap (sum_by (λ (x : ℕ × Row). held_of x.1 + coming s x.1.pending)) rows, used_more s p u (fresh_row name u first deal ch) (map named_row vs) (found_peer vs p i r at) (fresh_held name u first deal ch) (λ y. refl));
-      good = subst Good (sym (taken ch st vs is total p deal name first len new i r w u f e same changed)) (good_after s c f.sound.good f.grammar f.may);
+      reached = subst IsReached (sym (taken ch st vs is total p deal name first len new i r w u f e same changed)) (reached_after s c f.sound.reached f.grammar f.may);
       small = f.sound.small;
     }
 
@@ -79,7 +91,7 @@ refused_sound ch st vs is total p deal why detail i r w sound place here may sam
       state_is,
       record {
         used_is = omega (arith, sound.used_is, ap (sum_by (λ (x : ℕ × Row). held_of x.1 + coming s x.1.pending)) rows, used_same s p (took_deal deal ch) (map named_row vs) (λ y. refl) (λ y. refl));
-        good = subst Good (sym state_is) (good_after s (Refused p deal why detail) sound.good refl may);
+        reached = subst IsReached (sym state_is) (reached_after s (Refused p deal why detail) sound.reached refl may);
         small = sound.small;
       },
     )
@@ -107,7 +119,7 @@ begun_sound ch st vs is total body nst nvs none_yet sound same some rows small =
       is_after,
       record {
         used_is = sym (no_units n (settings_in body)) ∙ ap (sum_by (λ (y : ℕ × Row). held_of y.1 + coming n y.1.pending)) (sym rows);
-        good = subst Good (sym is_after) (good_after s (Begun body) sound.good (text_there body some) may);
+        reached = subst IsReached (sym is_after) (reached_after s (Begun body) sound.reached (text_there body some) may);
         small = small;
       },
     )

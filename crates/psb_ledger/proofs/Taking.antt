@@ -1,22 +1,20 @@
 -- A chunk that may be taken against new slots: what its account needs, and what is left.
 use Rattle.std.proofs.Common.{◌≡◌, ℕ, ◌+◌, ◌<◌, ◌≤◌, ◌^◌, Bool, true, false, not, ◌&&◌, get_or, set, Some, refl, sym, ap, ◌∙◌, subst, arith}
 use Rattle.std.specs.Prelude.{◌==◌, position, nat_lt}
-use Rattle.std.specs.List.{list_all}
 use Rattle.std.proofs.lemmas.Bool.{and_parts, eqb-true}
-use Rattle.psb_bytes.specs.declared.ids.Object.TheVariants.{Chunk, Slot}
+use Rattle.psb_bytes.specs.declared.ids.Object.TheVariants.{Chunk}
 use Rattle.psb_model.specs.declared.change.Change.{Change}
-use Rattle.psb_model.specs.Words.{units, has, all_of, occurs}
-use Rattle.psb_model.specs.State.{row, is_peer, in_key, out_key, held_of, back_of}
+use Rattle.psb_model.specs.Words.{units, has, all_of}
+use Rattle.psb_model.specs.State.{Row, row, is_peer, in_key, held_of, back_of}
 use Rattle.psb_model.specs.Grammar.{in_grammar}
 use Rattle.psb_model.specs.Conditions.{allowed, tests}
 use Rattle.psb_model.specs.Effects.{after}
 use Rattle.psb_model.proofs.Steps.{parts}
 use Rattle.psb_ledger.specs.declared.codec.fields.Store.{Store}
 use Rattle.psb_ledger.specs.declared.book.Ledger.TheInside.{Inside}
-use Rattle.psb_ledger.specs.View.{AccountView, LedgerView, plain_state, fresh_row, stands_below, HasFreshRoom, IsSound}
+use Rattle.psb_ledger.specs.View.{AccountView, LedgerView, plain_state, fresh_row, LacksSlots, HasFreshRoom, IsSound}
 use Rattle.psb_ledger.proofs.Places.{found_row, found_here, found_peer, found_account}
-use Rattle.psb_ledger.proofs.Slots.{all_below}
-use Rattle.psb_ledger.proofs.Sound.{fresh_change, FreshAt, total_fits, held_fits, back_fits, taken, taken_sound}
+use Rattle.psb_ledger.proofs.Sound.{good_of, fresh_change, FreshAt, total_fits, held_fits, back_fits, taken, taken_sound}
 
 abbrev pub view_of : Inside → LedgerView
 view_of l = record { state = plain_state l.changes l.settings l.accounts.items l.issued; accounts = l.accounts.items; next = l.next; next_accounts = l.next_accounts.items }
@@ -32,7 +30,7 @@ pub record CanTake (l : Inside) (v : LedgerView) (x : Store) (i u : ℕ) (r : Ac
   pub back : back_of r.row + u < 2 ^ 32
   pub total : l.used + u < 2 ^ 32
   pub absent : has in_key r.row.ins (Chunk x.name) ≡ false
-  pub below : list_all (stands_below x.first) r.row.outs ≡ true
+  pub free : LacksSlots x.first u r.row.outs
   pub after_is : (w : AccountView) → w.id ≡ r.id → w.row ≡ fresh_row x.name u x.first x.deal l.changes r.row → plain_state (l.changes + 1) l.settings (set l.accounts.items i w) (l.issued + u) ≡ after v.state (change_of x)
   pub sound : (w : AccountView) → w.id ≡ r.id → w.row ≡ fresh_row x.name u x.first x.deal l.changes r.row → IsSound (l.used + u) (plain_state (l.changes + 1) l.settings (set l.accounts.items i w) (l.issued + u))
 
@@ -54,14 +52,14 @@ can_take l v x i u r view sound place here may grammar room same =
     let account = found_account vs x.peer i r at in
     let ts = parts (tests s (change_of x)) (and_parts (nat_lt 0 l.changes && is_peer s x.peer) (all_of (tests s (change_of x))) may').1 in
     let first : x.first ≡ l.issued = eqb-true x.first l.issued ts.1.1.1.1.1.0 in
-    let free : (n : ℕ) → x.first ≤ n → occurs out_key (row s x.peer).outs (Slot n) ≡ 0 = λ n le. omega (arith, (sound.good.rows x.peer).tidy.below n (omega (arith, first, le))) in record {
+    let free : LacksSlots x.first u (row s x.peer).outs = λ n le lt. omega (arith, ((good_of s sound.reached).rows x.peer).tidy.below n (omega (arith, first, le))) in record {
       in_room = subst (λ (y : AccountView). 1 ≤ y.in_room) account (room'.ins peer);
       out_room = omega (arith, same, subst (λ (y : AccountView). units x.len ≤ y.out_room) account (room'.outs peer));
       held = held_fits l.changes l.settings vs l.issued l.used x.peer x.deal x.name x.first x.len x.new i r u f same;
       back = back_fits l.changes l.settings vs l.issued l.used x.peer x.deal x.name x.first x.len x.new i r u f same;
       total = total_fits l.changes l.settings vs l.issued l.used x.peer x.deal x.name x.first x.len x.new i r u f same;
       absent = ap (λ y. has in_key y.ins (Chunk x.name)) (sym q) ∙ is_false (has in_key (row s x.peer).ins (Chunk x.name)) ts.1.0;
-      below = ap (λ y. list_all (stands_below x.first) y.outs) (sym q) ∙ all_below x.first (row s x.peer).outs free;
+      free = subst (λ (y : Row). LacksSlots x.first u y.outs) q free;
       after_is = λ w a b. taken l.changes l.settings vs l.issued l.used x.peer x.deal x.name x.first x.len x.new i r w u f same a b ∙ ap (λ (y : LedgerView). after y.state (change_of x)) view;
       sound = λ w a b. taken_sound l.changes l.settings vs l.issued l.used x.peer x.deal x.name x.first x.len x.new i r w u f same a b;
     }

@@ -1,10 +1,10 @@
 -- What contracts see of a ledger: the state, and the memory that was taken for a change.
-use Rattle.std.specs.Prelude.{◌≡◌, ℕ, ◌==◌, nat_lt, if◌then◌else◌, ◌^◌, ◌<◌, ◌≤◌, Bool, true, ◌&&◌, List, [], ◌∷◌, map, sum_by, Option, Some, None}
+use Rattle.std.specs.Prelude.{◌≡◌, ℕ, ◌+◌, ◌==◌, if◌then◌else◌, ◌^◌, ◌<◌, ◌≤◌, Bool, true, ◌&&◌, List, [], ◌∷◌, map, sum_by, Option, Some, None}
 use Rattle.std.specs.List.{list_all}
 use Rattle.std.specs.Ordering.{is_lt}
 use Rattle.psb_bytes.specs.Objects.{object_cmp}
 use Rattle.psb_bytes.specs.declared.ids.Object.{Object}
-use Rattle.psb_bytes.specs.declared.ids.Object.TheVariants.{Chunk, Slot}
+use Rattle.psb_bytes.specs.declared.ids.Object.TheVariants.{Slot}
 use Rattle.psb_settings.specs.declared.settings.Settings.{Settings}
 use Rattle.psb_model.specs.declared.entries.InEntry.{InEntry}
 use Rattle.psb_model.specs.declared.entries.OutEntry.{OutEntry}
@@ -12,11 +12,11 @@ use Rattle.psb_model.specs.declared.entries.DebtEntry.{DebtEntry}
 use Rattle.psb_model.specs.declared.deals.LastDeal.{LastDeal}
 use Rattle.psb_model.specs.declared.change.Change.{Change}
 use Rattle.psb_model.specs.declared.change.Change.TheVariants.{Begun, TookFresh}
-use Rattle.psb_model.specs.Words.{units, with_one, with_all}
+use Rattle.psb_model.specs.Words.{units, occurs, with_one, with_all}
 use Rattle.psb_model.specs.State.{Row, State, blank, is_peer, used, in_key, in_size, out_key, out_size, debt_size}
 use Rattle.psb_model.specs.Conditions.{settings_in, capacity}
 use Rattle.psb_model.specs.Effects.{chunk_in, own_slots, took_deal, first_rows}
-use Rattle.psb_model.proofs.Balance.{Good}
+use Rattle.psb_model.specs.History.{is_lawful, state}
 
 -- a peer's row, and how many more entries its two lists have room for
 pub record AccountView : Type 0 where
@@ -53,18 +53,14 @@ row_of (Some v) = v.row
 abbrev pub fresh_row : List ℕ → ℕ → ℕ → ℕ → ℕ → Row → Row
 fresh_row name u first deal change r = took_deal deal change (record r { ins = with_one in_key (chunk_in name u) r.ins; outs = with_all out_key (own_slots first u) r.outs })
 
--- a chunk, or a slot with a number below this one
-abbrev pub is_below_slot : ℕ → Object → Bool
-is_below_slot first (Chunk name) = true
-is_below_slot first (Slot n) = nat_lt n first
-
-abbrev pub stands_below : ℕ → OutEntry → Bool
-stands_below first e = is_below_slot first e.object
+-- none of the u slots from first on is there
+abbrev pub LacksSlots : ℕ → ℕ → List OutEntry → Type 0
+LacksSlots first u outs = (n : ℕ) → first ≤ n → n < first + u → occurs out_key outs (Slot n) ≡ 0
 
 -- each object comes before all later ones
-abbrev pub in_order : List InEntry → Bool
-in_order [] = true
-in_order (e ∷ es) = list_all (λ (x : InEntry). is_lt (object_cmp e.object x.object)) es && in_order es
+abbrev pub in_order : {E : Type 0} → (E → Object) → List E → Bool
+in_order key [] = true
+in_order key (e ∷ es) = list_all (λ x. is_lt (object_cmp (key e) (key x))) es && in_order key es
 
 -- ROOM: what `make_room` took for a change
 
@@ -90,15 +86,22 @@ HasRoom v _ = Unit {0}
 
 -- WHAT EACH ACCOUNT, AND EACH LEDGER, KEEPS
 
--- the running sums are those of the lists, and what the node answers for is in object order
+-- the running sums are those of the lists, and both lists of entries are in object order
 pub record IsAccount (held back debt : ℕ) (ins : List InEntry) (outs : List OutEntry) (debts : List DebtEntry) : Type 0 where
   pub held_is : held ≡ sum_by in_size ins
   pub back_is : back ≡ sum_by out_size outs
   pub debt_is : debt ≡ sum_by debt_size debts
-  pub ordered : in_order ins ≡ true
+  pub ins_ordered : in_order in_key ins ≡ true
+  pub outs_ordered : in_order out_key outs ≡ true
 
--- the sum over all peers is that of the state, and the state balances
+-- some lawful history gives the state
+pub record IsReached (s : State) : Type 0 where
+  pub history : List Change
+  pub lawful : is_lawful history ≡ true
+  pub gives : state history ≡ s
+
+-- the sum over all peers is that of the state, which is one that a history gives
 pub record IsSound (total : ℕ) (s : State) : Type 0 where
   pub used_is : total ≡ used s
-  pub good : Good s
+  pub reached : IsReached s
   pub small : capacity s.settings < 2 ^ 32

@@ -1,15 +1,14 @@
 //! What the ledger keeps of one peer, with its running sums.
 
 ghost use Rattle.std.specs.Prelude.{◌≡◌, ◌+◌, ◌-◌, ◌<◌, ◌≤◌, ◌^◌, true, false, OnOk, vec_len, vec_capacity};
-ghost use Rattle.std.specs.List.{list_all};
 ghost use Rattle.psb_bytes.specs.declared.ids.Object.TheVariants.{Chunk};
 ghost use Rattle.psb_model.specs.Words.{has, units};
 ghost use Rattle.psb_model.specs.State.{blank, in_key, held_of, back_of, debt_of};
 ghost use Rattle.psb_model.specs.Effects.{took_deal};
-ghost use Rattle.psb_ledger.specs.View.{AccountView, plain_row, fresh_row, stands_below, IsAccount};
+ghost use Rattle.psb_ledger.specs.View.{AccountView, plain_row, fresh_row, LacksSlots, IsAccount};
 
 use crate::codec::Store;
-use crate::entries::{find, insert, push_own_slots};
+use crate::entries::{find, insert, insert_own_slots};
 use psb_bytes::{Memory, Object, PeerId};
 use psb_model::{DebtEntry, InEntry, InState, LastDeal, OutEntry};
 use std::alloc::Global;
@@ -145,7 +144,7 @@ impl Account {
         requires held { held_of self.old.row + u < 2 ^ 32 }
         requires back { back_of self.old.row + u < 2 ^ 32 }
         requires absent { has in_key self.old.row.ins (Chunk x.now.name) ≡ false }
-        requires below { list_all (stands_below x.now.first) self.old.row.outs ≡ true }
+        requires absent_slots { LacksSlots x.now.first u self.old.row.outs }
         ensures id { self.new.id ≡ self.old.id }
         ensures row { self.new.row ≡ fresh_row x.now.name u x.now.first x.now.deal change self.old.row }
     {
@@ -155,7 +154,7 @@ impl Account {
             state: InState::Body,
         };
         insert(&mut self.ins, chunk);
-        push_own_slots(&mut self.outs, x.first, u);
+        insert_own_slots(&mut self.outs, x.first, u);
         self.held += u;
         self.back += u;
         self.last = LastDeal {

@@ -11,7 +11,7 @@ ghost use Rattle.psb_model.specs.Grammar.{in_grammar};
 ghost use Rattle.psb_model.specs.Conditions.{allowed, settings_in, capacity, fresh_tests, refusal_tests};
 ghost use Rattle.psb_model.specs.Effects.{after, blank_rows, first_rows};
 ghost use Rattle.psb_model.specs.History.{is_built};
-ghost use Rattle.psb_ledger.specs.View.{named_row, row_of, IsSound, HasBegunRoom, HasFreshRoom, HasRoom};
+ghost use Rattle.psb_ledger.specs.View.{named_row, row_of, HasBegunRoom, HasFreshRoom, HasRoom};
 
 use crate::account::Account;
 use crate::codec::{Refusal, Store};

@@ -2,18 +2,18 @@
 use Rattle.std.proofs.Common.{◌≡◌, ℕ, List, Option, Some, Result, Ok, ◌∙◌, ap}
 use Rattle.psb_settings.specs.declared.settings.Settings.{Settings}
 use Rattle.psb_model.specs.History.{state}
-use Rattle.psb_model.specs.declared.change.Change.{Change}
 use Rattle.wire_codec.specs.Frames.{Incoming, read_frame, key_in}
 use Rattle.wire_codec.specs.declared.frame.Dropped.{Dropped}
+use Rattle.psb_machine.specs.Deals.{StoreFresh}
 use Rattle.psb_machine.specs.Stores.{incoming_store}
-use Rattle.psb_machine.specs.Machine.{Situation, Datagram, keys_of, on_store, on_keyed, on_read, on_datagram, react}
+use Rattle.psb_machine.specs.Machine.{Situation, Datagram, keys_of, on_deal, on_keyed, on_read, on_datagram, react}
 
 -- with its settings the machine reads the datagram
-pub react-read : (n : Situation) (x : List ℕ) (settings : Settings) → (state n.history).settings ≡ Some settings → react n (Datagram x) ≡ on_read settings n.history (read_frame settings.id (keys_of settings) x)
-react-read n x settings present = ap (λ (o : Option Settings). on_datagram o n.history x) present
+pub react-read : (n : Situation) (x : List ℕ) (settings : Settings) → (state n.history).settings ≡ Some settings → react n (Datagram x) ≡ on_read settings n (read_frame settings.id (keys_of settings) x)
+react-read n x settings present = ap (λ (o : Option Settings). on_datagram o n x) present
 
-pub on_read-store : (settings : Settings) (h : List Change) (r : Result Incoming Dropped) (p number : ℕ) (key name bytes : List ℕ) → r ≡ Ok (incoming_store p number name bytes) → key_in (keys_of settings) p ≡ Some key
-    → on_read settings h r ≡ on_store settings h p number key name bytes
-on_read-store settings h r p number key name bytes read keyed =
-    ap (λ (q : Result Incoming Dropped). on_read settings h q) read
-    ∙ ap (λ (o : Option (List ℕ)). on_keyed settings h (incoming_store p number name bytes) o) keyed
+pub on_read-store : (settings : Settings) (n : Situation) (r : Result Incoming Dropped) (p number : ℕ) (key name bytes : List ℕ) → r ≡ Ok (incoming_store p number name bytes) → key_in (keys_of settings) p ≡ Some key
+    → on_read settings n r ≡ on_deal settings n p number key (StoreFresh name bytes)
+on_read-store settings n r p number key name bytes read keyed =
+    ap (λ (q : Result Incoming Dropped). on_read settings n q) read
+    ∙ ap (λ (o : Option (List ℕ)). on_keyed settings n (incoming_store p number name bytes) o) keyed

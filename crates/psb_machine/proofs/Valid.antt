@@ -23,14 +23,14 @@ use Rattle.wire_codec.specs.Frames.{Incoming, read_frame, key_in, fits as frame_
 use Rattle.wire_codec.specs.declared.frame.Dropped.{Dropped}
 use Rattle.wire_codec.specs.declared.frame.Frame.{Frame}
 use Rattle.wire_codec.specs.declared.frame.Frame.TheVariants.{Store}
-use Rattle.psb_machine.specs.Deals.{standing, code_of, first_that_holds, store_reasons, took_fresh, judged, judged_store, meets_others}
-use Rattle.psb_machine.specs.Machine.{keys_of, by_standing, on_deal, on_store, on_frame, on_read, on_keyed, on_datagram}
+use Rattle.psb_machine.specs.Deals.{standing, code_of, first_that_holds, judged, Deal, StoreFresh, judged_at, meets_others}
+use Rattle.psb_machine.specs.Machine.{Situation, changes_of, keys_of, by_standing, on_deal, on_frame, on_read, on_keyed, on_datagram}
 use Rattle.psb_machine.specs.declared.deals.Standing.{Standing}
 use Rattle.psb_machine.specs.declared.deals.Standing.TheVariants.{Fresh, Repeat, Stale, Gap}
 use Rattle.psb_machine.specs.declared.deals.Reason.{Reason}
 use Rattle.psb_machine.specs.declared.deals.Reason.TheVariants.{Busy, BadName, Already, Clash, NotThere, Unequal, Indebted, Full, Spent}
 use Rattle.psb_machine.specs.declared.deals.Refusal.{Refusal}
-use Rattle.psb_machine.specs.Stores.{StoreFits}
+use Rattle.psb_machine.specs.Stores.{StoreFits, store_reasons, took_fresh, judged_store}
 use Rattle.psb_machine.proofs.Standings.{fresh_is_next, none_holds, detail_fits, first_fits}
 use Rattle.psb_machine.proofs.Lasts.{drawn}
 use Rattle.psb_machine.proofs.Peers.{keyed_is_peer}
@@ -138,7 +138,7 @@ store_fits p number name slots bytes f =
       bytes_fit = c.1;
     }
 
-unchanged : (h : List Change) → IsValid h → IsValid (h ++ [])
+pub unchanged : (h : List Change) → IsValid h → IsValid (h ++ [])
 unchanged h v = subst IsValid (sym (append-nil h)) v
 
 pub codes_are : (why : Reason) → (nat_le 1 (code_of why) ≡ true) × (nat_le (code_of why) 9 ≡ true) × (is_u8 (code_of why) ≡ true)
@@ -183,38 +183,37 @@ judged_valid settings h p number name bytes clash v present peer f next_deal = b
     by_refusal None is = taken_valid settings h p number name bytes v present peer f (is_taken settings (state h) p number name bytes clash next_deal is)
     by_refusal (Some r) is = refused_valid h p number r v peer f.peer f.number_fits next_deal (first_fits (store_reasons settings (state h) p name bytes clash) r (details_fit settings h p name bytes clash v) is)
 
-deal_valid : (settings : Settings) (h : List Change) (p number : ℕ) (key : List ℕ) (c : Change) → IsValid h → (is_next_deal (state h) p number ≡ true → IsValid (h ++ c ∷ [])) → IsValid (h ++ (on_deal settings h p number key c).grown)
-deal_valid settings h p number key c v made = by_how (standing (row (state h) p).last.number number) refl
+deal_valid : (settings : Settings) (n : Situation) (p number : ℕ) (key : List ℕ) (deal : Deal) → IsValid n.history → (is_next_deal (state n.history) p number ≡ true → IsValid (n.history ++ judged_at settings n.history p number deal ∷ [])) → IsValid (n.history ++ changes_of (on_deal settings n p number key deal))
+deal_valid settings n p number key deal v made = by_how (standing (row (state n.history) p).last.number number) refl
   where
-    by_how : (how : Standing) → standing (row (state h) p).last.number number ≡ how → IsValid (h ++ (by_standing how settings h p number key c).grown)
-    by_how Fresh is = made (fresh_is_next (row (state h) p).last.number number is)
-    by_how Repeat is = unchanged h v
-    by_how Stale is = unchanged h v
-    by_how Gap is = unchanged h v
+    by_how : (how : Standing) → standing (row (state n.history) p).last.number number ≡ how → IsValid (n.history ++ changes_of (by_standing how settings n p number key (judged_at settings n.history p number deal)))
+    by_how Fresh is = made (fresh_is_next (row (state n.history) p).last.number number is)
+    by_how Repeat is = unchanged n.history v
+    by_how Stale is = unchanged n.history v
+    by_how Gap is = unchanged n.history v
 
-store_valid : (settings : Settings) (h : List Change) (p number : ℕ) (key name bytes : List ℕ) → IsValid h → (state h).settings ≡ Some settings → is_peer (state h) p ≡ true
-    → StoreFits p number name bytes → IsValid (h ++ (on_store settings h p number key name bytes).grown)
-store_valid settings h p number key name bytes v present peer f =
-    let clash = meets_others h name bytes in
-    deal_valid settings h p number key (judged_store settings (state h) p number name bytes clash) v (judged_valid settings h p number name bytes clash v present peer f)
+store_valid : (settings : Settings) (n : Situation) (p number : ℕ) (key name bytes : List ℕ) → IsValid n.history → (state n.history).settings ≡ Some settings → is_peer (state n.history) p ≡ true
+    → StoreFits p number name bytes → IsValid (n.history ++ changes_of (on_deal settings n p number key (StoreFresh name bytes)))
+store_valid settings n p number key name bytes v present peer f =
+    deal_valid settings n p number key (StoreFresh name bytes) v (judged_valid settings n.history p number name bytes (meets_others n.history name bytes) v present peer f)
 
-frame_valid : (settings : Settings) (h : List Change) (p number : ℕ) (key : List ℕ) (frame : Frame) → IsValid h → (state h).settings ≡ Some settings → is_peer (state h) p ≡ true
-    → FrameFits p number frame → IsValid (h ++ (on_frame settings h p number key frame).grown)
-frame_valid settings h p number key (Store name [] bytes) v present peer f = store_valid settings h p number key name bytes v present peer (store_fits p number name [] bytes f)
-frame_valid settings h p number key (Store name (slot ∷ slots) bytes) v present peer f = unchanged h v
-frame_valid settings h p number key _ v present peer f = unchanged h v
+frame_valid : (settings : Settings) (n : Situation) (p number : ℕ) (key : List ℕ) (frame : Frame) → IsValid n.history → (state n.history).settings ≡ Some settings → is_peer (state n.history) p ≡ true
+    → FrameFits p number frame → IsValid (n.history ++ changes_of (on_frame settings n p number key frame))
+frame_valid settings n p number key (Store name [] bytes) v present peer f = store_valid settings n p number key name bytes v present peer (store_fits p number name [] bytes f)
+frame_valid settings n p number key (Store name (slot ∷ slots) bytes) v present peer f = unchanged n.history v
+frame_valid settings n p number key _ v present peer f = unchanged n.history v
 
-keyed_valid : (settings : Settings) (h : List Change) (i : Incoming) (o : Option (List ℕ)) → o ≡ key_in (keys_of settings) i.from → IsValid h → (state h).settings ≡ Some settings
-    → FrameFits i.from i.number i.frame → IsValid (h ++ (on_keyed settings h i o).grown)
-keyed_valid settings h i None is v present f = unchanged h v
-keyed_valid settings h i (Some key) is v present f = frame_valid settings h i.from i.number key i.frame v present (keyed_is_peer h settings i.from key v.built present (sym is)) f
+keyed_valid : (settings : Settings) (n : Situation) (i : Incoming) (o : Option (List ℕ)) → o ≡ key_in (keys_of settings) i.from → IsValid n.history → (state n.history).settings ≡ Some settings
+    → FrameFits i.from i.number i.frame → IsValid (n.history ++ changes_of (on_keyed settings n i o))
+keyed_valid settings n i None is v present f = unchanged n.history v
+keyed_valid settings n i (Some key) is v present f = frame_valid settings n i.from i.number key i.frame v present (keyed_is_peer n.history settings i.from key v.built present (sym is)) f
 
-read_valid : (settings : Settings) (h : List Change) (r : Result Incoming Dropped) → IsValid h → (state h).settings ≡ Some settings
-    → ((i : Incoming) → r ≡ Ok i → FrameFits i.from i.number i.frame) → IsValid (h ++ (on_read settings h r).grown)
-read_valid settings h (Err why) v present f = unchanged h v
-read_valid settings h (Ok i) v present f = keyed_valid settings h i (key_in (keys_of settings) i.from) refl v present (f i refl)
+read_valid : (settings : Settings) (n : Situation) (r : Result Incoming Dropped) → IsValid n.history → (state n.history).settings ≡ Some settings
+    → ((i : Incoming) → r ≡ Ok i → FrameFits i.from i.number i.frame) → IsValid (n.history ++ changes_of (on_read settings n r))
+read_valid settings n (Err why) v present f = unchanged n.history v
+read_valid settings n (Ok i) v present f = keyed_valid settings n i (key_in (keys_of settings) i.from) refl v present (f i refl)
 
-pub datagram_valid : (h : List Change) (x : List ℕ) (o : Option Settings) → o ≡ (state h).settings → IsValid h
-    → ((own : ℕ) (keys : List (ℕ × List ℕ)) (i : Incoming) → read_frame own keys x ≡ Ok i → FrameFits i.from i.number i.frame) → IsValid (h ++ (on_datagram o h x).grown)
-datagram_valid h x None is v f = unchanged h v
-datagram_valid h x (Some settings) is v f = read_valid settings h (read_frame settings.id (keys_of settings) x) v (sym is) (λ i e. f settings.id (keys_of settings) i e)
+pub datagram_valid : (n : Situation) (x : List ℕ) (o : Option Settings) → o ≡ (state n.history).settings → IsValid n.history
+    → ((own : ℕ) (keys : List (ℕ × List ℕ)) (i : Incoming) → read_frame own keys x ≡ Ok i → FrameFits i.from i.number i.frame) → IsValid (n.history ++ changes_of (on_datagram o n x))
+datagram_valid n x None is v f = unchanged n.history v
+datagram_valid n x (Some settings) is v f = read_valid settings n (read_frame settings.id (keys_of settings) x) v (sym is) (λ i e. f settings.id (keys_of settings) i e)

@@ -1,6 +1,7 @@
 -- The laws of the machine.
-use Rattle.std.proofs.Common.{◌≡◌, ℕ, ◌≤◌, ◌^◌, true, slice_get, option_map, is_some, List, [], ◌∷◌, length, Option, Some, None, Result, Ok, Err, refl, arith}
+use Rattle.std.proofs.Common.{◌≡◌, ℕ, ◌≤◌, ◌^◌, true, slice_get, option_map, is_some, List, [], length, Option, Some, None, Result, Ok, Err, refl, arith}
 use Rattle.std.proofs.lemmas.Bool.{lt-ltb}
+use Rattle.std.proofs.lemmas.List.{append-nil}
 use Rattle.psb_bytes.specs.Numbers.{AreBytes}
 use Rattle.psb_settings.specs.declared.settings.Settings.{Settings}
 use Rattle.psb_model.specs.State.{row}
@@ -9,15 +10,14 @@ use Rattle.psb_model.specs.declared.change.Change.{Change}
 use Rattle.wire_codec.specs.Frames.{Incoming, read_frame, key_in}
 use Rattle.wire_codec.specs.declared.frame.Dropped.{Dropped}
 use Rattle.wire_codec.specs.declared.frame.Frame.{Frame}
-use Rattle.wire_codec.specs.declared.frame.Frame.TheVariants.{Store}
 use Rattle.wire_codec.proofs.FrameLaws.{takes}
-use Rattle.psb_machine.specs.Deals.{standing, meets_others, judged_store}
+use Rattle.psb_machine.specs.Deals.{standing, Deal, deal_of, judged_at}
 use Rattle.psb_machine.specs.Replies.{reply}
-use Rattle.psb_machine.specs.Machine.{Reaction, quiet, tells_again, keys_of, by_standing, on_frame, on_keyed, on_read, on_datagram}
+use Rattle.psb_machine.specs.Machine.{Situation, Volatile, Input, Datagram, Tick, Keep, Snap, Forget, Reaction, quiet, tells_again, settled, ticked, react, keys_of, by_standing, on_deal, on_frame, on_keyed, on_read, on_datagram}
 use Rattle.psb_machine.specs.declared.deals.Standing.{Standing}
 use Rattle.psb_machine.specs.declared.deals.Standing.TheVariants.{Fresh, Repeat, Stale, Gap}
 use Rattle.psb_machine.specs.Laws.{KeepsValid, TellsOfItsChange}
-use Rattle.psb_machine.proofs.Valid.{FrameFits, datagram_valid}
+use Rattle.psb_machine.proofs.Valid.{FrameFits, unchanged, datagram_valid}
 
 pub frame_read_fits : (own : ℕ) (keys : List (ℕ × List ℕ)) (x : List ℕ) (i : Incoming) → AreBytes x → read_frame own keys x ≡ Ok i → FrameFits i.from i.number i.frame
 frame_read_fits own keys x i bytes read =
@@ -29,43 +29,59 @@ frame_read_fits own keys x i bytes read =
     }
 
 pub keeps_valid : KeepsValid
-keeps_valid n x v bytes = datagram_valid n.history x (state n.history).settings refl v (λ own keys i read. frame_read_fits own keys x i bytes read)
+keeps_valid n (Datagram x) v bytes = datagram_valid n x (state n.history).settings refl v (λ own keys i read. frame_read_fits own keys x i bytes read)
+keeps_valid n (Tick p) v fit = unchanged n.history v
+keeps_valid n (Keep name bytes) v fit = unchanged n.history v
+keeps_valid n (Snap note) v fit = unchanged n.history v
+keeps_valid n (Forget number) v fit = unchanged n.history v
 
--- a reaction with a letter for each change, and without any where the datagram is dropped
-record Once (r : Reaction) : Type 0 where
-  most : length r.letters ≤ 1
-  told : length r.grown ≤ length r.letters
-  dropped : is_some r.dropped ≡ true → r.letters ≡ []
+-- a reaction with few letters, and with nothing at all where the datagram is dropped
+record Little (n : Situation) (r : Reaction) : Type 0 where
+  most : length r.letters ≤ 2
+  letters : is_some r.dropped ≡ true → r.letters ≡ []
+  same : is_some r.dropped ≡ true → settled n r ≡ n
 
-quiet_once : Once quiet
-quiet_once = record { most = omega arith; told = omega arith; dropped = λ is. refl }
+nothing_grown : (n : Situation) → settled n (quiet n.volatile) ≡ n
+nothing_grown n = λ j. record { history = append-nil n.history j; volatile = n.volatile }
 
-deal_once : (how : Standing) (settings : Settings) (h : List Change) (p number : ℕ) (key : List ℕ) (c : Change) → Once (by_standing how settings h p number key c)
-deal_once Fresh settings h p number key c = record { most = omega arith; told = omega arith; dropped = λ is. absurd (cc) }
-deal_once Repeat settings h p number key c = again (option_map (reply settings key p number) (slice_get h (row (state h) p).last.change))
+quiet_little : (n : Situation) (v : Volatile) → Little n (quiet v)
+quiet_little n v = record { most = omega arith; letters = λ is. refl; same = λ is. absurd (cc) }
+
+deal_little : (how : Standing) (settings : Settings) (n : Situation) (p number : ℕ) (key : List ℕ) (c : Change) → Little n (by_standing how settings n p number key c)
+deal_little Fresh settings n p number key c = record { most = omega arith; letters = λ is. absurd (cc); same = λ is. absurd (cc) }
+deal_little Repeat settings n p number key c = again (option_map (reply settings key p number) (slice_get n.history (row (state n.history) p).last.change))
   where
-    again : (o : Option (ℕ × List ℕ)) → Once (tells_again o)
-    again None = record { most = omega arith; told = omega arith; dropped = λ is. refl }
-    again (Some letter) = record { most = omega arith; told = omega arith; dropped = λ is. absurd (cc) }
-deal_once Stale settings h p number key c = quiet_once
-deal_once Gap settings h p number key c = quiet_once
+    again : (o : Option (ℕ × List ℕ)) → Little n (tells_again o n.volatile)
+    again None = record { most = omega arith; letters = λ is. refl; same = λ is. absurd (cc) }
+    again (Some letter) = record { most = omega arith; letters = λ is. absurd (cc); same = λ is. absurd (cc) }
+deal_little Stale settings n p number key c = quiet_little n n.volatile
+deal_little Gap settings n p number key c = quiet_little n n.volatile
 
-frame_once : (settings : Settings) (h : List Change) (p number : ℕ) (key : List ℕ) (frame : Frame) → Once (on_frame settings h p number key frame)
-frame_once settings h p number key (Store name [] bytes) = deal_once (standing (row (state h) p).last.number number) settings h p number key (judged_store settings (state h) p number name bytes (meets_others h name bytes))
-frame_once settings h p number key (Store name (slot ∷ slots) bytes) = quiet_once
-frame_once settings h p number key _ = quiet_once
+frame_little : (settings : Settings) (n : Situation) (p number : ℕ) (key : List ℕ) (frame : Frame) → Little n (on_frame settings n p number key frame)
+frame_little settings n p number key frame = either (deal_of frame)
+  where
+    either : (o : Option Deal) → Little n (elim o [ None ↦ quiet n.volatile | Some d ↦ on_deal settings n p number key d ])
+    either None = quiet_little n n.volatile
+    either (Some d) = deal_little (standing (row (state n.history) p).last.number number) settings n p number key (judged_at settings n.history p number d)
 
-keyed_once : (settings : Settings) (h : List Change) (i : Incoming) (o : Option (List ℕ)) → Once (on_keyed settings h i o)
-keyed_once settings h i None = quiet_once
-keyed_once settings h i (Some key) = frame_once settings h i.from i.number key i.frame
+keyed_little : (settings : Settings) (n : Situation) (i : Incoming) (o : Option (List ℕ)) → Little n (on_keyed settings n i o)
+keyed_little settings n i None = quiet_little n n.volatile
+keyed_little settings n i (Some key) = frame_little settings n i.from i.number key i.frame
 
-read_once : (settings : Settings) (h : List Change) (r : Result Incoming Dropped) → Once (on_read settings h r)
-read_once settings h (Err why) = record { most = omega arith; told = omega arith; dropped = λ is. refl }
-read_once settings h (Ok i) = keyed_once settings h i (key_in (keys_of settings) i.from)
+read_little : (settings : Settings) (n : Situation) (r : Result Incoming Dropped) → Little n (on_read settings n r)
+read_little settings n (Err why) = record { most = omega arith; letters = λ is. refl; same = λ is. nothing_grown n }
+read_little settings n (Ok i) = keyed_little settings n i (key_in (keys_of settings) i.from)
 
-datagram_once : (o : Option Settings) (h : List Change) (x : List ℕ) → Once (on_datagram o h x)
-datagram_once None h x = quiet_once
-datagram_once (Some settings) h x = read_once settings h (read_frame settings.id (keys_of settings) x)
+datagram_little : (o : Option Settings) (n : Situation) (x : List ℕ) → Little n (on_datagram o n x)
+datagram_little None n x = quiet_little n n.volatile
+datagram_little (Some settings) n x = read_little settings n (read_frame settings.id (keys_of settings) x)
 
-pub tells_once : TellsOfItsChange
-tells_once n x = let o = datagram_once (state n.history).settings n.history x in record { most = o.most; told = o.told; dropped = o.dropped }
+little : (n : Situation) (x : Input) → Little n (react n x)
+little n (Datagram x) = datagram_little (state n.history).settings n x
+little n (Tick p) = quiet_little n (ticked p n.volatile)
+little n (Keep name bytes) = quiet_little n n.volatile
+little n (Snap note) = quiet_little n n.volatile
+little n (Forget number) = quiet_little n n.volatile
+
+pub tells_little : TellsOfItsChange
+tells_little n x = let o = little n x in record { most = o.most; dropped = λ is. record { letters = o.letters is; same = o.same is } }

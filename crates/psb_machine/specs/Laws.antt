@@ -1,18 +1,30 @@
--- The laws of the machine, for each history and each datagram.
-use Rattle.std.specs.Prelude.{◌≡◌, ◌≤◌, ℕ, true, List, [], length, is_some}
+-- The laws of the machine, for each history and each input.
+use Rattle.std.specs.Prelude.{◌≡◌, ◌≤◌, true, [], length, is_some}
 use Rattle.psb_bytes.specs.Numbers.{AreBytes}
 use Rattle.psb_model.specs.Needed.{IsValid}
-use Rattle.psb_machine.specs.Machine.{Situation, Datagram, react, next}
+use Rattle.psb_machine.specs.Machine.{Situation, Input, Datagram, Tick, Keep, Snap, Forget, react, next}
+
+-- what an input has to be
+abbrev pub Fits : Input → Type 0
+Fits (Datagram x) = AreBytes x
+Fits (Tick p) = Unit {0}
+Fits (Keep name bytes) = AreBytes name × AreBytes bytes
+Fits (Snap note) = Unit {0}
+Fits (Forget number) = Unit {0}
 
 -- what is made of a valid history is valid
 abbrev pub KeepsValid : Type 0
-KeepsValid = (n : Situation) (x : List ℕ) → IsValid n.history → AreBytes x → IsValid (next n (Datagram x)).history
+KeepsValid = (n : Situation) (x : Input) → IsValid n.history → Fits x → IsValid (next n x).history
 
--- At most one letter, each change has its letter, and a datagram that is dropped gives neither.
-pub record TellsOnce (n : Situation) (x : List ℕ) : Type 0 where
-  pub most : length (react n (Datagram x)).letters ≤ 1
-  pub told : length (react n (Datagram x)).grown ≤ length (react n (Datagram x)).letters
-  pub dropped : is_some (react n (Datagram x)).dropped ≡ true → (react n (Datagram x)).letters ≡ []
+-- There are at most two letters. A datagram that is dropped gives none, makes no change and leaves what
+-- a restart forgets.
+pub record Drops (n : Situation) (x : Input) : Type 0 where
+  pub letters : (react n x).letters ≡ []
+  pub same : next n x ≡ n
+
+pub record TellsLittle (n : Situation) (x : Input) : Type 0 where
+  pub most : length (react n x).letters ≤ 2
+  pub dropped : is_some (react n x).dropped ≡ true → Drops n x
 
 abbrev pub TellsOfItsChange : Type 0
-TellsOfItsChange = (n : Situation) (x : List ℕ) → TellsOnce n x
+TellsOfItsChange = (n : Situation) (x : Input) → TellsLittle n x

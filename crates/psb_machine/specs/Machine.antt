@@ -1,56 +1,112 @@
 -- The machine: what a node makes of an input, by its history and by what a restart forgets.
 -- It is a function of the whole history; a node computes the same from the state that it keeps.
-use Rattle.std.specs.Prelude.{ℕ, List, [], ◌∷◌, ◌++◌, map, slice_get, option_map, option_to_list, Option, Some, None, Result, Ok, Err}
+use Rattle.std.specs.Prelude.{ℕ, ◌+◌, ◌^◌, ◌==◌, if◌then◌else◌, min, List, [], ◌∷◌, ◌++◌, map, slice_get, option_map, option_to_list, Option, Some, None, Result, Ok, Err}
+use Rattle.psb_bytes.specs.declared.ids.Ticket.{Ticket}
 use Rattle.psb_settings.specs.declared.settings.PeerRow.{PeerRow}
 use Rattle.psb_settings.specs.declared.settings.Settings.{Settings}
-use Rattle.psb_model.specs.State.{row}
+use Rattle.psb_model.specs.State.{State, row}
 use Rattle.psb_model.specs.History.{state}
 use Rattle.psb_model.specs.declared.change.Change.{Change}
+use Rattle.psb_model.specs.declared.change.Change.TheVariants.{Snapped, Forgot}
 use Rattle.wire_codec.specs.Frames.{Incoming, read_frame, key_in}
 use Rattle.wire_codec.specs.declared.frame.Dropped.{Dropped}
 use Rattle.wire_codec.specs.declared.frame.Frame.{Frame}
-use Rattle.wire_codec.specs.declared.frame.Frame.TheVariants.{Store}
-use Rattle.psb_machine.specs.Deals.{standing, meets_others, judged_store}
+use Rattle.psb_machine.specs.Deals.{standing, Deal, deal_of, judged_at}
 use Rattle.psb_machine.specs.Replies.{reply}
 use Rattle.psb_machine.specs.declared.deals.Standing.{Standing}
 use Rattle.psb_machine.specs.declared.deals.Standing.TheVariants.{Fresh, Repeat, Stale, Gap}
 
--- what a restart forgets: nothing yet
-abbrev pub Volatile : Type 0
-Volatile = Unit {0}
+-- What a restart forgets. So far these are the clocks of the peers, each the ticks of that peer that
+-- were absorbed, and of which peers a sample is kept.
+pub record Volatile : Type 0 where
+  pub clocks : List (ℕ × ℕ)
+  pub samples : List ℕ
+
+-- what a node that was just opened has
+abbrev pub empty : Volatile
+empty = record { clocks = []; samples = [] }
+
+-- a peer's clock, 0 before its first tick
+abbrev pub clock_in : List (ℕ × ℕ) → ℕ → ℕ
+clock_in [] p = 0
+clock_in (x ∷ xs) p = if x.0 == p then x.1 else clock_in xs p
+
+-- a clock of 2^62 stays as it is
+abbrev pub later : ℕ → ℕ
+later c = min (c + 1) (2 ^ 62)
+
+abbrev pub ticked_in : List (ℕ × ℕ) → ℕ → List (ℕ × ℕ)
+ticked_in [] p = (p, 1) ∷ []
+ticked_in (x ∷ xs) p = if x.0 == p then (p, later x.1) ∷ xs else x ∷ ticked_in xs p
+
+abbrev pub ticked : ℕ → Volatile → Volatile
+ticked p v = record v { clocks = ticked_in v.clocks p }
+
+-- What a change does to it, whatever input made the change; the state is the one before it.
+abbrev pub by_change : State → Change → Volatile → Volatile
+by_change s (Snapped number ticket files folders bytes left names) v = record v { samples = [] }
+by_change s (Forgot number) v = record v { samples = [] }
+by_change s _ v = v
+
+abbrev pub by_changes : State → Option Change → Volatile → Volatile
+by_changes s None v = v
+by_changes s (Some c) v = by_change s c v
 
 -- a node at a moment
 pub record Situation : Type 0 where
   pub history : List Change
   pub volatile : Volatile
 
--- what a node is given
+-- a node that was just opened
+abbrev pub fresh : List Change → Situation
+fresh h = record { history = h; volatile = empty }
+
+-- what a snapshot is noted with
+pub record SnapNote : Type 0 where
+  pub ticket : Ticket
+  pub files : ℕ
+  pub folders : ℕ
+  pub bytes : ℕ
+  pub left : ℕ
+  pub names : List (List ℕ)
+
+-- What a node is given: a datagram, a tick of a peer, sealed bytes under their name, the note of a
+-- snapshot, or the number of one to forget.
 pub data Input : Type 0 where
   Datagram : List ℕ → Input
+  Tick : ℕ → Input
+  Keep : List ℕ → List ℕ → Input
+  Snap : SnapNote → Input
+  Forget : ℕ → Input
 
--- what a node makes of an input: at most one change, the letters (receiver and datagram) that tell of it,
--- and, where the input is a datagram that is dropped, the test that it fails
+-- what a node makes of an input: at most one change, the letters (receiver and datagram) that tell of
+-- it, what it then has of what a restart forgets, but for what the change does to that, and, where the
+-- input is a datagram that is dropped, the test that it fails
 pub record Reaction : Type 0 where
-  pub grown : List Change
+  pub grown : Option Change
   pub letters : List (ℕ × List ℕ)
   pub volatile : Volatile
   pub dropped : Option Dropped
 
 -- nothing comes of it
-abbrev pub quiet : Reaction
-quiet = record { grown = []; letters = []; volatile = tt; dropped = None }
+abbrev pub quiet : Volatile → Reaction
+quiet v = record { grown = None; letters = []; volatile = v; dropped = None }
 
 -- the datagram fails a test of its format
-abbrev pub drops : Dropped → Reaction
-drops why = record { grown = []; letters = []; volatile = tt; dropped = Some why }
+abbrev pub drops : Dropped → Volatile → Reaction
+drops why v = record { grown = None; letters = []; volatile = v; dropped = Some why }
 
 -- a change is made, and the letter tells of it
-abbrev pub makes : Change → ℕ × List ℕ → Reaction
-makes c letter = record { grown = c ∷ []; letters = letter ∷ []; volatile = tt; dropped = None }
+abbrev pub makes : Change → ℕ × List ℕ → Volatile → Reaction
+makes c letter v = record { grown = Some c; letters = letter ∷ []; volatile = v; dropped = None }
 
 -- a change that was made before is told of again
-abbrev pub tells_again : Option (ℕ × List ℕ) → Reaction
-tells_again letter = record { grown = []; letters = option_to_list letter; volatile = tt; dropped = None }
+abbrev pub tells_again : Option (ℕ × List ℕ) → Volatile → Reaction
+tells_again letter v = record { grown = None; letters = option_to_list letter; volatile = v; dropped = None }
+
+-- the changes of a reaction, as a list
+abbrev pub changes_of : Reaction → List Change
+changes_of r = option_to_list r.grown
 
 -- the peers and their keys
 abbrev pub key_of_row : PeerRow → ℕ × List ℕ
@@ -59,43 +115,49 @@ key_of_row p = (p.id, p.key)
 abbrev pub keys_of : Settings → List (ℕ × List ℕ)
 keys_of s = map key_of_row s.peers
 
--- A deal of a peer. A fresh one makes this change, which is answered; the last one is answered as its
--- change was; nothing comes of any other.
-abbrev pub by_standing : Standing → Settings → List Change → ℕ → ℕ → List ℕ → Change → Reaction
-by_standing Fresh settings h p number key c = makes c (reply settings key p number c)
-by_standing Repeat settings h p number key c = tells_again (option_map (reply settings key p number) (slice_get h (row (state h) p).last.change))
-by_standing Stale settings h p number key c = quiet
-by_standing Gap settings h p number key c = quiet
+-- A deal of a peer, of a kind that is served. It is treated by its number before its kind: a fresh one
+-- makes this change, which is answered; the last one is answered as its change was; nothing comes of any
+-- other.
+abbrev pub by_standing : Standing → Settings → Situation → ℕ → ℕ → List ℕ → Change → Reaction
+by_standing Fresh settings n p number key c = makes c (reply settings key p number c) n.volatile
+by_standing Repeat settings n p number key c = tells_again (option_map (reply settings key p number) (slice_get n.history (row (state n.history) p).last.change)) n.volatile
+by_standing Stale settings n p number key c = quiet n.volatile
+by_standing Gap settings n p number key c = quiet n.volatile
 
-abbrev pub on_deal : Settings → List Change → ℕ → ℕ → List ℕ → Change → Reaction
-on_deal settings h p number key c = by_standing (standing (row (state h) p).last.number number) settings h p number key c
+abbrev pub on_deal : Settings → Situation → ℕ → ℕ → List ℕ → Deal → Reaction
+on_deal settings n p number key deal =
+    by_standing (standing (row (state n.history) p).last.number number) settings n p number key (judged_at settings n.history p number deal)
 
-abbrev pub on_store : Settings → List Change → ℕ → ℕ → List ℕ → List ℕ → List ℕ → Reaction
-on_store settings h p number key name bytes =
-    on_deal settings h p number key (judged_store settings (state h) p number name bytes (meets_others h name bytes))
-
--- A frame of a peer. So far a Store without slots is the one kind that is served.
-abbrev pub on_frame : Settings → List Change → ℕ → ℕ → List ℕ → Frame → Reaction
-on_frame settings h p number key (Store name [] bytes) = on_store settings h p number key name bytes
-on_frame settings h p number key _ = quiet
+-- A frame of a peer. So far nothing comes of one that asks for no deal of a kind that is served.
+abbrev pub on_frame : Settings → Situation → ℕ → ℕ → List ℕ → Frame → Reaction
+on_frame settings n p number key frame = elim (deal_of frame) [ None ↦ quiet n.volatile | Some d ↦ on_deal settings n p number key d ]
 
 -- A datagram that is read: its sender is a peer, and has a key.
-abbrev pub on_keyed : Settings → List Change → Incoming → Option (List ℕ) → Reaction
-on_keyed settings h i None = quiet
-on_keyed settings h i (Some key) = on_frame settings h i.from i.number key i.frame
+abbrev pub on_keyed : Settings → Situation → Incoming → Option (List ℕ) → Reaction
+on_keyed settings n i None = quiet n.volatile
+on_keyed settings n i (Some key) = on_frame settings n i.from i.number key i.frame
 
-abbrev pub on_read : Settings → List Change → Result Incoming Dropped → Reaction
-on_read settings h (Err why) = drops why
-on_read settings h (Ok i) = on_keyed settings h i (key_in (keys_of settings) i.from)
+abbrev pub on_read : Settings → Situation → Result Incoming Dropped → Reaction
+on_read settings n (Err why) = drops why n.volatile
+on_read settings n (Ok i) = on_keyed settings n i (key_in (keys_of settings) i.from)
 
 -- a history that has settings; each valid one has
-abbrev pub on_datagram : Option Settings → List Change → List ℕ → Reaction
-on_datagram None h x = quiet
-on_datagram (Some settings) h x = on_read settings h (read_frame settings.id (keys_of settings) x)
+abbrev pub on_datagram : Option Settings → Situation → List ℕ → Reaction
+on_datagram None n x = quiet n.volatile
+on_datagram (Some settings) n x = on_read settings n (read_frame settings.id (keys_of settings) x)
 
+-- So far nothing comes of a tick but that the peer's clock goes on, and nothing of what commands ask.
 abbrev pub react : Situation → Input → Reaction
-react n (Datagram x) = on_datagram (state n.history).settings n.history x
+react n (Datagram x) = on_datagram (state n.history).settings n x
+react n (Tick p) = quiet (ticked p n.volatile)
+react n (Keep name bytes) = quiet n.volatile
+react n (Snap note) = quiet n.volatile
+react n (Forget number) = quiet n.volatile
+
+-- The node after a reaction. What a change does to what a restart forgets is said here alone.
+abbrev pub settled : Situation → Reaction → Situation
+settled n r = record { history = n.history ++ changes_of r; volatile = by_changes (state n.history) r.grown r.volatile }
 
 -- the node after an input
 abbrev pub next : Situation → Input → Situation
-next n x = record { history = n.history ++ (react n x).grown; volatile = (react n x).volatile }
+next n x = settled n (react n x)

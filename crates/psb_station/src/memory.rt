@@ -13,14 +13,17 @@ use crate::{Disk, Failed, LONGEST_DISK, Station};
 use calls::{Plan, is_due};
 use psb_bytes::Memory;
 use std::alloc::{AllocError, Global};
+use tears::{Syncs, Tears, part_of};
 
 mod calls;
+mod tears;
 
 pub use calls::StationCall;
+pub use tears::TornWrite;
 
 /// A station in memory. It keeps what was done, and fails at the calls of the given numbers, counted
 /// from 1 over all its methods, and at those that were planned by their kind. A call whose own growth
-/// is refused fails too.
+/// is refused fails too. A write that fails puts down nothing, but where `tear` was told otherwise.
 #[derive(Drop)]
 pub struct MemStation {
     alloc: Global,
@@ -36,6 +39,8 @@ pub struct MemStation {
     /// How many calls were made.
     calls: u64,
     plan: Plan,
+    tears: Tears,
+    syncs: Syncs,
     heard: Vec<Answered>,
     /// Whether each answer could be kept.
     whole: bool,
@@ -53,7 +58,7 @@ pub struct MemStation {
 }
 
 impl MemStation {
-    ghost use Rattle.psb_station.specs.Memory.{view_of, IsFresh, IsGiven, Plans, change_of, calls_made, left_image, may_leave_at};
+    ghost use Rattle.psb_station.specs.Memory.{view_of, IsFresh, IsGiven, Plans, Tears_writes, Settles_until_a_fault, change_of, calls_made, left_image, may_leave_at};
 
     /// A station whose disk reads `image`, whose link has these arrivals, each of at most 65,507 bytes,
     /// and whose clock gives these numbers, the last one again at the end, and 0 where there is none.
@@ -80,6 +85,8 @@ impl MemStation {
             faults,
             calls: 0,
             plan: Plan::new(alloc),
+            tears: Tears::new(alloc),
+            syncs: Syncs::Each,
             heard: Vec::new(alloc),
             whole: true,
             sent: Vec::new(alloc),
@@ -99,6 +106,28 @@ impl MemStation {
         ensures { Plans self.old self.new }
     {
         self.plan.faults = faults;
+    }
+
+    /// Has the writes of these numbers, counted from here, fail after they put down a part of what they
+    /// were given, and no other that was given here before. The part is read then, and is unsynced. A
+    /// write that fails for another reason puts down nothing.
+    pub fn tear(&mut self, writes: Vec<TornWrite>)
+        ensures plans { Plans self.old self.new }
+        ensures torn { Tears_writes writes.items self.new }
+    {
+        self.tears = Tears {
+            torn: writes,
+            writes: 0,
+        };
+    }
+
+    /// Has each sync after the next one that fails fail too, and settle nothing, as on a disk that
+    /// forgot what it could not put down.
+    pub fn settle_until_a_fault(&mut self)
+        ensures plans { Plans self.old self.new }
+        ensures settled { Settles_until_a_fault self.new }
+    {
+        self.syncs = Syncs::UntilOneFails;
     }
 
     /// The number among all calls of a `write_at`, a `cut` or a `sync`, counted from 1 among these three,
@@ -141,8 +170,9 @@ impl MemStation {
     }
 
     /// An image that a crash may leave at a call, counted from 1 as in the list of those that fail. A
-    /// change by that call is unsynced then, and a sync by it has not happened. Outcome 0 leaves nothing
-    /// that is unsynced, 1 leaves all of it, 2 fills each range that is unsynced with the byte 0xff.
+    /// change by that call, or what it put down before it failed, is unsynced then, and a sync by it
+    /// has not happened. Outcome 0 leaves nothing that is unsynced, 1 leaves all of it, 2 fills each
+    /// range that is unsynced with the byte 0xff.
     pub fn left(&self, call: u64, outcome: u8) -> Result<Vec<u8>, Memory>
         requires made { (1 ≤ call) × (call ≤ calls_made self.now) }
         requires outcome { outcome ≤ 2 }
@@ -242,6 +272,7 @@ impl Disk for MemStation {
     }
 
     fn write_at(&mut self, at: u64, from: &[u8]) -> Result<(), Failed> {
+        let torn = self.tears.next();
         if is_due(
             &self.faults,
             &mut self.calls,
@@ -251,8 +282,12 @@ impl Disk for MemStation {
         {
             return Err(write_fault(&mut self.disk_faults, &mut self.write_faults));
         }
-        match self.disk.write(self.calls, self.told, at, from) {
-            Ok(()) => Ok(()),
+        let part = part_of(torn, from.len());
+        match self.disk.write(self.calls, self.told, at, &from[..part]) {
+            Ok(()) => match torn {
+                None => Ok(()),
+                Some(_) => Err(write_fault(&mut self.disk_faults, &mut self.write_faults)),
+            },
             Err(_) => Err(write_fault(&mut self.disk_faults, &mut self.write_faults)),
         }
     }
@@ -273,17 +308,23 @@ impl Disk for MemStation {
     }
 
     fn sync(&mut self) -> Result<(), Failed> {
+        let settle = self.syncs.settle();
         if is_due(
             &self.faults,
             &mut self.calls,
             &mut self.plan,
             StationCall::Sync,
-        ) {
+        ) || !settle
+        {
+            self.syncs = self.syncs.after_fault();
             return Err(write_fault(&mut self.disk_faults, &mut self.write_faults));
         }
         match self.disk.sync(self.calls, self.told) {
             Ok(()) => Ok(()),
-            Err(_) => Err(write_fault(&mut self.disk_faults, &mut self.write_faults)),
+            Err(_) => {
+                self.syncs = self.syncs.after_fault();
+                Err(write_fault(&mut self.disk_faults, &mut self.write_faults))
+            }
         }
     }
 }

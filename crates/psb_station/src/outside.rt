@@ -28,7 +28,8 @@ pub trait Disk {
         ensures length { IfOk result (λ n. IfSome (view self.new).bytes (λ b. n ≡ length b)) }
         ensures small { IfOk result (λ n. n ≤ 2 ^ 62) }
         ensures looks { Looks (view self.old) (view self.new) }
-        ensures cause { OnErr result (Rose (view self.old).disk_faults (view self.new).disk_faults) };
+        ensures cause { OnErr result (Rose (view self.old).disk_faults (view self.new).disk_faults) }
+        ensures steady { OnOk result ((view self.new).disk_faults ≡ (view self.old).disk_faults) };
 
     /// Fills as many bytes as stand from `at` to the end, and answers their number.
     fn read(&mut self, at: u64, into: &mut [u8]) -> Result<usize, Failed>
@@ -37,7 +38,8 @@ pub trait Disk {
         ensures bytes { IfOk result (λ n. IfSome (view self.new).bytes (λ b.
             (n ≡ min (length into.new) (length b - at)) × (take n into.new ≡ take n (drop at b)))) }
         ensures looks { Looks (view self.old) (view self.new) }
-        ensures cause { OnErr result (Rose (view self.old).disk_faults (view self.new).disk_faults) };
+        ensures cause { OnErr result (Rose (view self.old).disk_faults (view self.new).disk_faults) }
+        ensures steady { OnOk result ((view self.new).disk_faults ≡ (view self.old).disk_faults) };
 
     /// Writes over what is there and past the end. Until a sync a crash may leave any bytes in the range.
     fn write_at(&mut self, at: u64, from: &[u8]) -> Result<(), Failed>
@@ -48,6 +50,7 @@ pub trait Disk {
         ensures small { OnOk result (at + length from.now ≤ 2 ^ 62) }
         ensures writes { Writes (Torn at (length from.now)) (view self.old) (view self.new) }
         ensures cause { OnErr result (Rose (view self.old).disk_faults (view self.new).disk_faults) }
+        ensures steady { OnOk result ((view self.new).disk_faults ≡ (view self.old).disk_faults) }
         ensures write_cause { OnErr result (Rose (view self.old).write_faults (view self.new).write_faults) };
 
     /// Cuts the disk to a length.
@@ -57,6 +60,7 @@ pub trait Disk {
         ensures bytes { OnOk result (Tells_bytes (view self.new) → (view self.new).bytes ≡ option_map (take len) (view self.old).bytes) }
         ensures writes { Writes (CutShort len) (view self.old) (view self.new) }
         ensures cause { OnErr result (Rose (view self.old).disk_faults (view self.new).disk_faults) }
+        ensures steady { OnOk result ((view self.new).disk_faults ≡ (view self.old).disk_faults) }
         ensures write_cause { OnErr result (Rose (view self.old).write_faults (view self.new).write_faults) };
 
     /// After it a crash leaves what a read gives.
@@ -66,6 +70,7 @@ pub trait Disk {
         ensures durable { OnOk result (IfSome (view self.new).bytes (λ b. Only b (view self.new))) }
         ensures writes { Writes Same (view self.old) (view self.new) }
         ensures cause { OnErr result (Rose (view self.old).disk_faults (view self.new).disk_faults) }
+        ensures steady { OnOk result ((view self.new).disk_faults ≡ (view self.old).disk_faults) }
         ensures write_cause { OnErr result (Rose (view self.old).write_faults (view self.new).write_faults) };
 
     /// This moment is one of those since an earlier one.
@@ -98,7 +103,8 @@ pub trait Station: Disk {
         ensures joined { OnOk result (Grows (Self.view self.old).outside.joined (Self.view self.new).outside.joined ((id, address.now) ∷ [])) }
         ensures not_joined { OnErr result (Grows (Self.view self.old).outside.joined (Self.view self.new).outside.joined []) }
         ensures heard { Grows (Self.view self.old).outside.heard (Self.view self.new).outside.heard ((if is_ok result then Joined else Fault) ∷ []) }
-        ensures cause { OnErr result (Rose (Self.view self.old).outside.link_faults (Self.view self.new).outside.link_faults) };
+        ensures cause { OnErr result (Rose (Self.view self.old).outside.link_faults (Self.view self.new).outside.link_faults) }
+        ensures steady { OnOk result ((Self.view self.new).outside.link_faults ≡ (Self.view self.old).outside.link_faults) };
 
     /// A frame that came, or none where nothing is ready.
     fn recv(&mut self, into: &mut [u8]) -> Result<Option<usize>, Failed>
@@ -114,7 +120,8 @@ pub trait Station: Disk {
         ensures frame { IfOk result (λ got. IfSome got (λ n. Grows (Self.view self.old).outside.heard (Self.view self.new).outside.heard (Frame (take n into.new) ∷ []))) }
         ensures nothing { IfOk result (λ got. IfNone got (Grows (Self.view self.old).outside.heard (Self.view self.new).outside.heard (Nothing ∷ []))) }
         ensures fault { OnErr result (Grows (Self.view self.old).outside.heard (Self.view self.new).outside.heard (Fault ∷ [])) }
-        ensures cause { OnErr result (Rose (Self.view self.old).outside.link_faults (Self.view self.new).outside.link_faults) };
+        ensures cause { OnErr result (Rose (Self.view self.old).outside.link_faults (Self.view self.new).outside.link_faults) }
+        ensures steady { OnOk result ((Self.view self.new).outside.link_faults ≡ (Self.view self.old).outside.link_faults) };
 
     /// Sends a frame.
     fn send(&mut self, to: u32, frame: &[u8]) -> Result<(), Failed>
@@ -127,7 +134,8 @@ pub trait Station: Disk {
         ensures sent { OnOk result (Grows (Self.view self.old).outside.sent (Self.view self.new).outside.sent ((to, frame.now) ∷ [])) }
         ensures not_sent { OnErr result (Grows (Self.view self.old).outside.sent (Self.view self.new).outside.sent []) }
         ensures counts { (Self.view self.old).outside.send_faults ≤ (Self.view self.new).outside.send_faults }
-        ensures cause { OnErr result (Rose (Self.view self.old).outside.send_faults (Self.view self.new).outside.send_faults) };
+        ensures cause { OnErr result (Rose (Self.view self.old).outside.send_faults (Self.view self.new).outside.send_faults) }
+        ensures steady { OnOk result ((Self.view self.new).outside.send_faults ≡ (Self.view self.old).outside.send_faults) };
 
     /// Says a text.
     fn say(&mut self, text: &[u8]) -> Result<(), Failed>
@@ -140,7 +148,8 @@ pub trait Station: Disk {
         ensures said { OnOk result (Grows (Self.view self.old).outside.said (Self.view self.new).outside.said text.now) }
         ensures not_said { OnErr result (Grows (Self.view self.old).outside.said (Self.view self.new).outside.said []) }
         ensures counts { (Self.view self.old).outside.say_faults ≤ (Self.view self.new).outside.say_faults }
-        ensures cause { OnErr result (Rose (Self.view self.old).outside.say_faults (Self.view self.new).outside.say_faults) };
+        ensures cause { OnErr result (Rose (Self.view self.old).outside.say_faults (Self.view self.new).outside.say_faults) }
+        ensures steady { OnOk result ((Self.view self.new).outside.say_faults ≡ (Self.view self.old).outside.say_faults) };
 
     /// Whole seconds, which may go back.
     fn now(&mut self) -> u64

@@ -1,7 +1,7 @@
 ghost use Rattle.std.specs.Prelude.{◌≤◌, length, vec_len, All, IfOk};
 ghost use Rattle.psb_station.specs.Memory.{calls_made};
 
-use crate::{Disk, Failed, MemStation, Planned, Station, StationCall};
+use crate::{Disk, Failed, MemStation, Planned, Station, StationCall, TornWrite};
 use psb_bytes::Memory;
 use std::alloc::{AllocError, Global};
 use std::test::Fail;
@@ -218,5 +218,55 @@ fn a_crash_leaves_nothing_all_or_fillings_of_what_is_unsynced(rt: HostRuntime) -
         assert_eq!(rt; all.as_slice(), want[1], "all at {i}");
         assert_eq!(rt; filled.as_slice(), want[2], "filled at {i}");
     }
+    Ok(())
+}
+
+#[test]
+fn a_write_that_is_torn_puts_down_a_part_or_all(rt: HostRuntime) -> Result<(), Fail> {
+    let alloc = rt.alloc();
+    let mut station = station(alloc, Vec::new(alloc))?;
+    let part = TornWrite { number: 1, put: 2 };
+    let whole = TornWrite { number: 3, put: 9 };
+    station.tear(vec![in alloc; part, whole]?);
+    assert_eq!(rt; station.write_at(0, &[9, 8, 7, 6]), Err(Failed));
+    assert_eq!(rt; station.image(), [9, 8, 3].as_slice());
+    assert_eq!(rt; station.write_at(2, &[4]), Ok(()));
+    assert_eq!(rt; station.write_at(1, &[5, 5, 5]), Err(Failed));
+    assert_eq!(rt; station.image(), [9, 5, 5, 5].as_slice());
+    let wants: [[&[u8]; 3]; 3] = [
+        [&[1, 2, 3], &[9, 8, 3], &[255, 255, 3]],
+        [&[1, 2, 3], &[9, 8, 4], &[255, 255, 255]],
+        [&[1, 2, 3], &[9, 5, 5, 5], &[255, 255, 255, 255]],
+    ];
+    assert_eq!(rt; station.call_count(), 3);
+    for (i, want) in wants.iter().enumerate() {
+        let [nothing, all, filled] = leaves(&station, i as u64 + 1)?;
+        assert_eq!(rt; nothing.as_slice(), want[0], "nothing at {i}");
+        assert_eq!(rt; all.as_slice(), want[1], "all at {i}");
+        assert_eq!(rt; filled.as_slice(), want[2], "filled at {i}");
+    }
+    Ok(())
+}
+
+/// A write, two syncs, and one call more: which of the syncs succeed.
+fn write_and_sync_twice(station: &mut MemStation) -> Result<[bool; 2], Failed> {
+    station.write_at(0, &[9])?;
+    let synced = [station.sync().is_ok(), station.sync().is_ok()];
+    let _ = station.now();
+    Ok(synced)
+}
+
+#[test]
+fn a_sync_after_a_failed_one_settles_or_fails_too(rt: HostRuntime) -> Result<(), Fail> {
+    let alloc = rt.alloc();
+    let mut settles = station(alloc, vec![in alloc; 2]?)?;
+    assert_eq!(rt; write_and_sync_twice(&mut settles)?, [false, true]);
+    assert_eq!(rt; settles.call_count(), 4);
+    assert_eq!(rt; settles.left(4, 0)?.as_slice(), [9, 2, 3].as_slice());
+    let mut loses = station(alloc, vec![in alloc; 2]?)?;
+    loses.settle_until_a_fault();
+    assert_eq!(rt; write_and_sync_twice(&mut loses)?, [false, false]);
+    assert_eq!(rt; loses.call_count(), 4);
+    assert_eq!(rt; loses.left(4, 0)?.as_slice(), [1, 2, 3].as_slice());
     Ok(())
 }

@@ -1,5 +1,5 @@
 use Rattle.std.proofs.Common.{◌≡◌, arith}
-use Rattle.psb_cases.proofs.NumberLemmas.{decimal_fixed}
+use Rattle.backup_cli.proofs.WordLemmas.{decimal_fixed}
 use Rattle.psb_cases.proofs.words.read_ordinal.Goals as goal
 
 pub returns-then-number-eq0-clause-none : goal.returns-then-number-eq0-clause-none

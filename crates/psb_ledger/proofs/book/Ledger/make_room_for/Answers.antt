@@ -3,7 +3,7 @@ use Rattle.std.proofs.Common.{◌≤◌, ◌∙◌, ap, sym, subst, set, arith}
 use Rattle.std.specs.Prelude.{◌==◌, position}
 use Rattle.std.proofs.lemmas.Bool.{false≢true}
 use Rattle.psb_model.specs.Words.{units}
-use Rattle.psb_ledger.specs.View.{AccountView, LedgerView, IsSound, HasFreshRoom}
+use Rattle.psb_ledger.specs.View.{AccountView, LedgerView, HasFreshRoom, IsSound}
 use Rattle.psb_ledger.proofs.Places.{on_ok_both, found_here, found_after, found_account, none}
 use Rattle.psb_ledger.proofs.Sound.{same_rows, same_state}
 use Rattle.psb_ledger.proofs.book.Ledger.make_room_for.Goals as goal

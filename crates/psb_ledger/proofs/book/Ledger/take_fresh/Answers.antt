@@ -28,10 +28,10 @@ take_fresh-requires-clause-absent c =
     let here = can_take c.self.inside c.args.self.now c.args.x c.in-Some.at c.units_of-u.result c.index_mut-account.result.now c.self.view_is c.self.invariant c.in-Some.ensures.place c.index_mut-account.ensures.value (c.in-Some.ensures.when.1 refl) c.requires.grammar c.requires.room c.units_of-u.ensures in
     here.absent
 
-pub take_fresh-requires-clause-below : goal.take_fresh-requires-clause-below
-take_fresh-requires-clause-below c =
+pub take_fresh-requires-clause-absent_slots : goal.take_fresh-requires-clause-absent_slots
+take_fresh-requires-clause-absent_slots c =
     let here = can_take c.self.inside c.args.self.now c.args.x c.in-Some.at c.units_of-u.result c.index_mut-account.result.now c.self.view_is c.self.invariant c.in-Some.ensures.place c.index_mut-account.ensures.value (c.in-Some.ensures.when.1 refl) c.requires.grammar c.requires.room c.units_of-u.ensures in
-    here.below
+    here.free
 
 pub invariant_of-self : goal.invariant_of-self
 invariant_of-self c =

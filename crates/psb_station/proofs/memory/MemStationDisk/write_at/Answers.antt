@@ -1,9 +1,8 @@
-use Rattle.std.proofs.Common.{◌≡◌, ◌+◌, ◌++◌, [], ◌∷◌, List, ℕ, length, refl, sym, ap, subst, arith}
-use Rattle.psb_station.specs.Calls.{Torn}
+use Rattle.std.proofs.Common.{◌≡◌, ◌+◌, ◌≤◌, ◌++◌, [], ◌∷◌, List, ℕ, length, refl, sym, ap, subst, arith, length-take}
 use Rattle.psb_station.specs.Past.{ToldBy}
 use Rattle.psb_station.specs.declared.past.Past.{Past}
 use Rattle.psb_station.specs.declared.past.Call.TheVariants.{Write}
-use Rattle.psb_station.proofs.Kept.{torn_same, same_time, kept_images, kept_else, kept_keeps, kept_moment, refused_images, refused_since, pushed_ordered}
+use Rattle.psb_station.proofs.Kept.{torn_same, torn_longer, same_time, kept_images, kept_else, kept_keeps, kept_moment, refused_images, refused_since, pushed_ordered}
 use Rattle.psb_station.proofs.memory.MemStationDisk.write_at.Goals as goal
 
 pub returns-then-is_due-clause-writes : goal.returns-then-is_due-clause-writes
@@ -36,19 +35,46 @@ returns-in-Err-clause-writes c =
       tells = λ tells. tells;
     }
 
-pub invariant_of-self-in-Ok-clause-ordered : goal.invariant_of-self-in-Ok-clause-ordered
-invariant_of-self-in-Ok-clause-ordered c =
+pub invariant_of-self-in-None-clause-ordered : goal.invariant_of-self-in-None-clause-ordered
+invariant_of-self-in-None-clause-ordered c =
     let r : Past = record { call = Write c.args.at c.in-Ok.ensures.ok.0; number = c.is_due.new.calls; told = c.args.self.now.told } in
     pushed_ordered c.args.self.now.told c.args.self.now.disk.past.items c.write.new.self.past.items r c.in-Ok.ensures.ok.2 refl c.args.self.now.ordered
 
-pub returns-in-Ok-clause-writes : goal.returns-in-Ok-clause-writes
-returns-in-Ok-clause-writes c =
+pub returns-in-None-clause-writes : goal.returns-in-None-clause-writes
+returns-in-None-clause-writes c =
     let d = c.args.self.now.disk in
     let e = c.write.new.self in
     let r : Past = record { call = Write c.args.at c.in-Ok.ensures.ok.0; number = c.is_due.new.calls; told = c.args.self.now.told } in
     let is : e.past.items ≡ d.past.items ++ r ∷ [] = c.in-Ok.ensures.ok.2 in
+    let part : length c.in-Ok.ensures.ok.0.items ≤ length c.args.from.now = omega (arith, ap (λ (l : List ℕ). length l) c.in-Ok.ensures.ok.1, length-take c.part_of-part.result c.args.from.now) in
     record {
-      images = λ i left. let from = kept_images d e r c.in-Ok.ensures.start is i left in (from.0, from.1, subst (λ (l : List ℕ). Torn c.args.at (length l) from.0 i) c.in-Ok.ensures.ok.1 from.2);
+      images = λ i left. let from = kept_images d e r c.in-Ok.ensures.start is i left in (from.0, from.1, torn_longer c.args.at (length c.in-Ok.ensures.ok.0.items) (length c.args.from.now) from.0 i part from.2);
+      time = record {
+        later = kept_moment d e r c.args.self.now.told is;
+        nothing_else = λ t i k le left. kept_else d e r t i k c.in-Ok.ensures.start is left;
+        keeps = λ t i k le left. kept_keeps d e r t i k c.in-Ok.ensures.start is left;
+      };
+      told = refl;
+      disk_faults = omega arith;
+      write_faults = omega arith;
+      outside = refl;
+      tells = λ tells. tells;
+    }
+
+pub invariant_of-self-in-Some-clause-ordered : goal.invariant_of-self-in-Some-clause-ordered
+invariant_of-self-in-Some-clause-ordered c =
+    let r : Past = record { call = Write c.args.at c.in-Ok.ensures.ok.0; number = c.is_due.new.calls; told = c.args.self.now.told } in
+    pushed_ordered c.args.self.now.told c.args.self.now.disk.past.items c.write.new.self.past.items r c.in-Ok.ensures.ok.2 refl c.args.self.now.ordered
+
+pub returns-in-Some-clause-writes : goal.returns-in-Some-clause-writes
+returns-in-Some-clause-writes c =
+    let d = c.args.self.now.disk in
+    let e = c.write.new.self in
+    let r : Past = record { call = Write c.args.at c.in-Ok.ensures.ok.0; number = c.is_due.new.calls; told = c.args.self.now.told } in
+    let is : e.past.items ≡ d.past.items ++ r ∷ [] = c.in-Ok.ensures.ok.2 in
+    let part : length c.in-Ok.ensures.ok.0.items ≤ length c.args.from.now = omega (arith, ap (λ (l : List ℕ). length l) c.in-Ok.ensures.ok.1, length-take c.part_of-part.result c.args.from.now) in
+    record {
+      images = λ i left. let from = kept_images d e r c.in-Ok.ensures.start is i left in (from.0, from.1, torn_longer c.args.at (length c.in-Ok.ensures.ok.0.items) (length c.args.from.now) from.0 i part from.2);
       time = record {
         later = kept_moment d e r c.args.self.now.told is;
         nothing_else = λ t i k le left. kept_else d e r t i k c.in-Ok.ensures.start is left;

@@ -1,0 +1,280 @@
+-- What a history and the same less bodies that were given up have in common.
+use Rattle.std.proofs.Common.{◌≡◌, ◌⊎◌, inl, inr, ⊎_elim, ℕ, zero, suc, ◌+◌, Bool, true, false, not, ◌||◌, ◌&&◌, ◌==◌, cond, List, [], ◌∷◌, ◌++◌, slice_get, is_some, Option, Some, None, refl, sym, ◌∙◌, ap, subst}
+use Rattle.std.specs.List.{list_any}
+use Rattle.std.proofs.lemmas.Bool.{and_parts, false≢true}
+use Rattle.psb_bytes.specs.declared.ids.Object.TheVariants.{Slot}
+use Rattle.psb_station.proofs.Spans.{same_some}
+use Rattle.psb_model.specs.Words.{name_eq, has_so}
+use Rattle.psb_model.specs.State.{State, nothing_yet, row, in_key, is_held}
+use Rattle.psb_model.specs.Heads.{head_of, body_of}
+use Rattle.psb_model.specs.Conditions.{peer_of, is_begun, is_direct, allowed}
+use Rattle.psb_model.specs.Effects.{after}
+use Rattle.psb_model.specs.History.{state, state_from}
+use Rattle.psb_model.specs.Needed.{brings, slots_given, brings_name, gives_slot, needs_name, needs_slot, is_needed_by, body_is_right, is_body, bodies_right, IsValid}
+use Rattle.psb_model.specs.declared.change.Change.{Change}
+use Rattle.psb_model.specs.declared.change.Change.TheVariants.{Kept, TookFresh, TookSwap, LetGoBack, Replaced, Settled}
+use Rattle.psb_model.proofs.ByObject.{by_cases}
+use Rattle.psb_model.proofs.Own.{name_same}
+use Rattle.psb_model.proofs.Built.{valid_snoc}
+use Rattle.psb_machine.specs.Deals.{last_bringing, last_brought, are_others, meets_others}
+use Rattle.node_core.specs.declared.bodies.Bodies.{Bodies}
+use Rattle.node_core.specs.Bodies.{brought_from, KnowsBodies}
+use Rattle.node_core.specs.Less.{without_body, IsLessOf, IsLess}
+use Rattle.node_core.proofs.Brought.{or_this, bytes_of}
+use Rattle.node_core.proofs.Reading.{next_of}
+
+-- ---- one change
+
+-- what reads no body part is the same
+pub same_in : {A : Type 0} (f : Change → A) → ((c : Change) → f (without_body c) ≡ f c) → (c d : Change) → IsLessOf c d → f d ≡ f c
+same_in f law c d is = ⊎_elim (λ e. ap f e) (λ e. ap f e ∙ law c) is
+
+pub head_without : (c : Change) → head_of (without_body c) ≡ head_of c
+head_without (Kept name len new body) = refl
+head_without (TookFresh p deal name first len new body) = refl
+head_without (TookSwap p deal name slots len new body) = refl
+head_without (LetGoBack p deal name slots body) = refl
+head_without (Replaced p deal slot place home body) = refl
+head_without (Settled p deal slots body) = refl
+head_without _ = refl
+
+pub brings_without : (c : Change) → brings (without_body c) ≡ brings c
+brings_without (Kept name len new body) = refl
+brings_without (TookFresh p deal name first len new body) = refl
+brings_without (TookSwap p deal name slots len new body) = refl
+brings_without (LetGoBack p deal name slots body) = refl
+brings_without (Replaced p deal slot place home body) = refl
+brings_without (Settled p deal slots body) = refl
+brings_without _ = refl
+
+pub slots_without : (c : Change) → slots_given (without_body c) ≡ slots_given c
+slots_without (Kept name len new body) = refl
+slots_without (TookFresh p deal name first len new body) = refl
+slots_without (TookSwap p deal name slots len new body) = refl
+slots_without (LetGoBack p deal name slots body) = refl
+slots_without (Replaced p deal slot place home body) = refl
+slots_without (Settled p deal slots body) = refl
+slots_without _ = refl
+
+pub peer_without : (c : Change) → peer_of (without_body c) ≡ peer_of c
+peer_without (Kept name len new body) = refl
+peer_without (TookFresh p deal name first len new body) = refl
+peer_without (TookSwap p deal name slots len new body) = refl
+peer_without (LetGoBack p deal name slots body) = refl
+peer_without (Replaced p deal slot place home body) = refl
+peer_without (Settled p deal slots body) = refl
+peer_without _ = refl
+
+pub begun_without : (c : Change) → is_begun (without_body c) ≡ is_begun c
+begun_without (Kept name len new body) = refl
+begun_without (TookFresh p deal name first len new body) = refl
+begun_without (TookSwap p deal name slots len new body) = refl
+begun_without (LetGoBack p deal name slots body) = refl
+begun_without (Replaced p deal slot place home body) = refl
+begun_without (Settled p deal slots body) = refl
+begun_without _ = refl
+
+pub after_without : (s : State) (c : Change) → after s (without_body c) ≡ after s c
+after_without s (Kept name len new body) = refl
+after_without s (TookFresh p deal name first len new body) = refl
+after_without s (TookSwap p deal name slots len new body) = refl
+after_without s (LetGoBack p deal name slots body) = refl
+after_without s (Replaced p deal slot place home body) = refl
+after_without s (Settled p deal slots body) = refl
+after_without s _ = refl
+
+-- a body that is there was not given up
+pub body_without : (c : Change) → is_some (body_of (without_body c)) ≡ true → body_of (without_body c) ≡ body_of c
+body_without (Kept name len new body) there = absurd (false≢true there)
+body_without (TookFresh p deal name first len new body) there = absurd (false≢true there)
+body_without (TookSwap p deal name slots len new body) there = absurd (false≢true there)
+body_without (LetGoBack p deal name slots body) there = absurd (false≢true there)
+body_without (Replaced p deal slot place home body) there = absurd (false≢true there)
+body_without (Settled p deal slots body) there = absurd (false≢true there)
+body_without _ there = refl
+
+pub brings_name_without : (name : List ℕ) (c : Change) → brings_name name (without_body c) ≡ brings_name name c
+brings_name_without name c = ap (λ (o : Option (List ℕ)). elim o [ None ↦ false | Some n ↦ name_eq n name ]) (brings_without c)
+
+pub gives_slot_without : (p n : ℕ) (c : Change) → gives_slot p n (without_body c) ≡ gives_slot p n c
+gives_slot_without p n c =
+    ap (λ (o : Option ℕ). elim o [ None ↦ false | Some q ↦ q == p && list_any (λ m. m == n) (slots_given (without_body c)) ]) (peer_without c)
+    ∙ ap (λ (l : List ℕ). elim (peer_of c) [ None ↦ false | Some q ↦ q == p && list_any (λ m. m == n) l ]) (slots_without c)
+
+-- it has the head of the history's change
+pub head_less : (c d : Change) → IsLessOf c d → head_of d ≡ head_of c
+head_less c d is = same_in head_of head_without c d is
+
+-- and where its body is there, that change's
+pub body_less : (c d : Change) → IsLessOf c d → is_some (body_of d) ≡ true → body_of d ≡ body_of c
+body_less c d is there =
+    ⊎_elim (λ e. ap body_of e)
+    (λ e. ap body_of e ∙ body_without c (ap (λ (x : Change). is_some (body_of x)) (sym e) ∙ there)) is
+
+pub bytes_less : (c d : Change) (bytes : List ℕ) → IsLessOf c d → body_of d ≡ Some bytes → body_of c ≡ Some bytes
+bytes_less c d bytes is here = sym (body_less c d is (ap (λ (o : Option (List ℕ)). is_some o) here)) ∙ here
+
+-- ---- histories
+
+-- a history is the same less no body
+pub less_all : (h : List Change) → IsLess h h
+less_all [] = tt
+less_all (c ∷ cs) = (inl refl, less_all cs)
+
+pub less_append : (h less more rest : List Change) → IsLess h less → IsLess more rest → IsLess (h ++ more) (less ++ rest)
+less_append [] [] more rest is also = also
+less_append [] (d ∷ ds) more rest is also = absurd is
+less_append (c ∷ cs) [] more rest is also = absurd is
+less_append (c ∷ cs) (d ∷ ds) more rest is also = (is.0, less_append cs ds more rest is.1 also)
+
+-- what stands at the place of a change
+pub less_at : (h less : List Change) (k : ℕ) (c : Change) → IsLess h less → slice_get h k ≡ Some c → (d : Change) × (slice_get less k ≡ Some d) × IsLessOf c d
+less_at [] less k c is there = absurd (cc)
+less_at (x ∷ h) [] k c is there = absurd is
+less_at (x ∷ h) (d ∷ ds) zero c is there = (d, refl, subst (λ (y : Change). IsLessOf y d) (same_some (Some x) x c refl there) is.0)
+less_at (x ∷ h) (d ∷ ds) (suc k) c is there = less_at h ds k c is.1 there
+
+state_from_less : (s : State) (h less : List Change) → IsLess h less → state_from s less ≡ state_from s h
+state_from_less s [] [] is = refl
+state_from_less s [] (d ∷ ds) is = absurd is
+state_from_less s (c ∷ cs) [] is = absurd is
+state_from_less s (c ∷ cs) (d ∷ ds) is =
+    ap (λ (t : State). state_from t ds) (same_in (after s) (after_without s) c d is.0)
+    ∙ state_from_less (after s c) cs ds is.1
+
+-- the state is that of the history
+pub state_less : (h less : List Change) → IsLess h less → state less ≡ state h
+state_less h less is = state_from_less nothing_yet h less is
+
+-- some change passes the test in both or in none
+any_less : (f : Change → Bool) → ((c : Change) → f (without_body c) ≡ f c) → (h less : List Change) → IsLess h less → list_any f less ≡ list_any f h
+any_less f law [] [] is = refl
+any_less f law [] (d ∷ ds) is = absurd is
+any_less f law (c ∷ cs) [] is = absurd is
+any_less f law (c ∷ cs) (d ∷ ds) is = λ i. (same_in f law c d is.0 i || any_less f law cs ds is.1 i)
+
+-- the records that bring the bytes of a name are at the same places
+pub brought_less : (n : ℕ) (name : List ℕ) (h less : List Change) → IsLess h less → brought_from n name less ≡ brought_from n name h
+brought_less n name [] [] is = refl
+brought_less n name [] (d ∷ ds) is = absurd is
+brought_less n name (c ∷ cs) [] is = absurd is
+brought_less n name (c ∷ cs) (d ∷ ds) is =
+    ap (λ (o : Option ℕ). elim o [ Some k ↦ Some k | None ↦ cond (brings_name name d) (Some n) None ]) (brought_less (n + 1) name cs ds is.1)
+    ∙ ap (λ (b : Bool). elim (brought_from (n + 1) name cs) [ Some k ↦ Some k | None ↦ cond b (Some n) None ]) (same_in (brings_name name) (brings_name_without name) c d is.0)
+
+pub bodies_less : (b : Bodies) (h less : List Change) → IsLess h less → KnowsBodies b h → KnowsBodies b less
+bodies_less b h less is k = λ name. k name ∙ sym (brought_less 0 name h less is)
+
+-- ---- the bodies that are needed
+
+needs_name_less : (s : State) (o : Option (List ℕ)) (h less : List Change) → IsLess h less → needs_name s o less ≡ needs_name s o h
+needs_name_less s None h less is = refl
+needs_name_less s (Some name) h less is = ap (λ (b : Bool). is_held s name && not b) (any_less (brings_name name) (brings_name_without name) h less is)
+
+needs_slot_less : (s : State) (o : Option ℕ) (numbers : List ℕ) (h less : List Change) → IsLess h less → needs_slot s o numbers less ≡ needs_slot s o numbers h
+needs_slot_less s None numbers h less is = refl
+needs_slot_less s (Some p) numbers h less is = λ i. list_any (λ n. has_so in_key is_direct (row s p).ins (Slot n) && not (any_less (gives_slot p n) (gives_slot_without p n) h less is i)) numbers
+
+-- the history needs the same bodies
+pub needed_less : (s : State) (c d : Change) (later rest : List Change) → IsLessOf c d → IsLess later rest → is_needed_by s d rest ≡ is_needed_by s c later
+needed_less s c d later rest one is =
+    ap (λ (b : Bool). b || needs_name s (brings d) rest || needs_slot s (peer_of d) (slots_given d) rest) (same_in is_begun begun_without c d one)
+    ∙ ap (λ (o : Option (List ℕ)). is_begun c || needs_name s o rest || needs_slot s (peer_of d) (slots_given d) rest) (same_in brings brings_without c d one)
+    ∙ ap (λ (o : Option ℕ). is_begun c || needs_name s (brings c) rest || needs_slot s o (slots_given d) rest) (same_in peer_of peer_without c d one)
+    ∙ ap (λ (l : List ℕ). is_begun c || needs_name s (brings c) rest || needs_slot s (peer_of c) l rest) (same_in slots_given slots_without c d one)
+    ∙ ap (λ (b : Bool). is_begun c || b || needs_slot s (peer_of c) (slots_given c) rest) (needs_name_less s (brings c) later rest is)
+    ∙ ap (λ (b : Bool). is_begun c || needs_name s (brings c) later || b) (needs_slot_less s (peer_of c) (slots_given c) later rest is)
+
+-- ---- the bytes that are held under a name
+
+-- no change brings the bytes of the name; or the last ones that do have the same
+record NoneBrings (name : List ℕ) (h less : List Change) : Type 0 where
+  history : last_bringing name h ≡ None
+  rest : last_bringing name less ≡ None
+  none : list_any (brings_name name) less ≡ false
+
+record BothBring (name : List ℕ) (h less : List Change) : Type 0 where
+  c : Change
+  d : Change
+  history : last_bringing name h ≡ Some c
+  rest : last_bringing name less ≡ Some d
+  body : body_of d ≡ body_of c
+
+pub or_right : (needed right : Bool) → (not needed || right) ≡ true → needed ≡ true → right ≡ true
+or_right true right h is = h
+or_right false right h is = absurd (false≢true is)
+
+or_middle : (a b c : Bool) → b ≡ true → (a || b || c) ≡ true
+or_middle true b c is = refl
+or_middle false true c is = refl
+or_middle false false c is = absurd (false≢true is)
+
+pub there_body : (name body : Option (List ℕ)) → is_body name body ≡ true → is_some body ≡ true
+there_body name None h = absurd (false≢true h)
+there_body name (Some bytes) h = refl
+
+needs_held : (s : State) (name : List ℕ) (o : Option (List ℕ)) (later : List Change) → elim o [ None ↦ false | Some n ↦ name_eq n name ] ≡ true → is_held s name ≡ true → list_any (brings_name name) later ≡ false → needs_name s o later ≡ true
+needs_held s name None later brings held none = absurd (false≢true brings)
+needs_held s name (Some n) later brings held none =
+    subst (λ (m : List ℕ). (is_held s m && not (list_any (brings_name m) later)) ≡ true) (sym (name_same n name brings)) (rw (held, none) refl)
+
+-- the last change that brings the bytes of a held name has them
+right_there : (s : State) (name : List ℕ) (d : Change) (later : List Change) → brings_name name d ≡ true → is_held s name ≡ true → list_any (brings_name name) later ≡ false → (not (is_needed_by s d later) || body_is_right d) ≡ true → is_some (body_of d) ≡ true
+right_there s name d later brings_it held none right =
+    let needed : is_needed_by s d later ≡ true = or_middle (is_begun d) (needs_name s (brings d) later) (needs_slot s (peer_of d) (slots_given d) later) (needs_held s name (brings d) later brings_it held none) in
+    there_body (brings d) (body_of d) (or_right (is_needed_by s d later) (body_is_right d) right needed)
+
+both_bring : (s : State) (name : List ℕ) (h less : List Change) → IsLess h less → is_held s name ≡ true → bodies_right s less ≡ true → NoneBrings name h less ⊎ BothBring name h less
+both_bring s name [] [] is held right = inl (record { history = refl; rest = refl; none = refl })
+both_bring s name [] (d ∷ ds) is held right = absurd is
+both_bring s name (c ∷ cs) [] is held right = absurd is
+both_bring s name (c ∷ cs) (d ∷ ds) is held right = here (both_bring s name cs ds is.1 held (and_parts (not (is_needed_by s d ds) || body_is_right d) (bodies_right s ds) right).1)
+  where
+    same : brings_name name d ≡ brings_name name c
+    same = same_in (brings_name name) (brings_name_without name) c d is.0
+
+    here : NoneBrings name cs ds ⊎ BothBring name cs ds → NoneBrings name (c ∷ cs) (d ∷ ds) ⊎ BothBring name (c ∷ cs) (d ∷ ds)
+    here (inl n) = by_cases (brings_name name d)
+        (λ k. inr (record {
+          c = c;
+          d = d;
+          history = ap (λ (o : Option Change). or_this o (brings_name name c) c) n.history ∙ ap (λ (b : Bool). cond b (Some c) None) (sym same ∙ k);
+          rest = ap (λ (o : Option Change). or_this o (brings_name name d) d) n.rest ∙ ap (λ (b : Bool). cond b (Some d) None) k;
+          body = body_less c d is.0 (right_there s name d ds k held n.none (and_parts (not (is_needed_by s d ds) || body_is_right d) (bodies_right s ds) right).0);
+        }))
+        (λ k. inl (record {
+          history = ap (λ (o : Option Change). or_this o (brings_name name c) c) n.history ∙ ap (λ (b : Bool). cond b (Some c) None) (sym same ∙ k);
+          rest = ap (λ (o : Option Change). or_this o (brings_name name d) d) n.rest ∙ ap (λ (b : Bool). cond b (Some d) None) k;
+          none = ap (λ (b : Bool). b || list_any (brings_name name) ds) k ∙ n.none;
+        }))
+    here (inr b) = inr (record {
+      c = b.c;
+      d = b.d;
+      history = ap (λ (o : Option Change). or_this o (brings_name name c) c) b.history;
+      rest = ap (λ (o : Option Change). or_this o (brings_name name d) d) b.rest;
+      body = b.body;
+    })
+
+last_less : (name : List ℕ) (h less : List Change) → NoneBrings name h less ⊎ BothBring name h less → last_brought name less ≡ last_brought name h
+last_less name h less (inl n) = ap bytes_of n.rest ∙ sym (ap bytes_of n.history)
+last_less name h less (inr b) = ap bytes_of b.rest ∙ b.body ∙ sym (ap bytes_of b.history)
+
+-- so the same bytes are held under each name
+pub meets_less : (h less : List Change) (name bytes : List ℕ) → IsLess h less → IsValid less → meets_others less name bytes ≡ meets_others h name bytes
+meets_less h less name bytes is v =
+    let same : state less ≡ state h = state_less h less is in
+    by_cases (is_held (state less) name)
+    (λ held.
+    ap (λ (s : State). is_held s name && are_others (last_brought name less) bytes) same
+    ∙ ap (λ (o : Option (List ℕ)). is_held (state h) name && are_others o bytes) (last_less name h less (both_bring (state less) name h less is held v.sound)))
+    (λ free.
+    ap (λ (b : Bool). b && are_others (last_brought name less) bytes) free
+    ∙ sym (ap (λ (b : Bool). b && are_others (last_brought name h) bytes) (ap (λ (s : State). is_held s name) (sym same) ∙ free)))
+
+-- ---- one change more
+
+-- with the next change of a valid history it is valid
+pub valid_less : (h less : List Change) (c : Change) → IsLess h less → IsValid less → IsValid (h ++ c ∷ []) → IsValid (less ++ c ∷ [])
+valid_less h less c is v valid =
+    let next = next_of h c [] valid in
+    valid_snoc less c v next.readable.grammar (ap (λ (s : State). allowed s c) (state_less h less is) ∙ next.may) next.readable.fit next.built next.readable.brings

@@ -1,0 +1,26 @@
+-- Histories less bodies that were given up.
+use Rattle.std.specs.Prelude.{◌≡◌, ◌⊎◌, List, [], ◌∷◌, None}
+use Rattle.psb_model.specs.declared.change.Change.{Change}
+use Rattle.psb_model.specs.declared.change.Change.TheVariants.{Kept, TookFresh, TookSwap, LetGoBack, Replaced, Settled}
+
+-- The change without its body part. A kind that has none is as it is, and so is the beginning, whose body,
+-- the settings, is always needed.
+abbrev pub without_body : Change → Change
+without_body (Kept name len new body) = Kept name len new None
+without_body (TookFresh peer deal name first len new body) = TookFresh peer deal name first len new None
+without_body (TookSwap peer deal name slots len new body) = TookSwap peer deal name slots len new None
+without_body (LetGoBack peer deal name slots body) = LetGoBack peer deal name slots None
+without_body (Replaced peer deal slot place home body) = Replaced peer deal slot place home None
+without_body (Settled peer deal slots body) = Settled peer deal slots None
+without_body c = c
+
+-- the change, or what is left of it where its body was given up
+abbrev pub IsLessOf : Change → Change → Type 0
+IsLessOf c d = (d ≡ c) ⊎ (d ≡ without_body c)
+
+-- as many changes, and each is that of the history at its place, or that without its body
+abbrev pub IsLess : List Change → List Change → Type 0
+IsLess [] [] = Unit {0}
+IsLess [] (d ∷ ds) = ⊥
+IsLess (c ∷ cs) [] = ⊥
+IsLess (c ∷ cs) (d ∷ ds) = IsLessOf c d × IsLess cs ds

@@ -1,0 +1,68 @@
+-- The settings stay what they are while inputs come.
+use Rattle.std.proofs.Common.{◌≡◌, ℕ, List, [], ◌∷◌, Option, Some, None, Result, Ok, Err, refl, ◌∙◌, ap}
+use Rattle.psb_settings.specs.declared.settings.Settings.{Settings}
+use Rattle.psb_model.specs.State.{State, nothing_yet, row}
+use Rattle.psb_model.specs.Effects.{after}
+use Rattle.psb_model.specs.History.{state, state_from}
+use Rattle.psb_model.proofs.Prefixes.{state_app}
+use Rattle.wire_codec.specs.Frames.{Incoming, read_frame, key_in}
+use Rattle.wire_codec.specs.declared.frame.Dropped.{Dropped}
+use Rattle.wire_codec.specs.declared.frame.Frame.{Frame}
+use Rattle.psb_machine.specs.Deals.{standing, first_that_holds, judged, meets_others, Deal, StoreFresh, deal_of, judged_at}
+use Rattle.psb_machine.specs.Stores.{store_reasons, took_fresh}
+use Rattle.psb_machine.specs.Machine.{Situation, Input, Datagram, Tick, Keep, Snap, Forget, Reaction, changes_of, keys_of, quiet, by_standing, on_deal, on_frame, on_keyed, on_read, on_datagram, react, next}
+use Rattle.psb_machine.specs.declared.deals.Standing.{Standing}
+use Rattle.psb_machine.specs.declared.deals.Standing.TheVariants.{Fresh, Repeat, Stale, Gap}
+use Rattle.psb_machine.specs.declared.deals.Refusal.{Refusal}
+use Rattle.psb_machine.specs.Course.{Step, Absorb, Tell, after_all}
+
+-- a reaction's change leaves the settings
+abbrev pub Stays : State → Reaction → Type 0
+Stays s r = (state_from s (changes_of r)).settings ≡ s.settings
+
+judged_stays : (s : State) (p number : ℕ) (name bytes : List ℕ) (o : Option Refusal) → (after s (judged p number (took_fresh s p number name bytes) o)).settings ≡ s.settings
+judged_stays s p number name bytes None = refl
+judged_stays s p number name bytes (Some r) = refl
+
+deal_stays : (how : Standing) (settings : Settings) (n : Situation) (p number : ℕ) (key : List ℕ) (deal : Deal) → Stays (state n.history) (by_standing how settings n p number key (judged_at settings n.history p number deal))
+deal_stays Fresh settings n p number key (StoreFresh name bytes) =
+    judged_stays (state n.history) p number name bytes (first_that_holds (store_reasons settings (state n.history) p name bytes (meets_others n.history name bytes)))
+deal_stays Repeat settings n p number key deal = refl
+deal_stays Stale settings n p number key deal = refl
+deal_stays Gap settings n p number key deal = refl
+
+frame_stays : (settings : Settings) (n : Situation) (p number : ℕ) (key : List ℕ) (frame : Frame) → Stays (state n.history) (on_frame settings n p number key frame)
+frame_stays settings n p number key frame = either (deal_of frame)
+  where
+    either : (o : Option Deal) → Stays (state n.history) (elim o [ None ↦ quiet n.volatile | Some d ↦ on_deal settings n p number key d ])
+    either None = refl
+    either (Some d) = deal_stays (standing (row (state n.history) p).last.number number) settings n p number key d
+
+keyed_stays : (settings : Settings) (n : Situation) (i : Incoming) (o : Option (List ℕ)) → Stays (state n.history) (on_keyed settings n i o)
+keyed_stays settings n i None = refl
+keyed_stays settings n i (Some key) = frame_stays settings n i.from i.number key i.frame
+
+read_stays : (settings : Settings) (n : Situation) (r : Result Incoming Dropped) → Stays (state n.history) (on_read settings n r)
+read_stays settings n (Err why) = refl
+read_stays settings n (Ok i) = keyed_stays settings n i (key_in (keys_of settings) i.from)
+
+datagram_stays : (o : Option Settings) (n : Situation) (x : List ℕ) → Stays (state n.history) (on_datagram o n x)
+datagram_stays None n x = refl
+datagram_stays (Some settings) n x = read_stays settings n (read_frame settings.id (keys_of settings) x)
+
+react_stays : (n : Situation) (i : Input) → Stays (state n.history) (react n i)
+react_stays n (Datagram x) = datagram_stays (state n.history).settings n x
+react_stays n (Tick p) = refl
+react_stays n (Keep name bytes) = refl
+react_stays n (Snap note) = refl
+react_stays n (Forget number) = refl
+
+next_stays : (n : Situation) (i : Input) → (state (next n i).history).settings ≡ (state n.history).settings
+next_stays n i =
+    ap (λ (s : State). s.settings) (state_app nothing_yet n.history (changes_of (react n i)))
+    ∙ react_stays n i
+
+pub all_stay : (n : Situation) (xs : List Step) → (state (after_all n xs).history).settings ≡ (state n.history).settings
+all_stay n [] = refl
+all_stay n (Absorb x ∷ xs) = all_stay (next n x) xs ∙ next_stays n x
+all_stay n (Tell t ∷ xs) = all_stay n xs
