@@ -259,6 +259,7 @@ def refusals(program, folder, deadline):
         run(deadline, program, words, status, said)
     same("whether a usage made the file", os.path.exists(made), False)
     run(deadline, program, [made, "serve", "1"], 7, b"not a node\n")
+    run(deadline, program, [made, "ledger"], 7, b"not a node\n")
     same("the file that was made", read(made), b"")
 
 
@@ -302,8 +303,10 @@ def serving(program, folder, deadline):
         except BlockingIOError:
             pass
     same("the file", read(path), image(first, took_fresh(1, 0)))
-    said = b"peer 2 held 1 back 1 debt 0\nturns 1 taken 0 dropped 0 lost 0\n"
-    run(deadline, program, [path, "serve", "1"], 0, said)
+    said = b"peer 2 held 1 back 1 debt 0\n"
+    run(deadline, program, [path, "serve", "1"], 0, said + b"turns 1 taken 0 dropped 0 lost 0\n")
+    run(deadline, program, [path, "ledger"], 0, said)
+    same("the file that was looked at", read(path), image(first, took_fresh(1, 0)))
 
 
 def main(words):

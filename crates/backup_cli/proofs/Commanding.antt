@@ -10,7 +10,7 @@ use Rattle.node_journal.specs.Entry.{Entry}
 use Rattle.psb_model.specs.Needed.{IsValid}
 use Rattle.psb_model.specs.declared.change.Change.{Change}
 use Rattle.psb_machine.specs.Machine.{Situation, fresh}
-use Rattle.psb_machine.specs.Course.{Step, Telling, after_all, tellings, sent_in, said_in, taken_in, dropped_in, told_by, tried_in}
+use Rattle.psb_machine.specs.Course.{Step, Tell, Say, Telling, after_all, tellings, sent_in, said_in, taken_in, dropped_in, told_by, tried_in}
 use Rattle.psb_machine.specs.Commands.{says}
 use Rattle.psb_machine.proofs.Courses.{after_all-append, tellings-append, sent_in-append, taken_in-append, dropped_in-append, told_by_append}
 use Rattle.node_core.specs.declared.node.Node.{Node}
@@ -19,7 +19,7 @@ use Rattle.node_core.specs.Stored.{Stored}
 use Rattle.node_core.proofs.Reopened.{image_reopens}
 use Rattle.node_serve.specs.Sends.{ToldMore, AreSent}
 use Rattle.node_serve.specs.Spans.{IsPrefix, IsPrefixSoon, Tally, Counted, Fed}
-use Rattle.node_serve.proofs.Runs.{said_append}
+use Rattle.node_serve.proofs.Runs.{said_append, all_done, none_failed}
 use Rattle.node_serve.proofs.Prefixes.{all_is_prefix}
 use Rattle.node_serve.proofs.Tries.{grows_then, told_as, told_then}
 use Rattle.backup_cli.specs.Commanded.{Ending, Through, Halted, Harmed, UnlessHarmed, IfThrough, joined_lines, told_in, IsMoment, Commanded, CommandedOn}
@@ -100,6 +100,14 @@ counted_lines (Some t) n done lines lost c = record {
   dropped = omega (arith, c.dropped, dropped_in-append n done (says lines), dropped_says (after_all n done) lines);
   lost_is = c.lost_is;
 }
+
+pub says_append : (a b : List (List ℕ)) → says (a ++ b) ≡ says a ++ says b
+says_append [] b = refl
+says_append (x ∷ a) b = ap (λ (l : List Step). Tell (Say x) ∷ l) (says_append a b)
+
+pub long_says : (l : List (List ℕ)) → length (says l) ≡ length l
+long_says [] = refl
+long_says (x ∷ l) = omega (arith, long_says l)
 
 -- a course with lines behind what was done of it, and behind what failed
 history_lines : (n : Situation) (done failed : List Step) (said tried : List (List ℕ)) → (after_all n (done ++ says said ++ (failed ++ says tried))).history ≡ (after_all n (done ++ failed)).history
@@ -185,6 +193,26 @@ module _ {L : Type 0} (holds : L → List Entry → List ℕ → Type 0) (stands
         any_moment = λ c k left. ⊎_elim (λ before. let is = now c k before in inl (is.0, inl is.1)) (λ p. inr p) (moments.each v1.moment c k (omega arith) left);
       } in
       ((command, moments), refl, refl)
+
+  -- where all steps were fed, lines that are parted so part the course
+  pub lines_behind : (n0 n2 : Node L) (h : List Change) (v1 v2 : View) (steps : List Step) (counts : Option Tally) (lines said tried rest : List (List ℕ)) → (r : Fed holds stands broken n0 n2 v1 v2 (fresh h) steps counts true) → lines ≡ said ++ tried ++ rest
+      → (steps ++ says lines ≡ r.done ++ says said ++ (r.failed ++ says tried) ++ (r.undone ++ says rest)) × (r.failed ++ says tried ≡ says tried) × (r.undone ++ says rest ≡ says rest)
+  lines_behind n0 n2 h v1 v2 steps counts lines said tried rest r lines_are =
+      let done : steps ≡ r.done = all_done holds stands broken law n0 n2 v1 v2 (fresh h) steps counts r in
+      let none : r.failed ≡ [] = none_failed holds stands broken law n0 n2 v1 v2 (fresh h) steps counts r in
+      let parted : says lines ≡ says said ++ says tried ++ says rest =
+      ap says lines_are ∙ says_append (said ++ tried) rest ∙ ap (λ (l : List Step). l ++ says rest) (says_append said tried) in
+      let failed : r.failed ++ says tried ≡ says tried = ap (λ (l : List Step). l ++ says tried) none in
+      let undone : r.undone ++ says rest ≡ says rest = ap (λ (l : List Step). l ++ says rest) (r.whole refl) in (
+        ap (λ (l : List Step). steps ++ l) parted
+            ∙ ap (λ (l : List Step). l ++ (says said ++ says tried ++ says rest)) done
+            ∙ sym (append_assoc r.done (says said ++ says tried) (says rest))
+            ∙ ap (λ (l : List Step). l ++ says rest) (sym (append_assoc r.done (says said) (says tried)))
+            ∙ ap (λ (l : List Step). r.done ++ says said ++ l ++ says rest) (sym failed)
+            ∙ ap (λ (l : List Step). r.done ++ says said ++ (r.failed ++ says tried) ++ l) (sym undone),
+        failed,
+        undone,
+      )
 
 -- A command from a moment after which nothing was lost is one from before it.
 pub from_before : (stands : List Entry → List ℕ → Type 0) (h : List Change) (course : List Step) (counts : Option Tally) (refusal : List ℕ) (refused : ℕ) (v0 v1 v3 : View) (e : Ending) → NoOther v0 → Keeps v0 v1

@@ -6,5 +6,6 @@ pub mod Commanding
 pub mod Ends
 pub mod Opened
 pub mod Outcomes
+pub mod Listings
 pub mod FileReads
 pub mod Beginnings

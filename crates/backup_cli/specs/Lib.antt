@@ -4,5 +4,6 @@ pub mod Status
 pub mod Commanded
 pub mod Says
 pub mod Served
+pub mod Listed
 pub mod Files
 pub mod Begun

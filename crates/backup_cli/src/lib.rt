@@ -4,6 +4,7 @@
 mod beginning;
 mod files;
 mod lines;
+mod listing;
 mod number;
 mod program;
 mod saying;

@@ -15,6 +15,8 @@ const MOST_PATH_BYTES: usize = 4_096;
 pub(crate) enum Command<'a> {
     /// `serve TURNS`: the node is served for so many turns.
     Serve(u32),
+    /// `ledger`: the node's ledger is told.
+    Ledger,
     /// `init FILE`: a node is begun with the settings in the file at this path.
     Init(&'a str),
 }
@@ -25,7 +27,19 @@ pub(crate) fn read_words(words: &[String]) -> Option<Command<'_>>
     ensures none { IfNone result (IsNoCommand (map string_bytes words.now)) }
 {
     match words {
+        [command] => read_single(command.as_str()),
         [command, word] => read_command(command.as_str(), word.as_str()),
+        _ => None,
+    }
+}
+
+/// The command that one word is, if it is one.
+fn read_single<'a>(command: &str) -> Option<Command<'a>>
+    ensures some { IfSome result (λ c. IsCommand (command.now ∷ []) c) }
+    ensures none { IfNone result (IsNoCommand (command.now ∷ [])) }
+{
+    match command {
+        "ledger" => Some(Command::Ledger),
         _ => None,
     }
 }

@@ -15,7 +15,8 @@ ghost use Rattle.node_core.specs.Stands.{HoldsHistory};
 ghost use Rattle.backup_cli.specs.Begun.{Begins};
 ghost use Rattle.backup_cli.specs.Says.{Utters, IsRefusal};
 ghost use Rattle.backup_cli.specs.Served.{Serves};
-ghost use Rattle.backup_cli.specs.Words.{IsServe, IsInit, IsNoCommand};
+ghost use Rattle.backup_cli.specs.Listed.{Lists};
+ghost use Rattle.backup_cli.specs.Words.{IsServe, IsLedger, IsInit, IsNoCommand};
 ghost use Rattle.backup_cli.specs.declared.status.Status.TheVariants as status;
 
 use backup_cli::{Status, run};
@@ -53,6 +54,10 @@ where
     ensures serves { (turns : ℕ) → IsServe (map string_bytes words.now) turns → Tells_bytes (⟦<HostStation<R, S> as Disk>⟧.view station.new)
         → (h : List Change) (settings : Settings) → IsValid h → HoldsHistory Stands h S.Start.first → (state h).settings ≡ Some settings
         → (opened : Bool) × Serves Stands h settings opened (⟦<HostStation<R, S> as Disk>⟧.view station.old) (⟦<HostStation<R, S> as Disk>⟧.view station.new) turns result }
+    // The headline of `ledger`: the lines of the peers at that history, and nothing else is done.
+    ensures lists { IsLedger (map string_bytes words.now) → Tells_bytes (⟦<HostStation<R, S> as Disk>⟧.view station.new)
+        → (h : List Change) (settings : Settings) → IsValid h → HoldsHistory Stands h S.Start.first → (state h).settings ≡ Some settings
+        → (opened : Bool) × Lists Stands h settings opened (⟦<HostStation<R, S> as Disk>⟧.view station.old) (⟦<HostStation<R, S> as Disk>⟧.view station.new) result }
     ensures not_node { result ≡ status.NotNode → Tells_bytes (⟦<HostStation<R, S> as Disk>⟧.view station.new) → (h : List Change) → IsValid h → ¬ HoldsHistory Stands h S.Start.first }
 
     // The headline of `init`: what it comes to over each file and each folder. It leaves the folder as it was.

@@ -1,0 +1,34 @@
+-- The headline of `ledger`: the lines of the peers at the history that the disk holds.
+use Rattle.std.specs.Prelude.{◌≡◌, ◌⊎◌, ℕ, Bool, true, false, List, [], ◌∷◌, None}
+use Rattle.psb_station.specs.View.{View}
+use Rattle.node_journal.specs.Entry.{Entry}
+use Rattle.psb_settings.specs.declared.settings.Settings.{Settings}
+use Rattle.psb_model.specs.History.{state}
+use Rattle.psb_model.specs.declared.change.Change.{Change}
+use Rattle.psb_machine.specs.Course.{Step, Tell, Say}
+use Rattle.psb_machine.specs.Commands.{says}
+use Rattle.backup_cli.specs.Commanded.{Commanded}
+use Rattle.backup_cli.specs.Says.{IsRefusal, peer_lines}
+use Rattle.backup_cli.specs.Served.{ending_of, refused_of}
+use Rattle.backup_cli.specs.declared.status.Status.{Status}
+use Rattle.backup_cli.specs.declared.status.Status.TheVariants.{Done, DiskFault, SayFault, Memory}
+
+-- the step that failed, if the node was opened: the saying of a line
+abbrev pub FailsToSay : Status → List Step → Type 0
+FailsToSay Done failed = failed ≡ []
+FailsToSay SayFault failed = (line : List ℕ) × (failed ≡ Tell (Say line) ∷ [])
+FailsToSay Memory failed = failed ≡ []
+FailsToSay _ failed = ⊥
+
+-- `ledger` on a disk that holds a history, up to a status. Its course is a line for each peer.
+pub record Lists (stands : List Entry → List ℕ → Type 0) (h : List Change) (settings : Settings) (opened : Bool) (old new : View) (status : Status) : Type 0 where
+  pub unopened : opened ≡ false → (status ≡ DiskFault) ⊎ (status ≡ Memory)
+  -- the line of a refusal, or what of it was said
+  pub refusal : List ℕ
+  pub how : IsRefusal status refusal old new
+  pub course : Commanded stands h opened (says (peer_lines settings (state h))) None refusal (refused_of status) old new (ending_of status)
+  pub fails : opened ≡ true → FailsToSay status course.failed
+  -- nothing is changed, heard or sent
+  pub bytes : new.bytes ≡ old.bytes
+  pub images : (c : List ℕ) (k : ℕ) → new.left_since old.moment c k → old.may_leave c
+  pub kept : new.outside ≡ record old.outside { said = new.outside.said; say_faults = new.outside.say_faults }

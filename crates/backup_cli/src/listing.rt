@@ -1,0 +1,53 @@
+//! The command `ledger`.
+ghost use Rattle.std.specs.Prelude.{◌≡◌, ◌≢◌, ◌⊎◌, Bool, List, ℕ, Some, IfSome};
+ghost use Rattle.psb_station.specs.Calls.{Rose};
+ghost use Rattle.psb_station.specs.Span.{Tells_bytes};
+ghost use Rattle.psb_settings.specs.declared.settings.Settings.{Settings};
+ghost use Rattle.psb_model.specs.History.{state};
+ghost use Rattle.psb_model.specs.Needed.{IsValid};
+ghost use Rattle.psb_model.specs.declared.change.Change.{Change};
+ghost use Rattle.node_core.specs.Stands.{HoldsHistory};
+ghost use Rattle.backup_cli.specs.Says.{Refuses};
+ghost use Rattle.backup_cli.specs.Served.{IsNode};
+ghost use Rattle.backup_cli.specs.Listed.{Lists};
+
+use crate::Status;
+use crate::saying::{SayError, say_peers};
+use crate::serving::refuse;
+use node_core::{Fault, Node};
+use node_journal::Log;
+use psb_station::Station;
+use std::alloc::Global;
+
+/// Says the line of each peer of the node that the disk holds. Nothing is changed, and the link is not used.
+pub(crate) fn ledger_command<L: Log, S: Station>(alloc: Global, station: &mut S) -> Status
+    ensures lists { Tells_bytes (S.view station.new) → (h : List Change) (settings : Settings) → IsNode L.stands h (S.view station.old) → (state h).settings ≡ Some settings
+        → (opened : Bool) × Lists L.stands h settings opened (S.view station.old) (S.view station.new) result }
+
+    // An answer for which the node was opened is no NotNode, so this is exact.
+    ensures not_node { result ≡ Status.NotNode → Tells_bytes (S.view station.new) → IfSome (S.view station.old).bytes (λ b. (h : List Change) → IsValid h → ¬ HoldsHistory L.stands h b) }
+    ensures opened { (result ≡ Status.Done) ⊎ (result ≡ Status.SayFault)
+        → Tells_bytes (S.view station.new) → IfSome (S.view station.old).bytes (λ b. (h : List Change) × IsValid h × HoldsHistory L.stands h b) }
+    ensures unharmed { Tells_bytes (S.view station.new) → (c : List ℕ) (k : ℕ) → (S.view station.new).left_since (S.view station.old).moment c k → (S.view station.old).may_leave c }
+    ensures refuses { ((h : List Change) → ¬ IsNode L.stands h (S.view station.old)) → Tells_bytes (S.view station.new)
+        → Refuses result (S.view station.old) (S.view station.new) }
+    ensures disk_cause { result ≡ Status.DiskFault → Rose (S.view station.old).disk_faults (S.view station.new).disk_faults }
+    ensures say_cause { result ≡ Status.SayFault → Rose (S.view station.old).outside.say_faults (S.view station.new).outside.say_faults }
+    ensures disk { (result ≡ Status.DiskFault) ⊎ ((S.view station.new).disk_faults ≡ (S.view station.old).disk_faults) }
+    ensures link { (S.view station.new).outside.link_faults ≡ (S.view station.old).outside.link_faults }
+    ensures all_said { result ≡ Status.Done → (S.view station.new).outside.say_faults ≡ (S.view station.old).outside.say_faults }
+    ensures only { (result ≢ Status.Usage) × (result ≢ Status.LinkFault) }
+    ensures no_begin { (result ≢ Status.FolderFault) × (result ≢ Status.Already) × (result ≢ Status.BadSettings) }
+{
+    let node = match Node::<L>::open(alloc, station) {
+        Ok(node) => node,
+        Err(Fault::NotNode) => return refuse(station, Status::NotNode),
+        Err(Fault::DiskFault) => return refuse(station, Status::DiskFault),
+        Err(_) => return refuse(station, Status::Memory),
+    };
+    match say_peers(alloc, station, node.ledger()) {
+        Ok(()) => Status::Done,
+        Err(SayError::Say) => Status::SayFault,
+        Err(SayError::Memory) => refuse(station, Status::Memory),
+    }
+}
