@@ -265,11 +265,11 @@ meets_less h less name bytes is v =
     let same : state less ≡ state h = state_less h less is in
     by_cases (is_held (state less) name)
     (λ held.
-        ap (λ (s : State). is_held s name && are_others (last_brought name less) bytes) same
-        ∙ ap (λ (o : Option (List ℕ)). is_held (state h) name && are_others o bytes) (last_less name h less (both_bring (state less) name h less is held v.sound)))
+    ap (λ (s : State). is_held s name && are_others (last_brought name less) bytes) same
+    ∙ ap (λ (o : Option (List ℕ)). is_held (state h) name && are_others o bytes) (last_less name h less (both_bring (state less) name h less is held v.sound)))
     (λ free.
-        ap (λ (b : Bool). b && are_others (last_brought name less) bytes) free
-        ∙ sym (ap (λ (b : Bool). b && are_others (last_brought name h) bytes) (ap (λ (s : State). is_held s name) (sym same) ∙ free)))
+    ap (λ (b : Bool). b && are_others (last_brought name less) bytes) free
+    ∙ sym (ap (λ (b : Bool). b && are_others (last_brought name h) bytes) (ap (λ (s : State). is_held s name) (sym same) ∙ free)))
 
 -- ---- one change more
 
