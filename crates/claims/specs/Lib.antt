@@ -1,0 +1,4 @@
+pub mod Source
+pub mod Chain
+pub mod Firsts
+pub mod Walks

@@ -1,0 +1,13 @@
+//! A node's claims: their numbers are issued in turn, their bytes are made from the seed, and a
+//! body that comes back is found among them.
+#![tactic(auto)]
+
+mod chain;
+mod index;
+mod source;
+mod walk;
+
+pub use source::{ClaimSource, IssueError};
+
+#[cfg(test)]
+mod tests;
