@@ -19,7 +19,7 @@ pub enum IssueError {
 /// Where a node takes its claims from. Contracts see the seed, and how many numbers were issued.
 ///
 /// Issuing computes nothing. A claim that was walked is made by at most 256 hashes, wherever it
-/// stands, and takes about 20 bytes of memory: 2 for its part of a checkpoint, the rest in the
+/// stands, and takes about 24 bytes of memory: 2 for its part of a checkpoint, the rest in the
 /// index. A claim that was not walked is made by 16 hashes for each one from the last walked on.
 #[derive(Drop)]
 pub struct ClaimSource {
