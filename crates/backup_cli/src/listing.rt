@@ -24,6 +24,9 @@ pub(crate) fn ledger_command<L: Log, S: Station>(alloc: Global, station: &mut S)
     ensures lists { Tells_bytes (S.view station.new) → (h : List Change) (settings : Settings) → IsNode L.stands h (S.view station.old) → (state h).settings ≡ Some settings
         → (opened : Bool) × Lists L.stands h settings opened (S.view station.old) (S.view station.new) result }
 
+    // Whatever the disk is, nothing is joined, heard or sent, and the clock is not asked.
+    ensures quiet { (S.view station.new).outside ≡ record (S.view station.old).outside { said = (S.view station.new).outside.said; say_faults = (S.view station.new).outside.say_faults } }
+
     // An answer for which the node was opened is no NotNode, so this is exact.
     ensures not_node { result ≡ Status.NotNode → Tells_bytes (S.view station.new) → IfSome (S.view station.old).bytes (λ b. (h : List Change) → IsValid h → ¬ HoldsHistory L.stands h b) }
     ensures opened { (result ≡ Status.Done) ⊎ (result ≡ Status.SayFault)

@@ -54,10 +54,12 @@ where
     ensures serves { (turns : ℕ) → IsServe (map string_bytes words.now) turns → Tells_bytes (⟦<HostStation<R, S> as Disk>⟧.view station.new)
         → (h : List Change) (settings : Settings) → IsValid h → HoldsHistory Stands h S.Start.first → (state h).settings ≡ Some settings
         → (opened : Bool) × Serves Stands h settings opened (⟦<HostStation<R, S> as Disk>⟧.view station.old) (⟦<HostStation<R, S> as Disk>⟧.view station.new) turns result }
-    // The headline of `ledger`: the lines of the peers at that history, and nothing else is done.
+    // The headline of `ledger`: the lines of the peers at that history, and nothing else is done. Whatever the
+    // file answers, nothing is joined, heard or sent for it.
     ensures lists { IsLedger (map string_bytes words.now) → Tells_bytes (⟦<HostStation<R, S> as Disk>⟧.view station.new)
         → (h : List Change) (settings : Settings) → IsValid h → HoldsHistory Stands h S.Start.first → (state h).settings ≡ Some settings
         → (opened : Bool) × Lists Stands h settings opened (⟦<HostStation<R, S> as Disk>⟧.view station.old) (⟦<HostStation<R, S> as Disk>⟧.view station.new) result }
+    ensures quiet { IsLedger (map string_bytes words.now) → (⟦<HostStation<R, S> as Disk>⟧.view station.new).outside ≡ record (⟦<HostStation<R, S> as Disk>⟧.view station.old).outside { said = (⟦<HostStation<R, S> as Disk>⟧.view station.new).outside.said; say_faults = (⟦<HostStation<R, S> as Disk>⟧.view station.new).outside.say_faults } }
     ensures not_node { result ≡ status.NotNode → Tells_bytes (⟦<HostStation<R, S> as Disk>⟧.view station.new) → (h : List Change) → IsValid h → ¬ HoldsHistory Stands h S.Start.first }
 
     // The headline of `init`: what it comes to over each file and each folder. It leaves the folder as it was.

@@ -7,6 +7,7 @@ use Rattle.std.proofs.lemmas.List.{drop-drop, take_all}
 use Rattle.psb_station.specs.View.{View}
 use Rattle.psb_station.specs.Calls.{Torn, CutShort, written}
 use Rattle.psb_station.specs.Replay.{torn_whole, cut_whole}
+use Rattle.psb_station.proofs.Kept.{torn_longer}
 use Rattle.psb_host.specs.StationEvents.{StationEvent, is_usable}
 use Rattle.psb_host.specs.StationEvents.StationEvent.{Measured, Read, Wrote, WasCut, Synced, Answered, JoinedAt, Sent, Said}
 use Rattle.psb_host.specs.HonestStation.{since_more, where_so, went_down, cut_to, settled, after, replay, meaning}
@@ -63,19 +64,6 @@ chosen P false b p = tt
 reads_where : (P : List ℕ → Type 0) (test : List ℕ → Bool) (o : Option (List ℕ)) → IfSome o P → IfSome (where_so test o) P
 reads_where P test None p = tt
 reads_where P test (Some b) p = chosen P (test b) b p
-
--- a shorter write is within a longer one
-pub torn_longer : (at m n : ℕ) (old new : List ℕ) → m ≤ n → Torn at m old new → Torn at n old new
-torn_longer at m n old new le torn =
-    let e : at + m + (n - m) ≡ at + n = omega arith in
-    record {
-      before = torn.before;
-      after =
-          sym (ap (λ (i : ℕ). drop i new) e) ∙ sym (drop-drop (n - m) (at + m) new) ∙ ap (drop (n - m)) torn.after
-          ∙ drop-drop (n - m) (at + m) old ∙ ap (λ (i : ℕ). drop i old) e;
-      no_shorter = torn.no_shorter;
-      no_longer = omega (arith, torn.no_longer);
-    }
 
 short_of : (ok : Bool) (n : ℕ) (given : List ℕ) → length (went_down ok n given) ≤ length given
 short_of true n given = omega arith

@@ -1,4 +1,5 @@
 use Rattle.std.proofs.Common.{◌≡◌, true, false, inl, inr, Ok, Err, refl, sym, ◌∙◌, ap, subst}
+use Rattle.psb_station.specs.View.{Outside}
 use Rattle.psb_model.specs.State.{State}
 use Rattle.psb_model.specs.History.{state}
 use Rattle.psb_ledger.specs.View.{LedgerView}
@@ -9,7 +10,7 @@ use Rattle.backup_cli.specs.declared.saying.SayError.{SayError}
 use Rattle.backup_cli.specs.declared.saying.SayError.TheVariants as say_error
 use Rattle.backup_cli.specs.declared.status.Status.{Status}
 use Rattle.backup_cli.specs.declared.status.Status.TheVariants.{DiskFault, NotNode, Memory}
-use Rattle.backup_cli.proofs.Ends.{refused, images_since}
+use Rattle.backup_cli.proofs.Ends.{refused, quiet_since, images_since}
 use Rattle.backup_cli.proofs.Listings.{nothing_listed, all_listed, a_line_failed, short_of_memory}
 use Rattle.backup_cli.proofs.Opened.{held, is_node, is_there, some_of, known_as}
 use Rattle.backup_cli.proofs.Utterances.{utters_tells, utters_then, says_tells}
@@ -149,3 +150,21 @@ returns-in-Err-Say-clause-opened g c = λ is tells.
     let own = some_of c.ledger.result.now.state.settings (is_there c.in-Ok.node (fresh o.0) c.ledger.result.now o.1 c.ledger.ensures) in
     let t1 = says_tells (peer_lines own.0 c.ledger.result.now.state) (g.S.Disk.view c.open.new.disk) (g.S.Disk.view c.say_peers.new.station) c.say_peers.result (c.say_peers.ensures.says own.0 own.1) tells in
     held g.L.Log.holds g.L.Log.stands g.met.L.Log.holds_stands c.in-Ok.node (g.S.Disk.view c.args.station.now) (g.S.Disk.view c.open.new.disk) c.open.ensures.keeps o t1
+
+pub returns-in-Err-NotNode-clause-quiet : goal.returns-in-Err-NotNode-clause-quiet
+returns-in-Err-NotNode-clause-quiet g c = quiet_since (g.S.Disk.view c.args.station.now) (g.S.Disk.view c.open.new.disk) (g.S.Disk.view c.refuse.new.station) c.open.ensures.keeps c.refuse.ensures.only_says.kept
+
+pub returns-in-Err-DiskFault-clause-quiet : goal.returns-in-Err-DiskFault-clause-quiet
+returns-in-Err-DiskFault-clause-quiet g c = quiet_since (g.S.Disk.view c.args.station.now) (g.S.Disk.view c.open.new.disk) (g.S.Disk.view c.refuse-in-Err-DiskFault.new.station) c.open.ensures.keeps c.refuse-in-Err-DiskFault.ensures.only_says.kept
+
+pub returns-in-Err-clause-quiet : goal.returns-in-Err-clause-quiet
+returns-in-Err-clause-quiet g c = quiet_since (g.S.Disk.view c.args.station.now) (g.S.Disk.view c.open.new.disk) (g.S.Disk.view c.refuse-in-Err.new.station) c.open.ensures.keeps c.refuse-in-Err.ensures.only_says.kept
+
+pub returns-in-Ok-say_peers-clause-quiet : goal.returns-in-Ok-say_peers-clause-quiet
+returns-in-Ok-say_peers-clause-quiet g c = quiet_since (g.S.Disk.view c.args.station.now) (g.S.Disk.view c.open.new.disk) (g.S.Disk.view c.say_peers.new.station) c.open.ensures.keeps c.say_peers.ensures.only_says.kept
+
+pub returns-in-Err-Say-clause-quiet : goal.returns-in-Err-Say-clause-quiet
+returns-in-Err-Say-clause-quiet g c = quiet_since (g.S.Disk.view c.args.station.now) (g.S.Disk.view c.open.new.disk) (g.S.Disk.view c.say_peers.new.station) c.open.ensures.keeps c.say_peers.ensures.only_says.kept
+
+pub returns-clause-quiet : goal.returns-clause-quiet
+returns-clause-quiet g c = c.refuse-in-Err-Memory.ensures.only_says.kept ∙ ap (λ (o : Outside). record o { said = (g.S.Disk.view c.refuse-in-Err-Memory.new.station).outside.said; say_faults = (g.S.Disk.view c.refuse-in-Err-Memory.new.station).outside.say_faults }) (quiet_since (g.S.Disk.view c.args.station.now) (g.S.Disk.view c.open.new.disk) (g.S.Disk.view c.say_peers.new.station) c.open.ensures.keeps c.say_peers.ensures.only_says.kept)

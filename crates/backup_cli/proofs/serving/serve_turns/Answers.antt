@@ -25,7 +25,7 @@ serve-requires-clause-ready g c =
 
 pub returns-in-Err-clause-fares : goal.returns-in-Err-clause-fares
 returns-in-Err-clause-fares g c = λ tells h settings k present st.
-    fares_joins g.L.Log.holds g.L.Log.stands g.L.Log.is_broken g.met.L.Log.holds_stands c.args.node.now h settings (g.S.Disk.view c.args.station.now) (g.S.Disk.view c.join_all.new.station) c.args.turns st tells (c.in-Err.ensures.joined (fresh h) settings k present)
+    fares_joins g.L.Log.holds g.L.Log.stands g.L.Log.is_broken g.met.L.Log.holds_stands c.args.node.now h settings (g.S.Disk.view c.args.station.now) (g.S.Disk.view c.join_all.new.station) c.args.turns c.requires.whole st tells (c.in-Err.ensures.joined (fresh h) settings k present)
 
 pub returns-in-Ok-serve-clause-fares : goal.returns-in-Ok-serve-clause-fares
 returns-in-Ok-serve-clause-fares g c = λ tells h settings k present st.
