@@ -4,7 +4,7 @@ use Rattle.std.proofs.lemmas.Bool.{lt-ltb, le-ltb}
 use Rattle.std.proofs.lemmas.List.{append-nil}
 use Rattle.psb_station.specs.View.{View, Outside, Heard}
 use Rattle.psb_station.specs.View.Heard.{Frame, Nothing, Clock, Fault}
-use Rattle.psb_station.specs.Calls.{Listens, Grows}
+use Rattle.psb_station.specs.Calls.{Listens, Grows, Rests}
 use Rattle.psb_station.specs.Span.{Leaves, DiskWorks, Tells_bytes}
 use Rattle.psb_station.proofs.Spans.{at_start, rests_on, weakened, then_run, shows_rest}
 use Rattle.node_journal.specs.Entry.{Entry}
@@ -20,7 +20,7 @@ use Rattle.node_core.proofs.Reopened.{stored_at, stored_reopens}
 use Rattle.node_serve.specs.Sends.{AreSent, Sends}
 use Rattle.node_serve.specs.Hears.{Hears, steps_of, clock_by, clock_of, heard_of, of_turn, of_turns, End, Whole, Cut, Stopped, Unbegun, AnswersAs, EndsAs, is_fed}
 use Rattle.node_serve.specs.Turns.{Listened, OnlySends, IsEarly}
-use Rattle.node_serve.specs.Spans.{IsPrefixSoon, Tally, no_tally, tally_sum, counts_sum, Fed, Received, RanTurns}
+use Rattle.node_serve.specs.Spans.{IsReady, IsPrefixSoon, Tally, no_tally, tally_sum, counts_sum, Fed, Received, RanTurns}
 use Rattle.node_serve.proofs.Tries.{rests_tells, grows_none, told_none, told_as, told_from, sent_none, lost_none}
 use Rattle.node_serve.proofs.Prefixes.{whole, first_image, next_image, whole_has_all, either_has_all}
 use Rattle.node_serve.proofs.Runs.{steps_of-append, hears_then, fed_none, fed_then, fed_as, uncounted}
@@ -389,3 +389,13 @@ module _ {L : Type 0} (holds : L → List Entry → List ℕ → Type 0) (stands
       let set : time ≡ clock_after clock time = ap (λ (b : Bool). if b then time else clock) (sym yes) in
       turn_clocked peers clock time node node1 node2 v0 v1 v2 v3 time t u e is_full sound set r l only mid
       (λ tells n k s. fed_as holds stands broken law node1 node2 v2 v3 n (ticks peers) (clock_steps peers clock time) u (is_fed e) all (run tells n k s))
+
+-- what a call that changes nothing on the disk leaves ready
+pub ready_still : {L : Type 0} (holds : L → List Entry → List ℕ → Type 0) (node : Node L) (v w : View) → Rests v w → IsReady holds node v → IsReady holds node w
+ready_still holds node v w rests r = (
+  r.0,
+  r.1,
+  λ tells.
+      let s = r.2 (rests_tells v w rests tells) in
+      stored_at holds node r.0.history v w s (shows_rest _ v w rests tells s.shows),
+)

@@ -1,13 +1,12 @@
 -- The laws of a station with a record.
-use Rattle.std.specs.Prelude.{◌≡◌, ℕ, ◌+◌, ◌-◌, ◌≤◌, nat_le, Bool, true, false, if◌then◌else◌, List, [], ◌∷◌, length, drop, Option, Some, None, IfSome, refl}
+use Rattle.std.specs.Prelude.{◌≡◌, ℕ, ◌+◌, ◌≤◌, nat_le, Bool, true, false, if◌then◌else◌, List, [], ◌∷◌, length, Option, Some, None, IfSome, refl}
 use Rattle.std.specs.Option.{option_map}
-use Rattle.std.proofs.Common.{inr, ⊎_elim, sym, ◌∙◌, ap, arith, length-take}
+use Rattle.std.proofs.Common.{inr, ⊎_elim, arith, length-take}
 use Rattle.std.proofs.lemmas.Bool.{leb-true}
-use Rattle.std.proofs.lemmas.List.{drop-drop, take_all}
+use Rattle.std.proofs.lemmas.List.{take_all}
 use Rattle.psb_station.specs.View.{View}
 use Rattle.psb_station.specs.Calls.{Torn, CutShort, written}
-use Rattle.psb_station.specs.Replay.{torn_whole, cut_whole}
-use Rattle.psb_station.proofs.Kept.{torn_longer}
+use Rattle.psb_station.specs.Replay.{torn_whole, torn_longer, cut_whole}
 use Rattle.psb_host.specs.StationEvents.{StationEvent, is_usable}
 use Rattle.psb_host.specs.StationEvents.StationEvent.{Measured, Read, Wrote, WasCut, Synced, Answered, JoinedAt, Sent, Said}
 use Rattle.psb_host.specs.HonestStation.{since_more, where_so, went_down, cut_to, settled, after, replay, meaning}

@@ -1,4 +1,4 @@
-ghost use Rattle.std.specs.Prelude.{◌≡◌, ◌-◌, OnOk, OnErr, length, take, drop, min, Some, None, true};
+ghost use Rattle.std.specs.Prelude.{◌≡◌, ◌-◌, [], OnOk, OnErr, length, take, drop, min, Some, None, true};
 ghost use Rattle.std.specs.FinMap.{get, insert};
 ghost use Rattle.psb_station.specs.Folder.{plain, parent, Folder, File};
 ghost use Rattle.psb_station.specs.MemTree.{stored_of, bytes_in, takes_folder, takes_file, with_put};
@@ -58,12 +58,13 @@ fn make(tree: &mut Tree, path: &str, node: Node) -> Result<(), Failed>
 }
 
 impl MemFolder {
-    ghost use Rattle.psb_station.specs.MemFolder.{view_of, holds, calls_made, failing, IsFresh, Puts};
+    ghost use Rattle.psb_station.specs.MemFolder.{view_of, holds, calls_made, failing, planned_of, IsFresh, Puts};
 
     /// A folder that holds its root alone; its calls of the given numbers fail. Takes no memory.
     pub fn new(alloc: Global, faults: Vec<u64>) -> MemFolder
         ensures fresh { IsFresh (view_of result) }
         ensures failing { failing result ≡ faults.items }
+        ensures planned { planned_of result ≡ [] }
         ensures no_call { calls_made result ≡ 0 }
     {
         MemFolder {
@@ -77,7 +78,7 @@ impl MemFolder {
     /// Has the calls of these kinds and numbers fail, counted from here, and no other that was planned
     /// by its kind.
     pub fn plan(&mut self, faults: Vec<Planned<CallKind>>)
-        ensures { Puts (holds self.old) self.old self.new }
+        ensures { Puts (holds self.old) faults.items self.old self.new }
     {
         self.log.plan = faults;
     }
@@ -111,8 +112,8 @@ impl MemFolder {
     /// Puts a folder at a path, with the folders above it. This is no call of the folder.
     pub fn put_folder(&mut self, path: &str) -> Result<(), Memory>
         requires { takes_folder (holds self.old) (plain path.now) ≡ true }
-        ensures ok { OnOk result (Puts (with_put (holds self.old) (plain path.now) Folder) self.old self.new) }
-        ensures err { OnErr result (Puts (holds self.old) self.old self.new) }
+        ensures ok { OnOk result (Puts (with_put (holds self.old) (plain path.now) Folder) (planned_of self.old) self.old self.new) }
+        ensures err { OnErr result (Puts (holds self.old) (planned_of self.old) self.old self.new) }
     {
         self.tree.put_folder(plain(path))?;
         Ok(())
@@ -122,8 +123,8 @@ impl MemFolder {
     /// call of the folder.
     pub fn put_file(&mut self, path: &str, content: &[u8]) -> Result<(), Memory>
         requires { takes_file (holds self.old) (plain path.now) ≡ true }
-        ensures ok { OnOk result (Puts (with_put (holds self.old) (plain path.now) (File content.now)) self.old self.new) }
-        ensures err { OnErr result (Puts (holds self.old) self.old self.new) }
+        ensures ok { OnOk result (Puts (with_put (holds self.old) (plain path.now) (File content.now)) (planned_of self.old) self.old self.new) }
+        ensures err { OnErr result (Puts (holds self.old) (planned_of self.old) self.old self.new) }
     {
         let bytes = content.to_vec(self.alloc)?;
         self.tree.put_file(plain(path), bytes)?;
@@ -132,11 +133,15 @@ impl MemFolder {
 }
 
 impl Folder for MemFolder {
-    ghost use Rattle.psb_station.specs.MemFolder.{view_of, is_due_next};
+    ghost use Rattle.psb_station.specs.MemFolder.{view_of, dues_of, Fails, Works};
 
     ghost view = { view_of };
 
-    ghost fails_next = { is_due_next };
+    ghost dues = { dues_of };
+
+    ghost failed = { Fails };
+
+    ghost worked = { Works };
 
     fn list(&mut self, path: &str) -> Result<Vec<Item>, FolderError> {
         let due = self.log.begin(CallKind::List, path);

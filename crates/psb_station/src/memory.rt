@@ -1,7 +1,9 @@
 ghost use Rattle.std.specs.Prelude.{◌≡◌, ◌≤◌, ◌+◌, ◌<◌, ◌++◌, [], ◌∷◌, length, OnOk, OnErr, IfOk, IfSome, vec_len, vec_capacity, All, Option, Some, false, slice_get};
 ghost use Rattle.std.proofs.Props.{props};
+ghost use Rattle.std.specs.Coded.{le_prop};
 ghost use Rattle.psb_station.specs.Past.{ToldBy, ToldBy-prop};
 ghost use Rattle.psb_station.specs.Calls.{Grows};
+ghost use Rattle.psb_station.specs.StationCalls.{IsFull};
 ghost use Rattle.psb_station.specs.Answers.{answer_of, heard_of, sent_of, joined_of, time_of, TicksBy, TicksBy-prop};
 
 use crate::answer::{Answer, Answered, Joining, SentFrame};
@@ -54,11 +56,12 @@ pub struct MemStation {
     say_faults: u64,
     ghost ordered: { ToldBy told disk.past.items } by { ToldBy-prop told disk.past.items },
     ghost timed: { TicksBy ticks heard.items } by { TicksBy-prop ticks heard.items },
+    ghost counted: { ticks ≤ calls } by { le_prop },
     ghost short: { All (λ a. length a.items ≤ 65507) arrivals.items } by { Prim.hlevel props },
 }
 
 impl MemStation {
-    ghost use Rattle.psb_station.specs.Memory.{view_of, IsFresh, IsGiven, Plans, Tears_writes, Settles_until_a_fault, change_of, calls_made, left_image, may_leave_at};
+    ghost use Rattle.psb_station.specs.Memory.{view_of, IsFresh, IsGiven, Plans, planned_of, Same_tears, Same_syncs, Tears_writes, Settles_until_a_fault, change_of, calls_made, left_image, may_leave_at};
 
     /// A station whose disk reads `image`, whose link has these arrivals, each of at most 65,507 bytes,
     /// and whose clock gives these numbers, the last one again at the end, and 0 where there is none.
@@ -103,7 +106,9 @@ impl MemStation {
     /// Has the calls of these kinds and numbers fail, counted from here, and no other that was planned
     /// by its kind.
     pub fn plan(&mut self, faults: Vec<Planned<StationCall>>)
-        ensures { Plans self.old self.new }
+        ensures plans { Plans faults.items self.old self.new }
+        ensures tears { Same_tears self.old self.new }
+        ensures syncs { Same_syncs self.old self.new }
     {
         self.plan.faults = faults;
     }
@@ -112,7 +117,8 @@ impl MemStation {
     /// were given, and no other that was given here before. The part is read then, and is unsynced. A
     /// write that fails for another reason puts down nothing.
     pub fn tear(&mut self, writes: Vec<TornWrite>)
-        ensures plans { Plans self.old self.new }
+        ensures plans { Plans (planned_of self.old) self.old self.new }
+        ensures syncs { Same_syncs self.old self.new }
         ensures torn { Tears_writes writes.items self.new }
     {
         self.tears = Tears {
@@ -124,7 +130,8 @@ impl MemStation {
     /// Has each sync after the next one that fails fail too, and settle nothing, as on a disk that
     /// forgot what it could not put down.
     pub fn settle_until_a_fault(&mut self)
-        ensures plans { Plans self.old self.new }
+        ensures plans { Plans (planned_of self.old) self.old self.new }
+        ensures tears { Same_tears self.old self.new }
         ensures settled { Settles_until_a_fault self.new }
     {
         self.syncs = Syncs::UntilOneFails;
@@ -221,7 +228,7 @@ impl MemStation {
 }
 
 impl Disk for MemStation {
-    ghost use Rattle.psb_station.specs.Memory.{view_of, is_due_next};
+    ghost use Rattle.psb_station.specs.Memory.{view_of, ahead_of, Fails, Works};
     ghost use Rattle.psb_station.specs.MemDisk.{start};
     ghost use Rattle.psb_station.specs.Past.{leaves};
     ghost use Rattle.psb_station.specs.Replay.{now_counts, now_only, seen_left};
@@ -230,7 +237,11 @@ impl Disk for MemStation {
 
     ghost view = { view_of };
 
-    ghost fails_next = { is_due_next };
+    ghost ahead = { ahead_of };
+
+    ghost failed = { Fails };
+
+    ghost worked = { Works };
 
     ghost counts_now = { λ m t c le left. now_counts (λ c. c ≡ start m.disk) (start m.disk) 0 0 m.disk.past.items m.told t c m.ordered (Prim.omega arith) (Prim.omega arith) left };
 
@@ -338,7 +349,9 @@ fn keep(
 ) -> Result<(), AllocError>
     ensures grows { (clock : _) (arrivals : _) → Grows (heard_of whole.old clock arrivals heard.old.items ticks) (heard_of whole.new clock arrivals heard.new.items ticks) (answer_of arrivals answer ∷ []) }
     ensures timed { TicksBy ticks heard.old.items → TicksBy ticks heard.new.items }
+    ensures ok { OnOk result (whole.new ≡ whole.old) }
     ensures err { OnErr result (whole.new ≡ false) }
+    ensures full { OnErr result (IsFull 1 heard.old) }
 {
     match heard.push(Answered { answer, ticks }) {
         Ok(()) => Ok(()),
@@ -384,11 +397,9 @@ fn time_at(clock: &[u64], tick: u64) -> u64
 }
 
 impl Station for MemStation {
-    ghost use Rattle.psb_station.specs.Memory.{arrival_next, time_next};
+    ghost use Rattle.psb_station.specs.Memory.{Ticks};
 
-    ghost next_frame = { arrival_next };
-
-    ghost next_time = { time_next };
+    ghost gave_time = { Ticks };
 
     fn join(&mut self, id: u32, address: &str) -> Result<(), Failed> {
         if is_due(

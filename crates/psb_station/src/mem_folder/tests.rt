@@ -1,7 +1,6 @@
 use crate::{CallKind, Failed, Folder, FolderError, Item, Kind, MemFolder, Planned};
 use psb_bytes::Memory;
-use std::alloc::{AllocError, Global};
-use std::test::Fail;
+use std::alloc::Global;
 
 fn put(folder: &mut MemFolder, path: &str, bytes: &[u8]) -> Result<(), Memory> {
     if folder.takes_file(path) {
@@ -221,29 +220,6 @@ fn call_each(folder: &mut MemFolder) -> [bool; 5] {
 }
 
 #[test]
-fn each_call_fails_by_its_number(rt: HostRuntime) -> Result<(), Fail> {
-    let alloc = rt.alloc();
-    for i in 0..5usize {
-        let faults = vec![in alloc; i as u64 + 1, 9]?;
-        let Ok(mut folder) = home(alloc, faults) else {
-            return Err(Fail::from(AllocError));
-        };
-        let fails = call_each(&mut folder);
-        for (j, fail) in fails.iter().enumerate() {
-            assert_eq!(rt; *fail, i == j, "call {j} where {i} fails");
-        }
-        assert_eq!(rt; folder.folder_faults, 1);
-        assert_eq!(rt; folder.log.calls, 5);
-        assert_eq!(rt; folder.make_folder("a/g"), Ok(()));
-        assert_eq!(rt; folder.make_folder("a/h"), Ok(()));
-        assert_eq!(rt; folder.make_folder("a/i"), Ok(()));
-        assert_eq!(rt; folder.make_folder("a/j"), Err(Failed));
-        assert_eq!(rt; folder.folder_faults, 2);
-    }
-    Ok(())
-}
-
-#[test]
 fn the_calls_are_kept_in_their_order(rt: HostRuntime) -> Result<(), Memory> {
     let alloc = rt.alloc();
     let mut folder = home(alloc, Vec::new(alloc))?;
@@ -255,6 +231,11 @@ fn the_calls_are_kept_in_their_order(rt: HostRuntime) -> Result<(), Memory> {
         assert_eq!(rt; tried.path.as_slice(), path.as_bytes());
     }
     assert!(rt; folder.log.whole);
+    let kind = CallKind::List;
+    folder.plan(vec![in alloc; Planned { kind, number: 1 }]?);
+    let fails = call_each(&mut folder);
+    assert_eq!(rt; fails, [true, false, true, true, false]);
+    assert_eq!(rt; folder.folder_faults, 3);
     Ok(())
 }
 
@@ -268,36 +249,6 @@ fn a_name_is_what_may_stand_in_a_path(rt: HostRuntime) -> Result<(), Memory> {
     let names = [(" ", Kind::File), ("...", Kind::File), ("b", Kind::File)];
     assert!(rt; lists(&mut folder, "a", &names));
     assert!(rt; lists(&mut folder, "a/.", &[("b", Kind::File)]));
-    Ok(())
-}
-
-#[test]
-fn the_planned_calls_fail(rt: HostRuntime) -> Result<(), Fail> {
-    let alloc = rt.alloc();
-    let kinds = [
-        CallKind::List,
-        CallKind::ReadPiece,
-        CallKind::MakeFolder,
-        CallKind::MakeFile,
-        CallKind::Append,
-    ];
-    for (i, kind) in kinds.iter().enumerate() {
-        let Ok(mut folder) = home(alloc, Vec::new(alloc)) else {
-            return Err(Fail::from(AllocError));
-        };
-        folder.plan(vec![in alloc;
-            Planned {
-                kind: *kind,
-                number: 1
-            },
-        ]?);
-        for (j, fails) in call_each(&mut folder).iter().enumerate() {
-            assert_eq!(rt; *fails, i == j, "call {j} where {i} fails");
-        }
-        // each of them again, and the two that make something fail since it is there
-        let fails = call_each(&mut folder);
-        assert_eq!(rt; [fails[0], fails[1], fails[4]], [false; 3]);
-    }
     Ok(())
 }
 

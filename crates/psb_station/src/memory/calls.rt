@@ -1,8 +1,8 @@
 //! The calls of a station in memory: which fail, and which write.
-ghost use Rattle.std.specs.Prelude.{◌≡◌, ◌⊎◌, IsTrue, Contains, true, false};
+ghost use Rattle.std.specs.Prelude.{◌≡◌, ◌⊎◌, ◌≤◌, [], IsTrue, Contains, true, false};
 ghost use Rattle.psb_station.specs.Calls.{raised};
 ghost use Rattle.psb_station.specs.Plan.{is_planned, counted};
-ghost use Rattle.psb_station.specs.StationCalls.{with_change};
+ghost use Rattle.psb_station.specs.StationCalls.{with_change, Refuses};
 ghost use Rattle.psb_station.specs.contracts.memory.calls.StationCallPartialEq.TheImpl.{eq-value as same_call};
 
 use crate::count::is_due as is_due_by_number;
@@ -32,7 +32,10 @@ pub struct Plan {
 
 impl Plan {
     /// No call fails by its kind. Takes no memory.
-    pub fn new(alloc: Global) -> Plan {
+    pub fn new(alloc: Global) -> Plan
+        ensures faults { result.faults.items ≡ [] }
+        ensures changes { result.changes.items ≡ [] }
+    {
         Plan {
             faults: Vec::new(alloc),
             changes: Vec::new(alloc),
@@ -44,6 +47,7 @@ impl Plan {
 fn is_refused(changes: &mut Vec<u64>, number: u64, kind: StationCall) -> bool
     ensures kept { result ≡ false → changes.new.items ≡ with_change kind number changes.old.items }
     ensures refused { IsTrue result → changes.new.items ≡ changes.old.items }
+    ensures full { IsTrue result → Refuses kind changes.old changes.new }
 {
     match kind {
         StationCall::Write | StationCall::Cut | StationCall::Sync => changes.push(number).is_err(),
@@ -55,9 +59,10 @@ fn is_refused(changes: &mut Vec<u64>, number: u64, kind: StationCall) -> bool
 /// those of its kind, or where the growth of the record of calls that write was refused.
 pub fn is_due(faults: &[u64], calls: &mut u64, plan: &mut Plan, kind: StationCall) -> bool
     ensures count { calls.new ≡ raised calls.old }
-    ensures by_number { Contains faults.now calls.new → IsTrue result }
+    ensures no_fall { calls.old ≤ calls.new }
+    ensures by_number { Contains faults.now (raised calls.old) → IsTrue result }
     ensures planned { is_planned same_call.it kind plan.old.faults.items ≡ true → IsTrue result }
-    ensures cause { IsTrue result → Contains faults.now calls.new ⊎ (is_planned same_call.it kind plan.old.faults.items ≡ true) ⊎ (plan.new.changes.items ≡ plan.old.changes.items) }
+    ensures cause { IsTrue result → Contains faults.now (raised calls.old) ⊎ (is_planned same_call.it kind plan.old.faults.items ≡ true) ⊎ Refuses kind plan.old.changes plan.new.changes }
     ensures plan { plan.new.faults.items ≡ counted same_call.it kind plan.old.faults.items }
     ensures kept { result ≡ false → plan.new.changes.items ≡ with_change kind calls.new plan.old.changes.items }
 {

@@ -66,12 +66,6 @@ fn a_station_in_memory_hears_sends_and_says(rt: HostRuntime) -> Result<(), Fail>
     Ok(())
 }
 
-/// Which of nine calls fail, where these numbers are to fail. `now` cannot.
-fn failures(alloc: Global, faults: Vec<u64>) -> Result<[bool; 9], AllocError> {
-    let mut station = station(alloc, faults)?;
-    fail_each(alloc, &mut station)
-}
-
 /// Makes each call but `now` once, and says which fail.
 fn fail_each(alloc: Global, station: &mut MemStation) -> Result<[bool; 9], AllocError> {
     let mut into = frame_buffer(alloc)?;
@@ -90,62 +84,6 @@ fn fail_each(alloc: Global, station: &mut MemStation) -> Result<[bool; 9], Alloc
 }
 
 #[test]
-fn the_calls_of_the_given_numbers_fail(rt: HostRuntime) -> Result<(), Fail> {
-    let alloc = rt.alloc();
-    assert_eq!(rt; failures(alloc, Vec::new(alloc))?, [false; 9]);
-    for number in 1..10u64 {
-        let failed = failures(alloc, vec![in alloc; number]?)?;
-        for (i, one) in failed.iter().enumerate() {
-            assert_eq!(rt;
-                *one,
-                i as u64 + 1 == number,
-                "call {i} where {number} fails"
-            );
-        }
-    }
-    Ok(())
-}
-
-/// Which of two calls of each kind fail, in the order of the kinds.
-fn failures_of_two(
-    alloc: Global,
-    faults: Vec<Planned<StationCall>>,
-) -> Result<[[bool; 9]; 2], AllocError> {
-    let mut station = station(alloc, Vec::new(alloc))?;
-    station.plan(faults);
-    Ok([
-        fail_each(alloc, &mut station)?,
-        fail_each(alloc, &mut station)?,
-    ])
-}
-
-const KINDS: [StationCall; 9] = [
-    StationCall::Len,
-    StationCall::Read,
-    StationCall::Write,
-    StationCall::Cut,
-    StationCall::Sync,
-    StationCall::Join,
-    StationCall::Recv,
-    StationCall::Send,
-    StationCall::Say,
-];
-
-#[test]
-fn the_planned_calls_fail(rt: HostRuntime) -> Result<(), Fail> {
-    let alloc = rt.alloc();
-    for (i, kind) in KINDS.iter().enumerate() {
-        let kind = *kind;
-        let [first, second] = failures_of_two(alloc, vec![in alloc; Planned { kind, number: 2 }]?)?;
-        assert_eq!(rt; first, [false; 9]);
-        for (j, one) in second.iter().enumerate() {
-            assert_eq!(rt; *one, i == j, "call {j} where {i} fails");
-        }
-    }
-    Ok(())
-}
-
-#[test]
 fn the_calls_that_write_are_numbered(rt: HostRuntime) -> Result<(), Fail> {
     let alloc = rt.alloc();
     let mut station = station(alloc, vec![in alloc; 4]?)?;
@@ -159,27 +97,15 @@ fn the_calls_that_write_are_numbered(rt: HostRuntime) -> Result<(), Fail> {
 }
 
 #[test]
-fn a_call_of_now_counts_among_the_calls(rt: HostRuntime) -> Result<(), Fail> {
+fn a_planned_call_fails(rt: HostRuntime) -> Result<(), Fail> {
     let alloc = rt.alloc();
-    let mut station = station(alloc, vec![in alloc; 2]?)?;
-    assert_eq!(rt; station.now(), 50);
-    assert_eq!(rt; station.say(b"lost"), Err(Failed));
-    assert_eq!(rt; station.say(b"kept"), Ok(()));
-    assert_eq!(rt; station.said_bytes(), b"kept".as_slice());
+    let mut station = station(alloc, Vec::new(alloc))?;
+    let kind = StationCall::Say;
+    station.plan(vec![in alloc; Planned { kind, number: 2 }]?);
+    let said = [b"one", b"two", b"six"].map(|text| station.say(text));
+    assert_eq!(rt; said, [Ok(()), Err(Failed), Ok(())]);
+    assert_eq!(rt; station.said_bytes(), b"onesix".as_slice());
     Ok(())
-}
-
-#[test]
-fn an_empty_clock_gives_zero(rt: HostRuntime) {
-    let alloc = rt.alloc();
-    let mut station = MemStation::new(
-        alloc,
-        Vec::new(alloc),
-        Vec::new(alloc),
-        Vec::new(alloc),
-        Vec::new(alloc),
-    );
-    assert_eq!(rt; station.now(), 0);
 }
 
 /// The images that a crash at a call leaves, by outcome.

@@ -1,12 +1,9 @@
 use Rattle.std.proofs.Common.{◌<◌, Some, None, sym, subst, arith}
 use Rattle.psb_station.specs.View.Heard.{Clock}
-use Rattle.psb_station.proofs.Spans.{shows_rest}
-use Rattle.node_core.proofs.Reopened.{stored_at}
 use Rattle.node_serve.specs.Hears.{End, Stopped}
 use Rattle.node_serve.specs.Spans.{RanTurns}
 use Rattle.node_serve.specs.Turns.{turn_tally}
-use Rattle.node_serve.proofs.OneTurn.{clocked, turn_early, turn_still, turn_ticked}
-use Rattle.node_serve.proofs.Tries.{rests_tells}
+use Rattle.node_serve.proofs.OneTurn.{clocked, ready_still, turn_early, turn_still, turn_ticked}
 use Rattle.node_serve.proofs.serving.turn.Goals as goal
 
 pub returns-in-Err-clause-ran : goal.returns-in-Err-clause-ran
@@ -43,12 +40,7 @@ returns-clause-ran g c =
     c.in-Ok.ensures.whole above c.in-Ok.ensures.ran (clocked v1 v2 (Clock c.now-time.result) c.now-time.ensures.listens c.now-time.ensures.kept c.now-time.ensures.heard) c.tick_all.ensures.only_sends c.tick_all.ensures.tells c.in-Ok-tick_all.ensures.fed
 
 pub tick_all-requires-clause-ready : goal.tick_all-requires-clause-ready
-tick_all-requires-clause-ready g c =
-    let v1 = g.S.Disk.view c.receive.new.station in
-    let v2 = g.S.Disk.view c.now-time.new.self in
-    let r = c.in-Ok.ensures.ready in (
-      r.0,
-      r.1,
-      λ tells. stored_at g.L.Log.holds c.receive.new.node r.0.history v1 v2 (r.2 (rests_tells v1 v2 c.now-time.ensures.listens.rests tells))
-          (shows_rest _ v1 v2 c.now-time.ensures.listens.rests tells (r.2 (rests_tells v1 v2 c.now-time.ensures.listens.rests tells)).shows),
-    )
+tick_all-requires-clause-ready g c = ready_still g.L.Log.holds c.receive.new.node (g.S.Disk.view c.receive.new.station) (g.S.Disk.view c.now-time.new.self) c.now-time.ensures.listens.rests c.in-Ok.ensures.ready
+
+pub returns-then-time-clock-clause-ready : goal.returns-then-time-clock-clause-ready
+returns-then-time-clock-clause-ready g c = ready_still g.L.Log.holds c.receive.new.node (g.S.Disk.view c.receive.new.station) (g.S.Disk.view c.now-time.new.self) c.now-time.ensures.listens.rests c.in-Ok.ensures.ready

@@ -2,7 +2,8 @@ use Rattle.std.proofs.Common.{◌≡◌, ◌+◌, ◌≤◌, ◌++◌, [], ◌�
 use Rattle.psb_station.specs.Past.{ToldBy}
 use Rattle.psb_station.specs.declared.past.Past.{Past}
 use Rattle.psb_station.specs.declared.past.Call.TheVariants.{Write}
-use Rattle.psb_station.proofs.Kept.{torn_same, torn_longer, same_time, kept_images, kept_else, kept_keeps, kept_moment, refused_images, refused_since, pushed_ordered}
+use Rattle.psb_station.specs.Replay.{torn_longer}
+use Rattle.psb_station.proofs.Kept.{torn_same, same_time, kept_images, kept_else, kept_keeps, kept_moment, refused_images, refused_since, pushed_ordered}
 use Rattle.psb_station.proofs.memory.MemStationDisk.write_at.Goals as goal
 
 pub returns-then-is_due-clause-writes : goal.returns-then-is_due-clause-writes
