@@ -14,13 +14,13 @@ use Rattle.psb_model.specs.Needed.{brings, slots_given, brings_name, gives_slot,
 use Rattle.psb_model.specs.declared.change.Change.{Change}
 use Rattle.psb_model.specs.declared.change.Change.TheVariants.{Kept, TookFresh, TookSwap, LetGoBack, Replaced, Settled}
 use Rattle.psb_model.proofs.ByObject.{by_cases}
-use Rattle.psb_model.proofs.Own.{name_same}
 use Rattle.psb_model.proofs.Built.{valid_snoc}
 use Rattle.psb_machine.specs.Deals.{last_bringing, last_brought, are_others, meets_others}
-use Rattle.node_core.specs.declared.bodies.Bodies.{Bodies}
-use Rattle.node_core.specs.Bodies.{brought_from, KnowsBodies}
+use Rattle.node_core.specs.declared.body_index.BodyIndex.{BodyIndex}
+use Rattle.node_core.specs.BodyIndex.{brought_from, KnowsBodies}
 use Rattle.node_core.specs.Less.{without_body, IsLessOf, IsLess}
 use Rattle.node_core.proofs.Brought.{or_this, bytes_of}
+use Rattle.node_core.proofs.Lacks.{right_here}
 use Rattle.node_core.proofs.Reading.{next_of}
 
 -- ---- one change
@@ -162,7 +162,7 @@ brought_less n name (c ∷ cs) (d ∷ ds) is =
     ap (λ (o : Option ℕ). elim o [ Some k ↦ Some k | None ↦ cond (brings_name name d) (Some n) None ]) (brought_less (n + 1) name cs ds is.1)
     ∙ ap (λ (b : Bool). elim (brought_from (n + 1) name cs) [ Some k ↦ Some k | None ↦ cond b (Some n) None ]) (same_in (brings_name name) (brings_name_without name) c d is.0)
 
-pub bodies_less : (b : Bodies) (h less : List Change) → IsLess h less → KnowsBodies b h → KnowsBodies b less
+pub bodies_less : (b : BodyIndex) (h less : List Change) → IsLess h less → KnowsBodies b h → KnowsBodies b less
 bodies_less b h less is k = λ name. k name ∙ sym (brought_less 0 name h less is)
 
 -- ---- the bodies that are needed
@@ -200,29 +200,13 @@ record BothBring (name : List ℕ) (h less : List Change) : Type 0 where
   rest : last_bringing name less ≡ Some d
   body : body_of d ≡ body_of c
 
-pub or_right : (needed right : Bool) → (not needed || right) ≡ true → needed ≡ true → right ≡ true
-or_right true right h is = h
-or_right false right h is = absurd (false≢true is)
-
-or_middle : (a b c : Bool) → b ≡ true → (a || b || c) ≡ true
-or_middle true b c is = refl
-or_middle false true c is = refl
-or_middle false false c is = absurd (false≢true is)
-
 pub there_body : (name body : Option (List ℕ)) → is_body name body ≡ true → is_some body ≡ true
 there_body name None h = absurd (false≢true h)
 there_body name (Some bytes) h = refl
 
-needs_held : (s : State) (name : List ℕ) (o : Option (List ℕ)) (later : List Change) → elim o [ None ↦ false | Some n ↦ name_eq n name ] ≡ true → is_held s name ≡ true → list_any (brings_name name) later ≡ false → needs_name s o later ≡ true
-needs_held s name None later brings held none = absurd (false≢true brings)
-needs_held s name (Some n) later brings held none =
-    subst (λ (m : List ℕ). (is_held s m && not (list_any (brings_name m) later)) ≡ true) (sym (name_same n name brings)) (rw (held, none) refl)
-
 -- the last change that brings the bytes of a held name has them
 right_there : (s : State) (name : List ℕ) (d : Change) (later : List Change) → brings_name name d ≡ true → is_held s name ≡ true → list_any (brings_name name) later ≡ false → (not (is_needed_by s d later) || body_is_right d) ≡ true → is_some (body_of d) ≡ true
-right_there s name d later brings_it held none right =
-    let needed : is_needed_by s d later ≡ true = or_middle (is_begun d) (needs_name s (brings d) later) (needs_slot s (peer_of d) (slots_given d) later) (needs_held s name (brings d) later brings_it held none) in
-    there_body (brings d) (body_of d) (or_right (is_needed_by s d later) (body_is_right d) right needed)
+right_there s name d later brings_it held none right = there_body (brings d) (body_of d) (right_here s name d later brings_it held none right)
 
 both_bring : (s : State) (name : List ℕ) (h less : List Change) → IsLess h less → is_held s name ≡ true → bodies_right s less ≡ true → NoneBrings name h less ⊎ BothBring name h less
 both_bring s name [] [] is held right = inl (record { history = refl; rest = refl; none = refl })
@@ -277,4 +261,4 @@ meets_less h less name bytes is v =
 pub valid_less : (h less : List Change) (c : Change) → IsLess h less → IsValid less → IsValid (h ++ c ∷ []) → IsValid (less ++ c ∷ [])
 valid_less h less c is v valid =
     let next = next_of h c [] valid in
-    valid_snoc less c v next.readable.grammar (ap (λ (s : State). allowed s c) (state_less h less is) ∙ next.may) next.readable.fit next.built next.readable.brings
+    valid_snoc less c v next.readable.grammar (ap (λ (s : State). allowed s c) (state_less h less is) ∙ next.may) next.readable.fit next.built next.brings

@@ -1,0 +1,176 @@
+-- A change is made as the machine makes it.
+use Rattle.std.proofs.Common.{◌≡◌, ◌⊎◌, inl, inr, ⊎_elim, ℕ, ◌≤◌, true, List, [], ◌∷◌, ◌++◌, length, option_to_list, Option, Some, None, refl, sym, ◌∙◌, ap, subst, arith}
+use Rattle.std.specs.Option.{unwrap_or}
+use Rattle.std.proofs.lemmas.Bool.{and_parts, eqb-true}
+use Rattle.psb_station.specs.View.{View}
+use Rattle.psb_station.specs.Span.{Leaves, Shows, Keeps, Tells_bytes}
+use Rattle.psb_station.proofs.Spans.{weakened, then_run, shows_keeps, shows_wider}
+use Rattle.node_journal.specs.Entry.{Entry, entry}
+use Rattle.psb_model.specs.State.{State}
+use Rattle.psb_model.specs.Heads.{head_of, body_of}
+use Rattle.psb_model.specs.Conditions.{allowed, tests}
+use Rattle.psb_model.specs.Effects.{after}
+use Rattle.psb_model.specs.History.{state}
+use Rattle.psb_model.specs.Needed.{IsValid}
+use Rattle.psb_model.specs.declared.change.Change.{Change}
+use Rattle.psb_model.specs.declared.change.Change.TheVariants.{Begun}
+use Rattle.psb_model.proofs.Steps.{parts}
+use Rattle.psb_model.proofs.Built.{allows}
+use Rattle.psb_model.proofs.Prefixes.{state_snoc, changes_counted}
+use Rattle.psb_machine.specs.Machine.{Situation, Reaction as MachineReaction, settled}
+use Rattle.node_core.specs.declared.node.Node.{Node}
+use Rattle.node_core.specs.BodyIndex.{NotesBody, SameBodies}
+use Rattle.node_core.specs.Less.{IsLess}
+use Rattle.node_core.specs.Making.{MayMake}
+use Rattle.node_core.specs.declared.reaction.Reaction.{Reaction}
+use Rattle.node_core.specs.Reacting.{IsStep, Reacts, SameOwner}
+use Rattle.node_core.specs.Stands.{HoldsHistory, ReopensTo}
+use Rattle.node_core.specs.Stored.{Knows, KnowsSettings, Stored}
+use Rattle.node_core.proofs.Brought.{bodies_grown}
+use Rattle.node_core.proofs.Less.{less_all, less_append, valid_less}
+use Rattle.node_core.proofs.Making.{pushed, leaves_histories}
+use Rattle.node_core.proofs.Reopened.{reopens, stored_reopens}
+
+-- ---- the history after a change
+
+pub grown_to : (n : Situation) (m : MachineReaction) (c : Change) → m.grown ≡ Some c → (settled n m).history ≡ n.history ++ c ∷ []
+grown_to n m c is = ap (λ (o : Option Change). n.history ++ option_to_list o) is
+
+with_it : (n : Situation) (m : MachineReaction) (c : Change) → IsStep n m c → IsValid (n.history ++ c ∷ [])
+with_it n m c step = subst IsValid (grown_to n m c step.grown) step.valid
+
+-- no change after the first changes the settings
+settings_stay : (s : State) (c : Change) → allowed s c ≡ true → 1 ≤ s.changes → (after s c).settings ≡ s.settings
+settings_stay s (Begun body) may some =
+    let first : s.changes ≡ 0 = eqb-true s.changes 0 (parts (tests s (Begun body)) (allows s (Begun body) may).tests).0 in
+    absurd (omega (arith, first, some))
+settings_stay s _ may some = refl
+
+-- ---- what a node knows after it
+
+-- a node that made a change is where the machine is
+pub step_knows : {L : Type 0} (old new : Node L) (n : Situation) (m : MachineReaction) (c : Change) (size : ℕ) → MayMake old.ledger.state c → Knows old n → IsStep n m c
+    → new.ledger.state ≡ after old.ledger.state c → NotesBody old.bodies new.bodies c size → old.ledger.state.changes ≡ size → SameOwner old new → Knows new (settled n m)
+step_knows old new n m c size may k step grown notes counted rest =
+    let h = n.history in
+    let here : old.ledger.state.changes ≡ length h = ap (λ (s : State). s.changes) k.ledger ∙ changes_counted h in
+    let after_is : after (state h) c ≡ state (h ++ c ∷ []) = sym (state_snoc h c) in
+    let allowed_here = subst (λ (s : State). allowed s c ≡ true) k.ledger (and_parts _ (allowed old.ledger.state c) may.may).1 in
+    let settings : KnowsSettings new (after (state h) c) = record {
+      settings = k.settings.settings;
+      present = settings_stay (state h) c allowed_here (omega (arith, changes_counted h, k.valid.some)) ∙ k.settings.present;
+      own = rest.own ∙ k.settings.own;
+      seed = rest.seed ∙ k.settings.seed;
+      keys = rest.keys ∙ k.settings.keys;
+    } in
+    let knows : Knows new (record { history = h ++ c ∷ []; volatile = (settled n m).volatile }) = record {
+      valid = with_it n m c step;
+      ledger = grown ∙ ap (λ (s : State). after s c) k.ledger ∙ after_is;
+      settings = subst (λ (s : State). KnowsSettings new s) after_is settings;
+      bodies = bodies_grown old.bodies new.bodies h c k.bodies (subst (λ (j : ℕ). NotesBody old.bodies new.bodies c j) (sym counted ∙ here) notes);
+    } in
+    subst (λ (o : Situation). Knows new o) (sym (λ j. record { history = grown_to n m c step.grown j; volatile = (settled n m).volatile })) knows
+
+-- a node whose ledger, settings and bodies stay knows what it knew
+pub knows_still : {L : Type 0} (old new : Node L) (n : Situation) → new.ledger.state ≡ old.ledger.state → SameBodies old.bodies new.bodies → SameOwner old new → Knows old n → Knows new n
+knows_still old new n same bodies rest k = record {
+  valid = k.valid;
+  ledger = same ∙ k.ledger;
+  settings = record {
+    settings = k.settings.settings;
+    present = k.settings.present;
+    own = rest.own ∙ k.settings.own;
+    seed = rest.seed ∙ k.settings.seed;
+    keys = rest.keys ∙ k.settings.keys;
+  };
+  bodies = λ name. bodies name ∙ k.bodies name;
+}
+
+-- ---- what the disk holds after it
+
+-- with one change more it is the history with that change, less the same bodies
+less_more : (h less : List Change) (c : Change) → IsLess h less → IsLess (h ++ c ∷ []) (less ++ c ∷ [])
+less_more h less c is = less_append h less (c ∷ []) (c ∷ []) is (less_all (c ∷ []))
+
+-- a record that was added is the change's
+pub step_stored : {L : Type 0} (holds : L → List Entry → List ℕ → Type 0) (old new : Node L) (n : Situation) (m : MachineReaction) (c : Change) (head body : List ℕ) (v w : View) → MayMake old.ledger.state c → IsStep n m c
+    → head ≡ head_of c → body ≡ unwrap_or (body_of c) [] → (s : Stored holds old n.history v) → Shows (holds new.log (s.records ++ entry head body ∷ [])) w → Stored holds new (settled n m).history w
+step_stored holds old new n m c head body v w may step head_is body_is s shows =
+    subst (λ (l : List Change). Stored holds new l w) (sym (grown_to n m c step.grown)) (record {
+      less = s.less ++ c ∷ [];
+      is_less = less_more n.history s.less c s.is_less;
+      valid = valid_less n.history s.less c s.is_less s.valid (with_it n m c step);
+      records = s.records ++ entry head body ∷ [];
+      decoded = pushed s.less s.records c head body s.decoded head_is body_is may.there;
+      shows = shows;
+    })
+
+reopened : (stands : List Entry → List ℕ → Type 0) (h less : List Change) (i : List ℕ) → IsValid h → IsLess h less → IsValid less → HoldsHistory stands less i → ReopensTo stands h i
+reopened stands h less i v is sound s = reopens stands h less s.records i v is sound s.decoded s.image_is
+
+-- what the moments of adding it leave reopens
+pub step_leaves : {L : Type 0} (holds : L → List Entry → List ℕ → Type 0) (stands : List Entry → List ℕ → Type 0) (old : Node L) (n : Situation) (m : MachineReaction) (c : Change) (head body : List ℕ) (v0 : View) (told : ℕ) (v w : View)
+    → MayMake old.ledger.state c → IsValid n.history → IsStep n m c → head ≡ head_of c → body ≡ unwrap_or (body_of c) [] → (s : Stored holds old n.history v0)
+    → Leaves v w (λ i k. (k ≡ told) × (stands s.records i ⊎ stands (s.records ++ entry head body ∷ []) i))
+    → Leaves v w (λ i k. (k ≡ told) × (ReopensTo stands n.history i ⊎ ReopensTo stands (settled n m).history i))
+step_leaves holds stands old n m c head body v0 told v w may valid step head_is body_is s run =
+    let h = n.history in
+    let grown = grown_to n m c step.grown in
+    let next = with_it n m c step in
+    weakened v w (λ i k. (k ≡ told) × (HoldsHistory stands s.less i ⊎ HoldsHistory stands (s.less ++ c ∷ []) i)) (λ i k. (k ≡ told) × (ReopensTo stands h i ⊎ ReopensTo stands (settled n m).history i))
+    (λ i k both. (
+      both.0,
+      ⊎_elim (λ held. inl (reopened stands h s.less i valid s.is_less s.valid held))
+          (λ held. inr (subst (λ (l : List Change). ReopensTo stands l i) (sym grown) (reopened stands (h ++ c ∷ []) (s.less ++ c ∷ []) i next (less_more h s.less c s.is_less) (valid_less h s.less c s.is_less s.valid next) held))) both.1,
+    ))
+    (leaves_histories stands s.less s.records c head body told v w s.decoded head_is body_is may.there run)
+
+-- ---- what looking leaves
+
+pub stored_still : {L : Type 0} (holds : L → List Entry → List ℕ → Type 0) (old new : Node L) (h : List Change) (v w : View) → new.log ≡ old.log → Keeps v w → Tells_bytes w → Stored holds old h v → Stored holds new h w
+stored_still holds old new h v w same keeps tells s = record {
+  less = s.less;
+  is_less = s.is_less;
+  valid = s.valid;
+  records = s.records;
+  decoded = s.decoded;
+  shows = subst (λ l. Shows (holds l s.records) w) (sym same) (shows_keeps (holds old.log s.records) v w keeps tells s.shows);
+}
+
+-- looking at the disk leaves what it held, and what comes later goes on from there
+pub looked_leaves : {L : Type 0} (holds : L → List Entry → List ℕ → Type 0) (stands : List Entry → List ℕ → Type 0) (law : (log : L) (es : List Entry) (i : List ℕ) → holds log es i → stands es i) (node : Node L) (n : Situation) (v0 v1 v2 : View) (h : List Change)
+    → IsValid n.history → Stored holds node n.history v0 → Keeps v0 v1
+    → Leaves v1 v2 (λ i k. (k ≡ v1.told) × (ReopensTo stands n.history i ⊎ ReopensTo stands h i)) → Leaves v0 v2 (λ i k. (k ≡ v0.told) × (ReopensTo stands n.history i ⊎ ReopensTo stands h i))
+looked_leaves holds stands law node n v0 v1 v2 h valid s keeps run =
+    let all : List ℕ → ℕ → Type 0 = λ i k. (k ≡ v0.told) × (ReopensTo stands n.history i ⊎ ReopensTo stands h i) in
+    then_run v0 v1 v2 all
+    (weakened v0 v1 (λ i k. v0.may_leave i × (k ≡ v0.told)) all (λ i k is. (is.1, inl (stored_reopens holds stands law node n v0 valid s i is.0))) keeps.moments)
+    (weakened v1 v2 (λ i k. (k ≡ v1.told) × (ReopensTo stands n.history i ⊎ ReopensTo stands h i)) all (λ i k is. (is.0 ∙ keeps.works.told, is.1)) run)
+
+-- a log in which room was made holds what it held
+pub stored_room : {L : Type 0} (holds : L → List Entry → List ℕ → Type 0) (old new : Node L) (h : List Change) (v : View) → ((es : List Entry) (i : List ℕ) → holds old.log es i → holds new.log es i) → Stored holds old h v → Stored holds new h v
+stored_room holds old new h v wider s = record {
+  less = s.less;
+  is_less = s.is_less;
+  valid = s.valid;
+  records = s.records;
+  decoded = s.decoded;
+  shows = shows_wider (holds old.log s.records) (holds new.log s.records) v (λ i held. wider s.records i held) s.shows;
+}
+
+-- ---- a change that a node found
+
+-- the change that was found is that of the machine's reaction, and may come next
+pub is_step : (n : Situation) (m : MachineReaction) (c : Change) → m.grown ≡ Some c → IsValid (n.history ++ c ∷ []) → IsStep n m c
+is_step n m c grown valid = record { grown = grown; valid = subst IsValid (sym (grown_to n m c grown)) valid }
+
+pub found_step : (r : Reaction) (n : Situation) (m : MachineReaction) (c : Change) → r.change ≡ Some c → Reacts r m → IsValid (n.history ++ c ∷ []) → IsStep n m c
+found_step r n m c is reacts valid = is_step n m c (sym reacts.change ∙ is) valid
+
+-- a reaction that makes a change, whatever it tells
+abbrev some_reaction : Situation → Change → MachineReaction
+some_reaction n c = record { grown = Some c; letters = []; volatile = n.volatile; dropped = None }
+
+-- after it, it is known where the node is
+pub some_step : {L : Type 0} (new : Node L) (n : Situation) (c : Change) → IsValid (n.history ++ c ∷ []) → ((m : MachineReaction) → IsStep n m c → Knows new (settled n m)) → (o : Situation) × Knows new o
+some_step new n c valid step = (settled n (some_reaction n c), step (some_reaction n c) (is_step n (some_reaction n c) c refl valid))

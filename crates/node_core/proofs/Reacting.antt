@@ -1,0 +1,145 @@
+-- What a node makes of an input is what the machine makes of it.
+use Rattle.std.proofs.Common.{◌≡◌, ℕ, Bool, false, ◌≤◌, List, [], ◌∷◌, ◌++◌, option_map, option_to_list, slice_get, length, is_some, IfSome, Option, Some, arith, sym, ◌∙◌, ap, subst}
+use Rattle.psb_station.specs.View.{View}
+use Rattle.psb_station.specs.Span.{Shows}
+use Rattle.psb_station.proofs.Spans.{same_some}
+use Rattle.node_journal.specs.Entry.{Entry}
+use Rattle.psb_settings.specs.declared.settings.Settings.{Settings}
+use Rattle.psb_model.specs.State.{State, row, is_held}
+use Rattle.psb_model.specs.History.{state}
+use Rattle.psb_model.specs.Needed.{IsValid}
+use Rattle.psb_model.specs.declared.change.Change.{Change}
+use Rattle.wire_codec.specs.Frames.{datagram}
+use Rattle.wire_codec.specs.declared.frame.Frame.{Frame}
+use Rattle.psb_machine.specs.Replies.{reply_of, reply}
+use Rattle.psb_machine.specs.Machine.{Situation, Input, Datagram, Reaction as MachineReaction, react}
+use Rattle.psb_machine.specs.declared.deals.Refusal.{Refusal}
+use Rattle.psb_machine.proofs.Lasts.{LastIs, last_there}
+use Rattle.psb_ledger.specs.Records.{OneChangeEach}
+use Rattle.node_core.specs.declared.node.Node.{Node}
+use Rattle.node_core.specs.declared.offer.Offer.{Offer}
+use Rattle.node_core.specs.declared.outcome.Letter.{Letter}
+use Rattle.node_core.specs.declared.reaction.Reaction.{Reaction}
+use Rattle.node_core.specs.Again.{IsAnswerOf}
+use Rattle.node_core.specs.Letters.{letters_of}
+use Rattle.node_core.specs.Making.{CanMake, why_refused, clashes, made_of, made_in}
+use Rattle.node_core.specs.Reacting.{MakesChange, TellsAgain, Makes, MakesNone, IsToldAgain, Reacts, ReactsSo, MayCome}
+use Rattle.node_core.specs.Stored.{Knows, Stored}
+use Rattle.node_core.specs.Unread.{IsUnread}
+use Rattle.node_core.proofs.Again.{answer_is}
+use Rattle.node_core.proofs.Less.{state_less, meets_less}
+
+-- ---- an offer that makes a change
+
+-- why it is refused by what the disk holds is why it is by the history
+pub refused_less : {L : Type 0} (holds : L → List Entry → List ℕ → Type 0) (node : Node L) (h : List Change) (v : View) (o : Offer) (refusal : Option Refusal) → (s : Stored holds node h v)
+    → refusal ≡ why_refused (state s.less) o (clashes s.less o) → refusal ≡ why_refused (state h) o (clashes h o)
+refused_less holds node h v o refusal s is =
+    is
+    ∙ ap (λ (t : State). why_refused t o (clashes s.less o)) (state_less h s.less s.is_less)
+    ∙ ap (λ (b : Bool). why_refused (state h) o b) (meets_less h s.less o.name o.bytes.now s.is_less s.valid)
+
+-- the change that is made is the machine's
+pub makes_in : {L : Type 0} (r : Reaction) (node : Node L) (h : List Change) (o : Offer) (refusal : Option Refusal) → node.ledger.state ≡ state h → refusal ≡ why_refused (state h) o (clashes h o)
+    → Makes r node o (made_of node.ledger.state o refusal) → Makes r node o (made_in h o)
+makes_in r node h o refusal here is makes =
+    subst (λ (c : Change). Makes r node o c) (ap (λ (t : State). made_of t o refusal) here ∙ ap (λ (f : Option Refusal). made_of (state h) o f) is) makes
+
+pub reacts_made : {L : Type 0} (r : Reaction) (node : Node L) (n : Situation) (i : Input) (x : List ℕ) (o : Offer) → i ≡ Datagram x → Knows node n → MakesChange n x o → Makes r node o (made_in n.history o) → Reacts r (react n i)
+reacts_made r node n i x o is k m makes =
+    let c = made_in n.history o in
+    let here = ap (λ (j : Input). react n j) is ∙ m.reaction in
+    let same : k.settings.settings ≡ m.settings = same_some (state n.history).settings k.settings.settings m.settings k.settings.present m.present in
+    record {
+      change = makes.change ∙ sym (ap (λ (q : MachineReaction). q.grown) here);
+      letters =
+          makes.letters
+          ∙ ap (λ (own : ℕ). (o.peer, datagram o.key own o.peer o.number (reply_of node.seed c)) ∷ []) (k.settings.own ∙ ap (λ (st : Settings). st.id) same)
+          ∙ ap (λ (seed : List ℕ). (o.peer, datagram o.key m.settings.id o.peer o.number (reply_of seed c)) ∷ []) (k.settings.seed ∙ ap (λ (st : Settings). st.seed) same)
+          ∙ sym (ap (λ (q : MachineReaction). q.letters) here);
+      dropped = makes.dropped ∙ sym (ap (λ (q : MachineReaction). q.dropped) here);
+    }
+
+pub reacts_made_so : {L : Type 0} (r : Reaction) (node : Node L) (n : Situation) (i : Input) (x : List ℕ) (o : Offer) (c : Change) → i ≡ Datagram x → MakesChange n x o → Makes r node o c → ReactsSo r (react n i)
+reacts_made_so r node n i x o c is m makes =
+    let here = ap (λ (j : Input). react n j) is ∙ m.reaction in
+    record {
+      change = ap (λ (f : Option Change). is_some f) makes.change ∙ sym (ap (λ (q : MachineReaction). is_some q.grown) here);
+      dropped = makes.dropped ∙ sym (ap (λ (q : MachineReaction). q.dropped) here);
+    }
+
+-- the change may come next
+pub made_may_come : {L : Type 0} (r : Reaction) (node : Node L) (x : List ℕ) (o : Offer) (clash : Bool) → CanMake node.ledger.state o → ((n : Situation) → Knows node n → MakesChange n x o)
+    → Makes r node o (made_of node.ledger.state o (why_refused node.ledger.state o clash)) → IfSome r.change (MayCome Knows node)
+made_may_come r node x o clash can m makes =
+    subst (λ (f : Option Change). IfSome f (MayCome Knows node)) (sym makes.change) (
+      (can clash).may,
+      λ n k. subst (λ (s : State). IsValid (n.history ++ made_of s o (why_refused s o clash) ∷ [])) (sym k.ledger) ((m n k).valid clash),
+    )
+
+-- where no record is read for the input, none is held under the name
+pub unread_unheld : (n : Situation) (i : Input) (x : List ℕ) (o : Offer) → i ≡ Datagram x → MakesChange n x o → IsUnread n i → is_held (state n.history) o.name ≡ false
+unread_unheld n i x o is m u = m.unread (subst (λ (j : Input). IsUnread n j) is u)
+
+-- ---- a deal that comes again
+
+-- for it a record is read
+pub never_unread : {P : Type 0} (n : Situation) (i : Input) (x : List ℕ) (o : Offer) (change : ℕ) → i ≡ Datagram x → TellsAgain n x o change → IsUnread n i → P
+never_unread n i x o change is t u = absurd (t.read.not_unread (subst (λ (j : Input). IsUnread n j) is u))
+
+pub reacts_again : (r : Reaction) (n : Situation) (i : Input) (x : List ℕ) (o : Offer) (change : ℕ) → i ≡ Datagram x → TellsAgain n x o change → MakesNone r → IsToldAgain n o change (letters_of r.out) → Reacts r (react n i)
+reacts_again r n i x o change is t none told =
+    let here = ap (λ (j : Input). react n j) is ∙ t.reaction in
+    record {
+      change = none.change ∙ sym (ap (λ (q : MachineReaction). q.grown) here);
+      letters = told t.last t.some t.settings t.present ∙ sym (ap (λ (q : MachineReaction). q.letters) here);
+      dropped = none.dropped ∙ sym (ap (λ (q : MachineReaction). q.dropped) here);
+    }
+
+pub reacts_again_so : (r : Reaction) (n : Situation) (i : Input) (x : List ℕ) (o : Offer) (change : ℕ) → i ≡ Datagram x → TellsAgain n x o change → MakesNone r → ReactsSo r (react n i)
+reacts_again_so r n i x o change is t none =
+    let here = ap (λ (j : Input). react n j) is ∙ t.reaction in
+    record {
+      change = ap (λ (f : Option Change). is_some f) none.change ∙ sym (ap (λ (q : MachineReaction). is_some q.grown) here);
+      dropped = none.dropped ∙ sym (ap (λ (q : MachineReaction). q.dropped) here);
+    }
+
+-- what was made again answers the last deal
+pub told_again : {L : Type 0} (holds : L → List Entry → List ℕ → Type 0) (one : OneChangeEach) (node : Node L) (n : Situation) (v : View) (offer : Offer) (change : ℕ) (o : Option Frame) (letters : List (ℕ × List ℕ)) → Knows node n → Stored holds node n.history v
+    → ((es : List Entry) → Shows (holds node.log es) v → IfSome (slice_get es change) (λ e. IsAnswerOf o node.seed e.head))
+    → ((frame : Frame) → o ≡ Some frame → letters ≡ (offer.peer, datagram offer.key node.own offer.peer offer.number frame) ∷ []) → IsToldAgain n offer change letters
+told_again holds one node n v offer change o letters k s answers tells = λ last some settings present.
+    let h = n.history in
+    let p = offer.peer in
+    let there = subst (λ (m : ℕ). LastIs h (row (state h) p).last.number m) last (last_there h p k.valid some) in
+    let a = answer_is one h s.less s.records node.seed p o (row (state h) p).last.number change s.is_less s.decoded there (answers s.records s.shows) in
+    let same : k.settings.settings ≡ settings = same_some (state h).settings k.settings.settings settings k.settings.present present in
+    tells (reply_of node.seed a.0) a.2
+    ∙ ap (λ (own : ℕ). (p, datagram offer.key own p offer.number (reply_of node.seed a.0)) ∷ []) (k.settings.own ∙ ap (λ (st : Settings). st.id) same)
+    ∙ ap (λ (seed : List ℕ). (p, datagram offer.key settings.id p offer.number (reply_of seed a.0)) ∷ []) (k.settings.seed ∙ ap (λ (st : Settings). st.seed) same)
+    ∙ ap (λ (x : Option Change). option_to_list (option_map (reply settings offer.key p offer.number) x)) (sym a.1)
+
+-- ---- the letters
+
+-- the one letter
+pub one_letter_is : (out : List Letter) (letter : Letter) (p : ℕ) (frame : List ℕ) → out ≡ letter ∷ [] → letter.to ≡ p → letter.frame ≡ frame → letters_of out ≡ (p, frame) ∷ []
+one_letter_is out letter p frame is to has = ap letters_of is ∙ (λ i. (to i, has i) ∷ [])
+
+one_long : (out : List Letter) (letter : ℕ × List ℕ) → letters_of out ≡ letter ∷ [] → length out ≤ 2
+one_long [] letter is = absurd (cc)
+one_long (x ∷ []) letter is = omega arith
+one_long (x ∷ y ∷ out) letter is = absurd (cc)
+
+pub makes_few : {L : Type 0} (r : Reaction) (node : Node L) (o : Offer) (c : Change) → Makes r node o c → length r.out ≤ 2
+makes_few r node o c makes = one_long r.out (o.peer, datagram o.key node.own o.peer o.number (reply_of node.seed c)) makes.letters
+
+-- a node that only looked at its log makes the same
+pub makes_still : {L : Type 0} (r : Reaction) (old new : Node L) (o : Offer) (c : Change) → new.own ≡ old.own → new.seed ≡ old.seed → Makes r new o c → Makes r old o c
+makes_still r old new o c own seed makes = record {
+  change = makes.change;
+  letters =
+      makes.letters
+      ∙ ap (λ (w : ℕ). (o.peer, datagram o.key w o.peer o.number (reply_of new.seed c)) ∷ []) own
+      ∙ ap (λ (w : List ℕ). (o.peer, datagram o.key old.own o.peer o.number (reply_of w c)) ∷ []) seed;
+  dropped = makes.dropped;
+}

@@ -1,0 +1,113 @@
+-- What a node makes of an input, and what making a change does to it.
+use Rattle.std.specs.Prelude.{◌≡◌, ◌≤◌, ◌<◌, ℕ, Bool, false, ◌==◌, List, [], ◌∷◌, ◌++◌, length, Some, None, Option, slice_get, option_map, option_to_list, is_some}
+use Rattle.psb_bytes.specs.Units.{longest_chunk}
+use Rattle.psb_settings.specs.declared.settings.Settings.{Settings}
+use Rattle.psb_model.specs.State.{State, row, is_held}
+use Rattle.psb_model.specs.History.{state}
+use Rattle.psb_model.specs.Needed.{IsValid}
+use Rattle.psb_model.specs.declared.change.Change.{Change}
+use Rattle.wire_codec.specs.Frames.{datagram}
+use Rattle.psb_machine.specs.Replies.{reply_of, reply}
+use Rattle.psb_machine.specs.Machine.{Situation, Datagram, Reaction as MachineReaction, react, settled, quiet, drops, makes, tells_again}
+use Rattle.node_core.specs.Letters.{letters_of}
+use Rattle.node_core.specs.Making.{CanMake, MayMake, made_of, made_in, why_refused}
+use Rattle.node_core.specs.Unread.{IsUnread, NeedsRecord}
+use Rattle.node_core.specs.declared.decision.Decision.{Decision}
+use Rattle.node_core.specs.declared.decision.Decision.TheVariants.{Drop, Pass, Make, Again}
+use Rattle.node_core.specs.declared.offer.Offer.{Offer}
+use Rattle.node_core.specs.declared.reaction.Reaction.{Reaction}
+use Rattle.node_core.specs.declared.node.Node.{Node}
+
+-- ---- what is to be done with a datagram
+
+-- the machine makes the change of this offer, and tells of it
+pub record MakesChange (n : Situation) (x : List ℕ) (o : Offer) : Type 0 where
+  pub settings : Settings
+  pub present : (state n.history).settings ≡ Some settings
+  pub reaction : react n (Datagram x) ≡ makes (made_in n.history o) (reply settings o.key o.peer o.number (made_in n.history o)) n.volatile
+  -- whether or not other bytes are held under the name, what the offer makes is valid
+  pub valid : (clash : Bool) → IsValid (n.history ++ made_of (state n.history) o (why_refused (state n.history) o clash) ∷ [])
+  -- an offer for which no record is read has a name under which nothing is held
+  pub unread : IsUnread n (Datagram x) → is_held (state n.history) o.name ≡ false
+
+-- the machine tells again of the change of the peer's last deal
+pub record TellsAgain (n : Situation) (x : List ℕ) (o : Offer) (change : ℕ) : Type 0 where
+  pub settings : Settings
+  pub present : (state n.history).settings ≡ Some settings
+  pub reaction : react n (Datagram x) ≡ tells_again (option_map (reply settings o.key o.peer o.number) (slice_get n.history change)) n.volatile
+  pub last : (row (state n.history) o.peer).last.change ≡ change
+  pub some : ((row (state n.history) o.peer).last.number == 0) ≡ false
+  -- that change is read from its record
+  pub read : NeedsRecord n (Datagram x)
+
+-- what the machine does with the datagram is decided
+abbrev pub Decides : Decision → Situation → List ℕ → Type 0
+Decides (Drop why) n x = react n (Datagram x) ≡ drops why n.volatile
+Decides Pass n x = react n (Datagram x) ≡ quiet n.volatile
+Decides (Make o) n x = MakesChange n x o
+Decides (Again o change) n x = TellsAgain n x o change
+
+-- what was decided can be done: the change may be made, or was made, and can be told of
+abbrev pub CanDo : Decision → State → Type 0
+CanDo (Drop why) s = Unit {0}
+CanDo Pass s = Unit {0}
+CanDo (Make o) s = CanMake s o × (length o.bytes.now ≤ longest_chunk)
+CanDo (Again o change) s = change < s.changes
+
+-- ---- what is made of it
+
+-- the letters are the one that answers the offer by this change
+abbrev pub TellsOf : {L : Type 0} → List (ℕ × List ℕ) → Node L → Offer → Change → Type 0
+TellsOf letters node o c = letters ≡ (o.peer, datagram o.key node.own o.peer o.number (reply_of node.seed c)) ∷ []
+
+-- this change is to be made of the offer, and told of
+pub record Makes {L : Type 0} (r : Reaction) (node : Node L) (o : Offer) (c : Change) : Type 0 where
+  pub change : r.change ≡ Some c
+  pub letters : TellsOf (letters_of r.out) node o c
+  pub dropped : r.dropped ≡ None
+
+-- where it is the change of the peer's last deal, the letters tell of it again
+abbrev pub IsToldAgain : Situation → Offer → ℕ → List (ℕ × List ℕ) → Type 0
+IsToldAgain n o change letters =
+    (row (state n.history) o.peer).last.change ≡ change → ((row (state n.history) o.peer).last.number == 0) ≡ false
+    → (settings : Settings) → (state n.history).settings ≡ Some settings
+    → letters ≡ option_to_list (option_map (reply settings o.key o.peer o.number) (slice_get n.history change))
+
+-- no change is to be made
+pub record MakesNone (r : Reaction) : Type 0 where
+  pub change : r.change ≡ None
+  pub dropped : r.dropped ≡ None
+  pub few : length r.out ≤ 1
+
+-- it is what the machine makes of the input
+pub record Reacts (r : Reaction) (m : MachineReaction) : Type 0 where
+  pub change : r.change ≡ m.grown
+  pub letters : letters_of r.out ≡ m.letters
+  pub dropped : r.dropped ≡ m.dropped
+
+-- on every disk it is so but for which change is made, if one is
+pub record ReactsSo (r : Reaction) (m : MachineReaction) : Type 0 where
+  pub change : is_some r.change ≡ is_some m.grown
+  pub dropped : r.dropped ≡ m.dropped
+
+-- the change may be made by a node with this state, and come next in its history
+abbrev pub MayCome : {L : Type 0} → (Node L → Situation → Type 0) → Node L → Change → Type 0
+MayCome knows node c = MayMake node.ledger.state c × ((n : Situation) → knows node n → IsValid (n.history ++ c ∷ []))
+
+-- ---- a change is made
+
+-- the change is that of the reaction, and may come next
+pub record IsStep (n : Situation) (m : MachineReaction) (c : Change) : Type 0 where
+  pub grown : m.grown ≡ Some c
+  pub valid : IsValid (settled n m).history
+
+-- what a node keeps of its settings stays
+pub record SameOwner {L : Type 0} (old new : Node L) : Type 0 where
+  pub own : new.own ≡ old.own
+  pub seed : new.seed ≡ old.seed
+  pub keys : new.keys ≡ old.keys
+
+-- the number of the change that grew, if one did, where it is the next one
+abbrev pub numbered : Option Change → ℕ → Option ℕ
+numbered None number = None
+numbered (Some c) number = Some number
