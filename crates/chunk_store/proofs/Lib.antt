@@ -1,0 +1,3 @@
+mod OwnerLists
+mod Names
+mod Whole

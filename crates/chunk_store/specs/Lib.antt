@@ -1,0 +1,6 @@
+pub mod Owners
+pub mod Records
+pub mod Latest
+pub mod Table
+pub mod Store
+pub mod Looks
