@@ -2,8 +2,7 @@
 
 ghost use Rattle.std.specs.Prelude.{◌≡◌, ◌↔◌, ◌⊎◌, ◌<◌, ℕ, List, Some, None, true, false, slice_get, IsSome, IfSome, IfOk, OnOk, OnErr};
 ghost use Rattle.psb_digest.specs.Hashes.{sha as sha_of};
-ghost use Rattle.psb_station.specs.Calls.{Rose};
-ghost use Rattle.psb_station.specs.Span.{Shows, Tells_bytes, Keeps};
+ghost use Rattle.psb_station.specs.Span.{Shows, Tells_bytes, Looked};
 ghost use Rattle.node_journal.specs.Entry.{Entry};
 ghost use Rattle.chunk_store.specs.Store.{record_of, is_owner};
 ghost use Rattle.chunk_store.specs.Looks.{Compares, was_compared};
@@ -48,10 +47,8 @@ impl Store {
         ensures shared { result ≡ Ok Fit.Shared → scratch.new.items ≡ body.now }
         ensures unread { (result ≡ Err StoreError.Already) ⊎ (result ≡ Ok Fit.New) → (disk.new ≡ disk.old) × (scratch.new ≡ scratch.old) }
         ensures log { log.new ≡ log.old }
-        ensures keeps { Keeps (D.view disk.old) (D.view disk.new) }
+        ensures looked { Looked (result ≡ Err StoreError.DiskFault) (D.view disk.old) (D.view disk.new) }
         ensures reads { (D.view disk.new).write_faults ≡ (D.view disk.old).write_faults }
-        ensures disk_cause { result ≡ Err StoreError.DiskFault → Rose (D.view disk.old).disk_faults (D.view disk.new).disk_faults }
-        ensures steady { (result ≡ Err StoreError.DiskFault) ⊎ ((D.view disk.new).disk_faults ≡ (D.view disk.old).disk_faults) }
     {
         if self.holds(owner, name) {
             return Err(StoreError::Already);
@@ -80,10 +77,8 @@ impl Store {
             → IfSome (record_of self.now name.now) (λ k. IfSome (slice_get es k) (λ e. e.body ≡ Some into.new.items))) }
         ensures unread { result ≡ Ok false → (disk.new ≡ disk.old) × (into.new ≡ into.old) }
         ensures log { log.new ≡ log.old }
-        ensures keeps { Keeps (D.view disk.old) (D.view disk.new) }
+        ensures looked { Looked (result ≡ Err StoreError.DiskFault) (D.view disk.old) (D.view disk.new) }
         ensures reads { (D.view disk.new).write_faults ≡ (D.view disk.old).write_faults }
-        ensures disk_cause { result ≡ Err StoreError.DiskFault → Rose (D.view disk.old).disk_faults (D.view disk.new).disk_faults }
-        ensures steady { (result ≡ Err StoreError.DiskFault) ⊎ ((D.view disk.new).disk_faults ≡ (D.view disk.old).disk_faults) }
         ensures only { OnErr result ((result ≡ Err StoreError.DiskFault) ⊎ (result ≡ Err StoreError.Memory)) }
         ensures memory { result ≡ Err StoreError.Memory → disk.new ≡ disk.old }
     {
@@ -107,10 +102,8 @@ fn read_body<L: Log, D: Disk>(
     ensures bytes { OnOk result (Tells_bytes (D.view disk.new) → (es : List Entry) → Shows (L.holds log.old es) (D.view disk.old)
         → IfSome (slice_get es record_no) (λ e. e.body ≡ Some into.new.items)) }
     ensures log { log.new ≡ log.old }
-    ensures keeps { Keeps (D.view disk.old) (D.view disk.new) }
+    ensures looked { Looked (result ≡ Err StoreError.DiskFault) (D.view disk.old) (D.view disk.new) }
     ensures reads { (D.view disk.new).write_faults ≡ (D.view disk.old).write_faults }
-    ensures disk_cause { result ≡ Err StoreError.DiskFault → Rose (D.view disk.old).disk_faults (D.view disk.new).disk_faults }
-    ensures steady { (result ≡ Err StoreError.DiskFault) ⊎ ((D.view disk.new).disk_faults ≡ (D.view disk.old).disk_faults) }
     ensures only { OnErr result ((result ≡ Err StoreError.DiskFault) ⊎ (result ≡ Err StoreError.Memory)) }
     ensures memory { result ≡ Err StoreError.Memory → disk.new ≡ disk.old }
 {

@@ -1,7 +1,8 @@
 -- A change is made as the machine makes it.
-use Rattle.std.proofs.Common.{◌≡◌, ◌⊎◌, inl, inr, ⊎_elim, ℕ, ◌≤◌, true, List, [], ◌∷◌, ◌++◌, length, option_to_list, Option, Some, None, refl, sym, ◌∙◌, ap, subst, arith}
+use Rattle.std.proofs.Common.{◌≡◌, ◌⊎◌, inl, inr, ⊎_elim, ℕ, ◌≤◌, ◌<◌, Bool, true, List, [], ◌∷◌, ◌++◌, length, option_to_list, Option, Some, None, refl, sym, ◌∙◌, ap, subst, arith}
 use Rattle.std.specs.Option.{unwrap_or}
 use Rattle.std.proofs.lemmas.Bool.{and_parts, eqb-true}
+use Rattle.std.proofs.lemmas.List.{append-nil}
 use Rattle.psb_station.specs.View.{View}
 use Rattle.psb_station.specs.Span.{Leaves, Shows, Keeps, Tells_bytes}
 use Rattle.psb_station.proofs.Spans.{weakened, then_run, shows_keeps, shows_wider}
@@ -19,14 +20,16 @@ use Rattle.psb_model.proofs.Built.{allows}
 use Rattle.psb_model.proofs.Prefixes.{state_snoc, changes_counted}
 use Rattle.psb_machine.specs.Machine.{Situation, Reaction as MachineReaction, settled}
 use Rattle.node_core.specs.declared.node.Node.{Node}
-use Rattle.node_core.specs.BodyIndex.{NotesBody, SameBodies}
+use Rattle.chunk_store.specs.declared.store.Store.{Store}
+use Rattle.chunk_store.specs.Store.{record_of, is_owner}
+use Rattle.node_core.specs.Names.{SameNames, Enters}
 use Rattle.node_core.specs.Less.{IsLess}
 use Rattle.node_core.specs.Making.{MayMake}
 use Rattle.node_core.specs.declared.reaction.Reaction.{Reaction}
-use Rattle.node_core.specs.Reacting.{IsStep, Reacts, SameOwner}
+use Rattle.node_core.specs.Reacting.{IsStep, Reacts, SameOwner, IsSame}
 use Rattle.node_core.specs.Stands.{HoldsHistory, ReopensTo}
-use Rattle.node_core.specs.Stored.{Knows, KnowsSettings, Stored}
-use Rattle.node_core.proofs.Brought.{bodies_grown}
+use Rattle.node_core.specs.Stored.{Knows, KnowsSettings, Stored, IsCounted}
+use Rattle.node_core.proofs.Entered.{names_grown, names_same}
 use Rattle.node_core.proofs.Less.{less_all, less_append, valid_less}
 use Rattle.node_core.proofs.Making.{pushed, leaves_histories}
 use Rattle.node_core.proofs.Reopened.{reopens, stored_reopens}
@@ -49,9 +52,9 @@ settings_stay s _ may some = refl
 -- ---- what a node knows after it
 
 -- a node that made a change is where the machine is
-pub step_knows : {L : Type 0} (old new : Node L) (n : Situation) (m : MachineReaction) (c : Change) (size : ℕ) → MayMake old.ledger.state c → Knows old n → IsStep n m c
-    → new.ledger.state ≡ after old.ledger.state c → NotesBody old.bodies new.bodies c size → old.ledger.state.changes ≡ size → SameOwner old new → Knows new (settled n m)
-step_knows old new n m c size may k step grown notes counted rest =
+pub step_knows : {L : Type 0} (old new : Node L) (n : Situation) (m : MachineReaction) (c : Change) (mid : Store) (size : ℕ) → MayMake old.ledger.state c → Knows old n → IsStep n m c
+    → new.ledger.state ≡ after old.ledger.state c → SameNames old.names mid → Enters mid new.names c size → old.ledger.state.changes ≡ size → SameOwner old new → new.ledger.state.issued ≤ new.claims.issued → Knows new (settled n m)
+step_knows old new n m c mid size may k step grown same enters counted rest issued =
     let h = n.history in
     let here : old.ledger.state.changes ≡ length h = ap (λ (s : State). s.changes) k.ledger ∙ changes_counted h in
     let after_is : after (state h) c ≡ state (h ++ c ∷ []) = sym (state_snoc h c) in
@@ -59,31 +62,52 @@ step_knows old new n m c size may k step grown notes counted rest =
     let settings : KnowsSettings new (after (state h) c) = record {
       settings = k.settings.settings;
       present = settings_stay (state h) c allowed_here (omega (arith, changes_counted h, k.valid.some)) ∙ k.settings.present;
-      own = rest.own ∙ k.settings.own;
+      peers = rest.peers ∙ k.settings.peers;
       seed = rest.seed ∙ k.settings.seed;
-      keys = rest.keys ∙ k.settings.keys;
     } in
     let knows : Knows new (record { history = h ++ c ∷ []; volatile = (settled n m).volatile }) = record {
       valid = with_it n m c step;
       ledger = grown ∙ ap (λ (s : State). after s c) k.ledger ∙ after_is;
       settings = subst (λ (s : State). KnowsSettings new s) after_is settings;
-      bodies = bodies_grown old.bodies new.bodies h c k.bodies (subst (λ (j : ℕ). NotesBody old.bodies new.bodies c j) (sym counted ∙ here) notes);
+      names = names_grown mid new.names h c k.valid.lawful k.valid.built may.read allowed_here (names_same old.names mid h same k.names) (subst (λ (j : ℕ). Enters mid new.names c j) (sym counted ∙ here) enters);
+      issued = omega (arith, issued, ap (λ (s : State). s.issued) grown, ap (λ (s : State). (after s c).issued) k.ledger, ap (λ (s : State). s.issued) after_is);
     } in
     subst (λ (o : Situation). Knows new o) (sym (λ j. record { history = grown_to n m c step.grown j; volatile = (settled n m).volatile })) knows
 
--- a node whose ledger, settings and bodies stay knows what it knew
-pub knows_still : {L : Type 0} (old new : Node L) (n : Situation) → new.ledger.state ≡ old.ledger.state → SameBodies old.bodies new.bodies → SameOwner old new → Knows old n → Knows new n
-knows_still old new n same bodies rest k = record {
+-- a node whose ledger, settings and names stay knows what it knew
+pub knows_still : {L : Type 0} (old new : Node L) (n : Situation) → new.ledger.state ≡ old.ledger.state → SameNames old.names new.names → SameOwner old new → Knows old n → Knows new n
+knows_still old new n same names rest k = record {
   valid = k.valid;
   ledger = same ∙ k.ledger;
   settings = record {
     settings = k.settings.settings;
     present = k.settings.present;
-    own = rest.own ∙ k.settings.own;
+    peers = rest.peers ∙ k.settings.peers;
     seed = rest.seed ∙ k.settings.seed;
-    keys = rest.keys ∙ k.settings.keys;
   };
-  bodies = λ name. bodies name ∙ k.bodies name;
+  names = names_same old.names new.names n.history names k.names;
+  issued = omega (arith, k.issued, rest.issued);
+}
+
+-- a node that only looked, and made claims, knows what it knew
+pub same_knows : {L : Type 0} (old new : Node L) (n : Situation) → IsSame old new → Knows old n → Knows new n
+same_knows old new n same k = knows_still old new n (ap (λ ledger. ledger.state) same.ledger) (all_same old.names new.names same.names) same.rest k
+  where
+    all_same : (a b : Store) → b ≡ a → SameNames a b
+    all_same a b is = record { owners = λ o q. ap (λ (s : Store). is_owner s o q) is; records = λ q. ap (λ (s : Store). record_of s q) is }
+
+-- where no change is made the history stays
+pub rests_here : {L : Type 0} (node : Node L) (n : Situation) (m : MachineReaction) → m.grown ≡ None → Knows node n → Knows node (settled n m)
+rests_here node n m none k =
+    let same : n.history ++ option_to_list m.grown ≡ n.history = ap (λ (o : Option Change). n.history ++ option_to_list o) none ∙ append-nil n.history in
+    let here : Knows node (record { history = n.history; volatile = (settled n m).volatile }) = record { valid = k.valid; ledger = k.ledger; settings = k.settings; names = k.names; issued = k.issued } in
+    subst (λ (h : List Change). Knows node (record { history = h; volatile = (settled n m).volatile })) (sym same) here
+
+-- and its log has what it had
+pub same_counted : {L : Type 0} (size : L → ℕ) (keeps : L → ℕ → Bool) (old new : Node L) → IsSame old new → IsCounted size keeps old → IsCounted size keeps new
+same_counted size keeps old new same c = record {
+  changes = ap (λ ledger. ledger.state.changes) same.ledger ∙ c.changes ∙ ap size (sym same.log);
+  bodies = λ q k here. subst (λ l. (k < size l) × (keeps l k ≡ true)) (sym same.log) (c.bodies q k (sym (ap (λ (s : Store). record_of s q) same.names) ∙ here));
 }
 
 -- ---- what the disk holds after it
@@ -174,3 +198,11 @@ some_reaction n c = record { grown = Some c; letters = []; volatile = n.volatile
 -- after it, it is known where the node is
 pub some_step : {L : Type 0} (new : Node L) (n : Situation) (c : Change) → IsValid (n.history ++ c ∷ []) → ((m : MachineReaction) → IsStep n m c → Knows new (settled n m)) → (o : Situation) × Knows new o
 some_step new n c valid step = (settled n (some_reaction n c), step (some_reaction n c) (is_step n (some_reaction n c) c refl valid))
+
+-- the moments of looking at the disk, and then of making the change that was found
+pub found_leaves : {L : Type 0} (holds : L → List Entry → List ℕ → Type 0) (stands : List Entry → List ℕ → Type 0) (law : (log : L) (es : List Entry) (i : List ℕ) → holds log es i → stands es i) (old mid : Node L) (n : Situation) (m : MachineReaction) (c : Change) (v0 v1 v2 : View)
+    → IsValid n.history → Stored holds old n.history v0 → mid.log ≡ old.log → Keeps v0 v1 → Tells_bytes v1 → IsStep n m c
+    → ((o : Situation) (q : MachineReaction) → IsValid o.history → IsStep o q c → Stored holds mid o.history v1 → Leaves v1 v2 (λ i k. (k ≡ v1.told) × (ReopensTo stands o.history i ⊎ ReopensTo stands (settled o q).history i)))
+    → Leaves v0 v2 (λ i k. (k ≡ v0.told) × (ReopensTo stands n.history i ⊎ ReopensTo stands (settled n m).history i))
+found_leaves holds stands law old mid n m c v0 v1 v2 valid s log keeps tells step run =
+    looked_leaves holds stands law old n v0 v1 v2 (settled n m).history valid s keeps (run n m valid step (stored_still holds old mid n.history v0 v1 log keeps tells s))

@@ -9,7 +9,7 @@ use Rattle.psb_model.specs.State.{State, is_held}
 use Rattle.psb_model.specs.Words.{name_eq}
 use Rattle.psb_model.specs.Conditions.{allowed, tests, is_begun, peer_of}
 use Rattle.psb_model.specs.Effects.{after}
-use Rattle.psb_model.specs.History.{lawful_from, is_built}
+use Rattle.psb_model.specs.History.{state, lawful_from, is_built}
 use Rattle.psb_model.specs.Needed.{brings, brings_name, slots_given, needs_name, needs_slot, is_needed_by, is_body, body_is_right, bodies_right}
 use Rattle.psb_model.specs.declared.change.Change.{Change}
 use Rattle.psb_model.specs.declared.change.Change.TheVariants.{Begun, TookFresh, Refused}
@@ -19,6 +19,9 @@ use Rattle.psb_model.proofs.Steps.{parts}
 use Rattle.psb_model.proofs.Built.{allows}
 use Rattle.psb_model.proofs.Prefixes.{lawful_cons}
 use Rattle.psb_machine.specs.Deals.{last_bringing}
+use Rattle.chunk_store.specs.declared.store.Store.{Store}
+use Rattle.chunk_store.specs.Store.{record_of}
+use Rattle.node_core.specs.Names.{KnowsNames}
 use Rattle.node_core.specs.declared.lacking.Lacking.{Lacking}
 use Rattle.node_core.specs.Lacking.{lacks, lacks_name, is_lacking, KnowsLacking, NotesLacking}
 
@@ -154,12 +157,10 @@ sound_of s t (c ∷ cs) lawful built none =
     let two = and_parts (is_built c) (list_all is_built cs) built in
     rw (one_right s t c cs l.allows two.0 none, sound_of s (after t c) cs l.rest two.1 (λ q held. lacks_later q c cs (none q held))) refl
 
--- as a table that knows the history has it
-pub none_lacks : (w : Lacking) (h : List Change) (s t : State) → s ≡ t → KnowsLacking w h → ((name : List ℕ) → is_lacking w name ≡ true → is_held s name ≡ false) → (name : List ℕ) → is_held t name ≡ true → lacks_name name h ≡ false
-none_lacks w h s t same k none name held = by_cases (lacks_name name h)
-    (λ lacking.
-    let free : is_held s name ≡ false = none name (k name ∙ lacking) in
-    absurd (false≢true (sym free ∙ ap (λ (x : State). is_held x name) same ∙ held)))
+-- as a table that knows the history has it, and a store that has the names that are held
+pub none_lacks : (w : Lacking) (names : Store) (h : List Change) → KnowsNames names h → KnowsLacking w h → ((name : List ℕ) → is_lacking w name ≡ true → is_some (record_of names name) ≡ false) → (name : List ℕ) → is_held (state h) name ≡ true → lacks_name name h ≡ false
+none_lacks w names h knows k none name held = by_cases (lacks_name name h)
+    (λ lacking. absurd (false≢true (sym (none name (k name ∙ lacking)) ∙ knows.held name ∙ held)))
     (λ fine. fine)
 
 -- ---- the names of a table

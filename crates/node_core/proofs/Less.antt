@@ -16,8 +16,9 @@ use Rattle.psb_model.specs.declared.change.Change.TheVariants.{Kept, TookFresh, 
 use Rattle.psb_model.proofs.ByObject.{by_cases}
 use Rattle.psb_model.proofs.Built.{valid_snoc}
 use Rattle.psb_machine.specs.Deals.{last_bringing, last_brought, are_others, meets_others}
-use Rattle.node_core.specs.declared.body_index.BodyIndex.{BodyIndex}
-use Rattle.node_core.specs.BodyIndex.{brought_from, KnowsBodies}
+use Rattle.chunk_store.specs.declared.store.Store.{Store}
+use Rattle.chunk_store.specs.Store.{record_of}
+use Rattle.node_core.specs.Names.{owns, brought_from, KnowsNames}
 use Rattle.node_core.specs.Less.{without_body, IsLessOf, IsLess}
 use Rattle.node_core.proofs.Brought.{or_this, bytes_of}
 use Rattle.node_core.proofs.Lacks.{right_here}
@@ -162,8 +163,13 @@ brought_less n name (c ∷ cs) (d ∷ ds) is =
     ap (λ (o : Option ℕ). elim o [ Some k ↦ Some k | None ↦ cond (brings_name name d) (Some n) None ]) (brought_less (n + 1) name cs ds is.1)
     ∙ ap (λ (b : Bool). elim (brought_from (n + 1) name cs) [ Some k ↦ Some k | None ↦ cond b (Some n) None ]) (same_in (brings_name name) (brings_name_without name) c d is.0)
 
-pub bodies_less : (b : BodyIndex) (h less : List Change) → IsLess h less → KnowsBodies b h → KnowsBodies b less
-bodies_less b h less is k = λ name. k name ∙ sym (brought_less 0 name h less is)
+-- the same names are held by a history less bodies that were given up
+pub names_less : (store : Store) (h less : List Change) → IsLess h less → KnowsNames store h → KnowsNames store less
+names_less store h less is knows = record {
+  owners = λ o q. knows.owners o q ∙ ap (λ (s : State). owns s o q) (sym (state_less h less is));
+  held = λ q. knows.held q ∙ ap (λ (s : State). is_held s q) (sym (state_less h less is));
+  records = λ q k there. brought_less 0 q h less is ∙ knows.records q k there;
+}
 
 -- ---- the bodies that are needed
 
@@ -242,6 +248,17 @@ both_bring s name (c ∷ cs) (d ∷ ds) is held right = here (both_bring s name 
 last_less : (name : List ℕ) (h less : List Change) → NoneBrings name h less ⊎ BothBring name h less → last_brought name less ≡ last_brought name h
 last_less name h less (inl n) = ap bytes_of n.rest ∙ sym (ap bytes_of n.history)
 last_less name h less (inr b) = ap bytes_of b.rest ∙ b.body ∙ sym (ap bytes_of b.history)
+
+-- the same bytes were brought last for a name that is held
+pub last_bytes_less : (h less : List Change) (name : List ℕ) → IsLess h less → IsValid less → (names : Store) → KnowsNames names less → (record_of names name ≡ None → ⊥) → last_brought name h ≡ last_brought name less
+last_bytes_less h less name is v names knows some = sym (last_less name h less (both_bring (state less) name h less is held v.sound))
+  where
+    there : (o : Option ℕ) → (o ≡ None → ⊥) → is_some o ≡ true
+    there (Some k) h = refl
+    there None h = absurd (h refl)
+
+    held : is_held (state less) name ≡ true
+    held = sym (knows.held name) ∙ there (record_of names name) some
 
 -- so the same bytes are held under each name
 pub meets_less : (h less : List Change) (name bytes : List ℕ) → IsLess h less → IsValid less → meets_others less name bytes ≡ meets_others h name bytes

@@ -22,6 +22,7 @@ use Rattle.node_core.specs.declared.outcome.Letter.{Letter}
 use Rattle.node_core.specs.declared.reaction.Reaction.{Reaction}
 use Rattle.node_core.specs.Again.{IsAnswerOf}
 use Rattle.node_core.specs.Letters.{letters_of}
+use Rattle.node_core.specs.Peers.{PeersView}
 use Rattle.node_core.specs.Making.{CanMake, why_refused, clashes, made_of, made_in}
 use Rattle.node_core.specs.Reacting.{MakesChange, TellsAgain, Makes, MakesNone, IsToldAgain, Reacts, ReactsSo, MayCome}
 use Rattle.node_core.specs.Stored.{Knows, Stored}
@@ -54,7 +55,7 @@ reacts_made r node n i x o is k m makes =
       change = makes.change ∙ sym (ap (λ (q : MachineReaction). q.grown) here);
       letters =
           makes.letters
-          ∙ ap (λ (own : ℕ). (o.peer, datagram o.key own o.peer o.number (reply_of node.seed c)) ∷ []) (k.settings.own ∙ ap (λ (st : Settings). st.id) same)
+          ∙ ap (λ (own : ℕ). (o.peer, datagram o.key own o.peer o.number (reply_of node.claims.seed c)) ∷ []) (ap (λ (v : PeersView). v.own.id) k.settings.peers ∙ ap (λ (st : Settings). st.id) same)
           ∙ ap (λ (seed : List ℕ). (o.peer, datagram o.key m.settings.id o.peer o.number (reply_of seed c)) ∷ []) (k.settings.seed ∙ ap (λ (st : Settings). st.seed) same)
           ∙ sym (ap (λ (q : MachineReaction). q.letters) here);
       dropped = makes.dropped ∙ sym (ap (λ (q : MachineReaction). q.dropped) here);
@@ -106,16 +107,16 @@ reacts_again_so r n i x o change is t none =
 
 -- what was made again answers the last deal
 pub told_again : {L : Type 0} (holds : L → List Entry → List ℕ → Type 0) (one : OneChangeEach) (node : Node L) (n : Situation) (v : View) (offer : Offer) (change : ℕ) (o : Option Frame) (letters : List (ℕ × List ℕ)) → Knows node n → Stored holds node n.history v
-    → ((es : List Entry) → Shows (holds node.log es) v → IfSome (slice_get es change) (λ e. IsAnswerOf o node.seed e.head))
-    → ((frame : Frame) → o ≡ Some frame → letters ≡ (offer.peer, datagram offer.key node.own offer.peer offer.number frame) ∷ []) → IsToldAgain n offer change letters
+    → ((es : List Entry) → Shows (holds node.log es) v → IfSome (slice_get es change) (λ e. IsAnswerOf o node.claims.seed e.head))
+    → ((frame : Frame) → o ≡ Some frame → letters ≡ (offer.peer, datagram offer.key node.peers.own.id offer.peer offer.number frame) ∷ []) → IsToldAgain n offer change letters
 told_again holds one node n v offer change o letters k s answers tells = λ last some settings present.
     let h = n.history in
     let p = offer.peer in
     let there = subst (λ (m : ℕ). LastIs h (row (state h) p).last.number m) last (last_there h p k.valid some) in
-    let a = answer_is one h s.less s.records node.seed p o (row (state h) p).last.number change s.is_less s.decoded there (answers s.records s.shows) in
+    let a = answer_is one h s.less s.records node.claims.seed p o (row (state h) p).last.number change s.is_less s.decoded there (answers s.records s.shows) in
     let same : k.settings.settings ≡ settings = same_some (state h).settings k.settings.settings settings k.settings.present present in
-    tells (reply_of node.seed a.0) a.2
-    ∙ ap (λ (own : ℕ). (p, datagram offer.key own p offer.number (reply_of node.seed a.0)) ∷ []) (k.settings.own ∙ ap (λ (st : Settings). st.id) same)
+    tells (reply_of node.claims.seed a.0) a.2
+    ∙ ap (λ (own : ℕ). (p, datagram offer.key own p offer.number (reply_of node.claims.seed a.0)) ∷ []) (ap (λ (v : PeersView). v.own.id) k.settings.peers ∙ ap (λ (st : Settings). st.id) same)
     ∙ ap (λ (seed : List ℕ). (p, datagram offer.key settings.id p offer.number (reply_of seed a.0)) ∷ []) (k.settings.seed ∙ ap (λ (st : Settings). st.seed) same)
     ∙ ap (λ (x : Option Change). option_to_list (option_map (reply settings offer.key p offer.number) x)) (sym a.1)
 
@@ -131,15 +132,15 @@ one_long (x ∷ []) letter is = omega arith
 one_long (x ∷ y ∷ out) letter is = absurd (cc)
 
 pub makes_few : {L : Type 0} (r : Reaction) (node : Node L) (o : Offer) (c : Change) → Makes r node o c → length r.out ≤ 2
-makes_few r node o c makes = one_long r.out (o.peer, datagram o.key node.own o.peer o.number (reply_of node.seed c)) makes.letters
+makes_few r node o c makes = one_long r.out (o.peer, datagram o.key node.peers.own.id o.peer o.number (reply_of node.claims.seed c)) makes.letters
 
 -- a node that only looked at its log makes the same
-pub makes_still : {L : Type 0} (r : Reaction) (old new : Node L) (o : Offer) (c : Change) → new.own ≡ old.own → new.seed ≡ old.seed → Makes r new o c → Makes r old o c
-makes_still r old new o c own seed makes = record {
+pub makes_still : {L : Type 0} (r : Reaction) (old new : Node L) (o : Offer) (c : Change) → new.peers ≡ old.peers → new.claims.seed ≡ old.claims.seed → Makes r new o c → Makes r old o c
+makes_still r old new o c peers seed makes = record {
   change = makes.change;
   letters =
       makes.letters
-      ∙ ap (λ (w : ℕ). (o.peer, datagram o.key w o.peer o.number (reply_of new.seed c)) ∷ []) own
-      ∙ ap (λ (w : List ℕ). (o.peer, datagram o.key old.own o.peer o.number (reply_of w c)) ∷ []) seed;
+      ∙ ap (λ (w : PeersView). (o.peer, datagram o.key w.own.id o.peer o.number (reply_of new.claims.seed c)) ∷ []) peers
+      ∙ ap (λ (w : List ℕ). (o.peer, datagram o.key old.peers.own.id o.peer o.number (reply_of w c)) ∷ []) seed;
   dropped = makes.dropped;
 }

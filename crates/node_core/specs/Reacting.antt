@@ -58,7 +58,7 @@ CanDo (Again o change) s = change < s.changes
 
 -- the letters are the one that answers the offer by this change
 abbrev pub TellsOf : {L : Type 0} → List (ℕ × List ℕ) → Node L → Offer → Change → Type 0
-TellsOf letters node o c = letters ≡ (o.peer, datagram o.key node.own o.peer o.number (reply_of node.seed c)) ∷ []
+TellsOf letters node o c = letters ≡ (o.peer, datagram o.key node.peers.own.id o.peer o.number (reply_of node.claims.seed c)) ∷ []
 
 -- this change is to be made of the offer, and told of
 pub record Makes {L : Type 0} (r : Reaction) (node : Node L) (o : Offer) (c : Change) : Type 0 where
@@ -101,11 +101,18 @@ pub record IsStep (n : Situation) (m : MachineReaction) (c : Change) : Type 0 wh
   pub grown : m.grown ≡ Some c
   pub valid : IsValid (settled n m).history
 
--- what a node keeps of its settings stays
+-- what a node keeps of its settings stays, and no number of a claim is taken back
 pub record SameOwner {L : Type 0} (old new : Node L) : Type 0 where
-  pub own : new.own ≡ old.own
-  pub seed : new.seed ≡ old.seed
-  pub keys : new.keys ≡ old.keys
+  pub peers : new.peers ≡ old.peers
+  pub seed : new.claims.seed ≡ old.claims.seed
+  pub issued : old.claims.issued ≤ new.claims.issued
+
+-- the node is the same but for how many claims were issued and made
+pub record IsSame {L : Type 0} (old new : Node L) : Type 0 where
+  pub log : new.log ≡ old.log
+  pub ledger : new.ledger ≡ old.ledger
+  pub names : new.names ≡ old.names
+  pub rest : SameOwner old new
 
 -- the number of the change that grew, if one did, where it is the next one
 abbrev pub numbered : Option Change → ℕ → Option ℕ

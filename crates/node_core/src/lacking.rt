@@ -1,11 +1,11 @@
 //! Which names lack their bytes.
 
-ghost use Rattle.std.specs.Prelude.{◌≡◌, ℕ, List, Bool, true, false, not, OnOk, if◌then◌else◌};
+ghost use Rattle.std.specs.Prelude.{◌≡◌, ℕ, List, Bool, None, true, false, not, is_some, OnOk, if◌then◌else◌};
 ghost use Rattle.psb_bytes.specs.Objects.{name_eq};
-ghost use Rattle.psb_model.specs.State.{is_held};
+ghost use Rattle.chunk_store.specs.Store.{record_of};
 
+use chunk_store::Store;
 use psb_bytes::{Digest, Memory};
-use psb_ledger::Ledger;
 use std::alloc::Global;
 use std::collections::BTreeSet;
 
@@ -41,10 +41,12 @@ impl Lacking {
     }
 
     /// Whether one of them is held.
-    pub(crate) fn any_held(&self, ledger: &Ledger) -> bool
-        ensures some { result ≡ true → (name : List ℕ) × (is_lacking self.now name ≡ true) × (is_held ledger.now.state name ≡ true) }
-        ensures none { result ≡ false → (name : List ℕ) → is_lacking self.now name ≡ true → is_held ledger.now.state name ≡ false }
+    pub(crate) fn any_held(&self, names: &Store) -> bool
+        ensures some { result ≡ true → (name : List ℕ) × (is_lacking self.now name ≡ true) × (is_some (record_of names.now name) ≡ true) }
+        ensures none { result ≡ false → (name : List ℕ) → is_lacking self.now name ≡ true → is_some (record_of names.now name) ≡ false }
     {
-        self.names.iter().any(|name| ledger.is_held(&Digest(*name)))
+        self.names
+            .iter()
+            .any(|name| names.record_of(&Digest(*name)).is_some())
     }
 }

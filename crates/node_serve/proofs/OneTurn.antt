@@ -16,6 +16,8 @@ use Rattle.psb_machine.specs.Commands.{Turn, ticks, came_steps, clock_steps, tur
 use Rattle.node_core.specs.declared.node.Node.{Node}
 use Rattle.node_core.specs.Stands.{ReopensTo}
 use Rattle.node_core.specs.Stored.{Knows, Stored}
+use Rattle.node_core.specs.Reacting.{IsSame}
+use Rattle.node_core.proofs.Committing.{same_knows, stored_room}
 use Rattle.node_core.proofs.Reopened.{stored_at, stored_reopens}
 use Rattle.node_serve.specs.Sends.{AreSent, Sends}
 use Rattle.node_serve.specs.Hears.{Hears, steps_of, clock_by, clock_of, heard_of, of_turn, of_turns, End, Whole, Cut, Stopped, Unbegun, AnswersAs, EndsAs, is_fed}
@@ -258,13 +260,34 @@ module _ {L : Type 0} (holds : L → List Entry → List ℕ → Type 0) (stands
 
   -- ---- the first part of a turn
 
-  -- the link answered what is no frame
-  pub idle : (node : Node L) (v0 v1 : View) → Listened v0 v1 [] Nothing → Received holds stands broken node node v0 v1 (Some no_tally) Whole
-  idle node v0 v1 l = record {
+  -- a node that only walked its claims stands where it stood
+  fed_walked : (node node' : Node L) (v0 v1 : View) (n : Situation) (course : List Step) (t : Option Tally) (ok : Bool) → IsSame node node' → Fed holds stands broken node node v0 v1 n course t ok → Fed holds stands broken node node' v0 v1 n course t ok
+  fed_walked node node' v0 v1 n course t ok same f = record {
+    done = f.done;
+    failed = f.failed;
+    undone = f.undone;
+    parts = f.parts;
+    one = f.one;
+    whole = f.whole;
+    knows = λ sound. same_knows node node' (after_all n f.done) same (f.knows (subst (λ (l : L). broken l ≡ false) same.log sound));
+    stored = λ sound. stored_room holds node node' (after_all n f.done).history v1 (λ es i held. subst (λ (l : L). holds l es i) (sym same.log) held) (f.stored (subst (λ (l : L). broken l ≡ false) same.log sound));
+    moments = f.moments;
+    ends = f.ends;
+    told = f.told;
+    lost = f.lost;
+    sent = f.sent;
+    lost_cause = f.lost_cause;
+    said = f.said;
+    counted = f.counted;
+  }
+
+  -- the link answered that there is no frame, and claims were walked
+  pub idle : (node node' : Node L) (v0 v1 : View) → IsSame node node' → Listened v0 v1 [] Nothing → Received holds stands broken node node' v0 v1 (Some no_tally) Whole
+  idle node node' v0 v1 same l = record {
     answer = Nothing;
     ended = (None, refl);
     hears = l.hears;
-    fed = λ tells n k s peers clock. listened node n v0 v1 [] Nothing k l tells s;
+    fed = λ tells n k s peers clock. fed_walked node node' v0 v1 n [] (Some no_tally) true same (listened node n v0 v1 [] Nothing k l tells s);
   }
 
   pub cut : (node : Node L) (v0 v1 : View) → Listened v0 v1 [] Fault → Received holds stands broken node node v0 v1 None Cut
@@ -399,3 +422,12 @@ ready_still holds node v w rests r = (
       let s = r.2 (rests_tells v w rests tells) in
       stored_at holds node r.0.history v w s (shows_rest _ v w rests tells s.shows),
 )
+
+-- and so does a node that only walked its claims
+pub ready_walked : {L : Type 0} (holds : L → List Entry → List ℕ → Type 0) (node node' : Node L) (v w : View) → IsSame node node' → Rests v w → IsReady holds node v → IsReady holds node' w
+ready_walked {L} holds node node' v w same rests ready =
+    let still = ready_still holds node v w rests ready in (
+      still.0,
+      same_knows node node' still.0 same still.1,
+      λ tells. stored_room holds node node' still.0.history w (λ es i held. subst (λ (l : L). holds l es i) (sym same.log) held) (still.2 tells),
+    )

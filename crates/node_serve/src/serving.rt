@@ -6,7 +6,7 @@ ghost use Rattle.psb_machine.specs.Course.{Absorb, datagrams};
 ghost use Rattle.psb_machine.specs.Commands.{ticks};
 ghost use Rattle.node_core.specs.declared.fault.Fault.TheVariants as fault;
 ghost use Rattle.node_core.specs.Letters.{input_of};
-ghost use Rattle.node_core.specs.Stored.{Knows, Stored};
+ghost use Rattle.node_core.specs.Stored.{Knows, Stored, IsCounted};
 ghost use Rattle.node_serve.specs.Hears.{End, Stopped};
 ghost use Rattle.node_serve.specs.Spans.{IsReady, Counts, Fed, Received, RanTurns};
 ghost use Rattle.node_serve.specs.Turns.{IsEnd, IsEarly, OnlySends, peers_in, end_of, turned_counts, total_counts};
@@ -81,7 +81,7 @@ fn feed<L: Log, S: Station>(
 ) -> Result<Turned, ServeFault>
     requires ready { IsReady L.holds node.old (S.view station.old) }
     requires whole { L.is_broken node.old.log ≡ false }
-    requires counted { node.old.ledger.state.changes ≡ L.size node.old.log }
+    requires counted { IsCounted L.size L.keeps_body node.old }
     ensures tells { Tells_bytes (S.view station.new) → Tells_bytes (S.view station.old) }
     ensures fed { Tells_bytes (S.view station.new) → (n : Situation) → Knows node.old n → Stored L.holds node.old n.history (S.view station.old)
         → Fed L.holds L.stands L.is_broken node.old node.new (S.view station.old) (S.view station.new) n (Absorb (input_of input.now) ∷ []) (turned_counts result) (is_ok result) }
@@ -90,7 +90,7 @@ fn feed<L: Log, S: Station>(
     ensures counts { Counts (S.view station.old) (S.view station.new) }
     ensures whole { OnOk result (L.is_broken node.new.log ≡ false) }
     ensures unbroken { result ≡ Err ServeFault.Memory → L.is_broken node.new.log ≡ false }
-    ensures counted { OnOk result (node.new.ledger.state.changes ≡ L.size node.new.log) }
+    ensures counted { OnOk result (IsCounted L.size L.keeps_body node.new) }
     ensures small { IfOk result (λ t. (t.taken + t.dropped ≤ 2) × (t.lost ≤ 2)) }
     ensures disk_cause { result ≡ Err (ServeFault.Node fault.DiskFault) → Rose (S.view station.old).disk_faults (S.view station.new).disk_faults }
     ensures steady { (result ≡ Err (ServeFault.Node fault.DiskFault)) ⊎ ((S.view station.new).disk_faults ≡ (S.view station.old).disk_faults) }
@@ -111,7 +111,11 @@ fn feed<L: Log, S: Station>(
     })
 }
 
-/// Takes a datagram where one is ready, absorbs it, and sends its letters.
+/// How many claims are walked in a turn that hears nothing: some 20 milliseconds' work.
+const IDLE_CLAIMS: u32 = 1024;
+
+/// Takes a datagram where one is ready, absorbs it, and sends its letters. Where none is, some of the
+/// node's claims are walked.
 fn receive<L: Log, S: Station>(
     node: &mut Node<L>,
     station: &mut S,
@@ -119,7 +123,7 @@ fn receive<L: Log, S: Station>(
 ) -> Result<Turned, ServeFault>
     requires ready { IsReady L.holds node.old (S.view station.old) }
     requires whole { L.is_broken node.old.log ≡ false }
-    requires counted { node.old.ledger.state.changes ≡ L.size node.old.log }
+    requires counted { IsCounted L.size L.keeps_body node.old }
     ensures tells { Tells_bytes (S.view station.new) → Tells_bytes (S.view station.old) }
 
     ensures ran { Received L.holds L.stands L.is_broken node.old node.new (S.view station.old) (S.view station.new) (turned_counts result) (end_of result) }
@@ -129,7 +133,7 @@ fn receive<L: Log, S: Station>(
     ensures whole { OnOk result (L.is_broken node.new.log ≡ false) }
     ensures unbroken { (result ≡ Err ServeFault.Memory) ⊎ (result ≡ Err ServeFault.Link) → L.is_broken node.new.log ≡ false }
     ensures early { OnErr result (IsEarly (end_of result)) }
-    ensures counted { OnOk result (node.new.ledger.state.changes ≡ L.size node.new.log) }
+    ensures counted { OnOk result (IsCounted L.size L.keeps_body node.new) }
     ensures small { IfOk result (λ t. (t.taken + t.dropped ≤ 2) × (t.lost ≤ 2)) }
     ensures disk_cause { result ≡ Err (ServeFault.Node fault.DiskFault) → Rose (S.view station.old).disk_faults (S.view station.new).disk_faults }
     ensures steady { (result ≡ Err (ServeFault.Node fault.DiskFault)) ⊎ ((S.view station.new).disk_faults ≡ (S.view station.old).disk_faults) }
@@ -140,6 +144,7 @@ fn receive<L: Log, S: Station>(
     let count = match station.recv(&mut buffer.bytes) {
         Err(_) => return Err(ServeFault::Link),
         Ok(None) => {
+            let _ = node.walk_claims(IDLE_CLAIMS);
             return Ok(Turned {
                 taken: 0,
                 dropped: 0,
@@ -162,7 +167,7 @@ fn tick_all<L: Log, S: Station>(
 ) -> Result<Turned, ServeFault>
     requires ready { IsReady L.holds node.old (S.view station.old) }
     requires whole { L.is_broken node.old.log ≡ false }
-    requires counted { node.old.ledger.state.changes ≡ L.size node.old.log }
+    requires counted { IsCounted L.size L.keeps_body node.old }
     requires few { length peers.now ≤ 64 }
     ensures tells { Tells_bytes (S.view station.new) → Tells_bytes (S.view station.old) }
     ensures fed { Tells_bytes (S.view station.new) → (n : Situation) → Knows node.old n → Stored L.holds node.old n.history (S.view station.old)
@@ -172,7 +177,7 @@ fn tick_all<L: Log, S: Station>(
     ensures counts { Counts (S.view station.old) (S.view station.new) }
     ensures whole { OnOk result (L.is_broken node.new.log ≡ false) }
     ensures unbroken { result ≡ Err ServeFault.Memory → L.is_broken node.new.log ≡ false }
-    ensures counted { OnOk result (node.new.ledger.state.changes ≡ L.size node.new.log) }
+    ensures counted { OnOk result (IsCounted L.size L.keeps_body node.new) }
     ensures small { IfOk result (λ t. (t.taken + t.dropped ≤ 128) × (t.lost ≤ 128)) }
     ensures disk_cause { result ≡ Err (ServeFault.Node fault.DiskFault) → Rose (S.view station.old).disk_faults (S.view station.new).disk_faults }
     ensures steady { (result ≡ Err (ServeFault.Node fault.DiskFault)) ⊎ ((S.view station.new).disk_faults ≡ (S.view station.old).disk_faults) }
@@ -207,7 +212,7 @@ pub fn turn<L: Log, S: Station>(
 ) -> Result<Turned, ServeFault>
     requires ready { IsReady L.holds node.old (S.view station.old) }
     requires whole { L.is_broken node.old.log ≡ false }
-    requires counted { node.old.ledger.state.changes ≡ L.size node.old.log }
+    requires counted { IsCounted L.size L.keeps_body node.old }
     requires few { length peers.now ≤ 64 }
     ensures tells { Tells_bytes (S.view station.new) → Tells_bytes (S.view station.old) }
 
@@ -218,7 +223,7 @@ pub fn turn<L: Log, S: Station>(
     ensures unsaid { (S.view station.new).outside.say_faults ≡ (S.view station.old).outside.say_faults }
     ensures whole { OnOk result (L.is_broken node.new.log ≡ false) }
     ensures unbroken { (result ≡ Err ServeFault.Memory) ⊎ (result ≡ Err ServeFault.Link) → L.is_broken node.new.log ≡ false }
-    ensures counted { OnOk result (node.new.ledger.state.changes ≡ L.size node.new.log) }
+    ensures counted { OnOk result (IsCounted L.size L.keeps_body node.new) }
     ensures small { IfOk result (λ t. (t.taken + t.dropped ≤ 130) × (t.lost ≤ 130)) }
     ensures disk_cause { result ≡ Err (ServeFault.Node fault.DiskFault) → Rose (S.view station.old).disk_faults (S.view station.new).disk_faults }
     ensures steady { (result ≡ Err (ServeFault.Node fault.DiskFault)) ⊎ ((S.view station.new).disk_faults ≡ (S.view station.old).disk_faults) }
@@ -269,7 +274,7 @@ pub fn serve<L: Log, S: Station>(
 ) -> Result<Total, ServeFault>
     requires ready { IsReady L.holds node.old (S.view station.old) }
     requires whole { L.is_broken node.old.log ≡ false }
-    requires counted { node.old.ledger.state.changes ≡ L.size node.old.log }
+    requires counted { IsCounted L.size L.keeps_body node.old }
     ensures tells { Tells_bytes (S.view station.new) → Tells_bytes (S.view station.old) }
 
     // So many turns, each with one `recv` and one `now`; and a failure of the link or of the node is the last.

@@ -36,6 +36,13 @@ impl<'a> Cursor<'a> {
         self.rest.len()
     }
 
+    /// The bytes that are left, lent from the source.
+    pub fn rest(&self) -> &'a [u8]
+        ensures { result.now ≡ self.now }
+    {
+        self.rest
+    }
+
     /// The next `n` bytes, lent from the source.
     pub fn take_slice(&mut self, n: usize) -> Result<&'a [u8], Short>
         ensures enough { IsOk result ↔ (n ≤ length self.old) }

@@ -11,8 +11,8 @@ use Rattle.psb_model.specs.declared.entries.DebtEntry.{DebtEntry}
 use Rattle.psb_model.specs.declared.change.Change.{Change}
 use Rattle.psb_model.specs.declared.change.Change.TheVariants.{TookFresh, Refused}
 use Rattle.psb_model.specs.Words.{units, all_of, has, without, only, with_one, with_all}
-use Rattle.psb_model.specs.State.{Row, State, row, row_in, has_row, at_row, in_key, in_size, out_key, held_of, used, coming, is_held}
-use Rattle.psb_model.specs.Move.{still, moved}
+use Rattle.psb_model.specs.State.{Row, State, row, row_in, has_row, at_row, in_key, in_size, out_key, held_units, used, coming, is_held}
+use Rattle.psb_model.specs.Move.{still, after_move}
 use Rattle.psb_model.specs.Conditions.{capacity, allowed, fresh_tests, refusal_tests}
 use Rattle.psb_model.specs.Effects.{chunk_in, own_slots, took_deal, after, rows_after, disturbed, loosen}
 use Rattle.psb_model.proofs.ByObject.{sum_by-with_one}
@@ -42,7 +42,7 @@ at_row_same p f g h [] = refl
 at_row_same p f g h (x ∷ xs) = by_cases (x.0 == p) (λ k. rw k (λ j. (x.0, h x.1 j) ∷ xs)) (λ k. rw k (ap (λ l. x ∷ l) (at_row_same p f g h xs)))
 
 -- the row after a Store
-pub row_fresh : (name : List ℕ) (u first deal change : ℕ) (r : Row) → took_deal deal change (moved (fresh_move first u name) r) ≡ fresh_row name u first deal change r
+pub row_fresh : (name : List ℕ) (u first deal change : ℕ) (r : Row) → took_deal deal change (after_move (fresh_move first u name) r) ≡ fresh_row name u first deal change r
 row_fresh name u first deal change r =
     let a : with_one in_key (chunk_in name u) (without in_key [] r.ins) ≡ with_one in_key (chunk_in name u) r.ins = ap (with_one in_key (chunk_in name u)) (without_none in_key r.ins) in
     let b : with_all out_key (own_slots first u) (without out_key [] r.outs) ≡ with_all out_key (own_slots first u) r.outs = ap (with_all out_key (own_slots first u)) (without_none out_key r.outs) in
@@ -53,8 +53,8 @@ pub rows_fresh : (s : State) (p deal : ℕ) (name : List ℕ) (first len : ℕ) 
 rows_fresh s p deal name first len new body =
     let c : Change = TookFresh p deal name first len new body in
     let quiet : disturbed s c ≡ [] = only_none in_key (row s p).ins in
-    ap (λ es. at_row p (took_deal deal s.changes) (loosen es (at_row p (moved (fresh_move first (units len) name)) s.rows))) quiet
-    ∙ at_row_twice p (took_deal deal s.changes) (moved (fresh_move first (units len) name)) s.rows
+    ap (λ es. at_row p (took_deal deal s.changes) (loosen es (at_row p (after_move (fresh_move first (units len) name)) s.rows))) quiet
+    ∙ at_row_twice p (took_deal deal s.changes) (after_move (fresh_move first (units len) name)) s.rows
     ∙ at_row_same p _ _ (row_fresh name (units len) first deal s.changes) s.rows
 
 -- the state after a Store, from the peers after it
@@ -93,26 +93,26 @@ allowed_none changes settings vs issued p deal name first len new at =
 -- WHAT IS USED, and what fits
 
 -- one row's units are among those used
-pub row_within : (s : State) (rows : List (ℕ × Row)) (p : ℕ) → held_of (row_in rows p) ≤ sum_by (λ (x : ℕ × Row). held_of x.1 + coming s x.1.pending) rows
+pub row_within : (s : State) (rows : List (ℕ × Row)) (p : ℕ) → held_units (row_in rows p) ≤ sum_by (λ (x : ℕ × Row). held_units x.1 + coming s x.1.pending) rows
 row_within s [] p = omega arith
 row_within s (x ∷ xs) p =
-    let c = sum_by-cons (λ (y : ℕ × Row). held_of y.1 + coming s y.1.pending) x xs in
+    let c = sum_by-cons (λ (y : ℕ × Row). held_units y.1 + coming s y.1.pending) x xs in
     by_cases (x.0 == p) (λ k. rw k (omega (arith, c))) (λ k. rw k (omega (arith, c, row_within s xs p)))
 
-pub used_more : (s : State) (p u : ℕ) (f : Row → Row) (rows : List (ℕ × Row)) → has_row rows p ≡ true → ((r : Row) → held_of (f r) ≡ held_of r + u) → ((r : Row) → (f r).pending ≡ r.pending) → sum_by (λ (x : ℕ × Row). held_of x.1 + coming s x.1.pending) (at_row p f rows) ≡ sum_by (λ (x : ℕ × Row). held_of x.1 + coming s x.1.pending) rows + u
+pub used_more : (s : State) (p u : ℕ) (f : Row → Row) (rows : List (ℕ × Row)) → has_row rows p ≡ true → ((r : Row) → held_units (f r) ≡ held_units r + u) → ((r : Row) → (f r).pending ≡ r.pending) → sum_by (λ (x : ℕ × Row). held_units x.1 + coming s x.1.pending) (at_row p f rows) ≡ sum_by (λ (x : ℕ × Row). held_units x.1 + coming s x.1.pending) rows + u
 used_more s p u f [] h g same = absurd (false≢true h)
 used_more s p u f (x ∷ xs) h g same =
-    let size : ℕ × Row → ℕ = λ y. held_of y.1 + coming s y.1.pending in
+    let size : ℕ × Row → ℕ = λ y. held_units y.1 + coming s y.1.pending in
     by_cases (x.0 == p)
     (λ k. rw k (omega (arith, sum_by-cons size (x.0, f x.1) xs, sum_by-cons size x xs, g x.1, ap (coming s) (same x.1))))
     (λ k. rw k (omega (arith, sum_by-cons size x (at_row p f xs), sum_by-cons size x xs, used_more s p u f xs (rw k at h) g same)))
 
-pub fresh_held : (name : List ℕ) (u first deal change : ℕ) (r : Row) → held_of (fresh_row name u first deal change r) ≡ held_of r + u
+pub fresh_held : (name : List ℕ) (u first deal change : ℕ) (r : Row) → held_units (fresh_row name u first deal change r) ≡ held_units r + u
 fresh_held name u first deal change r = omega (arith, sum_by-with_one in_key in_size (chunk_in name u) r.ins)
 
 -- A REFUSAL
 
-pub row_still : (r : Row) → moved still r ≡ r
+pub row_still : (r : Row) → after_move still r ≡ r
 row_still r =
     let a : without in_key [] r.ins ≡ r.ins = without_none in_key r.ins in
     let b : without out_key [] r.outs ≡ r.outs = without_none out_key r.outs in
@@ -122,8 +122,8 @@ row_still r =
 pub rows_refused : (s : State) (p deal why detail : ℕ) → rows_after s (Refused p deal why detail) p ≡ at_row p (took_deal deal s.changes) s.rows
 rows_refused s p deal why detail =
     let quiet : disturbed s (Refused p deal why detail) ≡ [] = only_none in_key (row s p).ins in
-    ap (λ es. at_row p (took_deal deal s.changes) (loosen es (at_row p (moved still) s.rows))) quiet
-    ∙ at_row_twice p (took_deal deal s.changes) (moved still) s.rows
+    ap (λ es. at_row p (took_deal deal s.changes) (loosen es (at_row p (after_move still) s.rows))) quiet
+    ∙ at_row_twice p (took_deal deal s.changes) (after_move still) s.rows
     ∙ at_row_same p _ _ (λ r. ap (took_deal deal s.changes) (row_still r)) s.rows
 
 pub after_refused : (changes : ℕ) (settings : Option Settings) (vs ws : List AccountView) (issued p deal why detail : ℕ) → map named_row ws ≡ at_row p (took_deal deal changes) (map named_row vs) → plain_state (changes + 1) settings ws issued ≡ after (plain_state changes settings vs issued) (Refused p deal why detail)
@@ -146,10 +146,10 @@ refused_none changes settings vs issued p deal why detail at =
     let stranger : has_row (map named_row vs) p ≡ false = (none vs p (sym at)).1 in
     rw stranger (and_false (nat_lt 0 changes) _)
 
-pub used_same : (s : State) (p : ℕ) (f : Row → Row) (rows : List (ℕ × Row)) → ((r : Row) → held_of (f r) ≡ held_of r) → ((r : Row) → (f r).pending ≡ r.pending) → sum_by (λ (x : ℕ × Row). held_of x.1 + coming s x.1.pending) (at_row p f rows) ≡ sum_by (λ (x : ℕ × Row). held_of x.1 + coming s x.1.pending) rows
+pub used_same : (s : State) (p : ℕ) (f : Row → Row) (rows : List (ℕ × Row)) → ((r : Row) → held_units (f r) ≡ held_units r) → ((r : Row) → (f r).pending ≡ r.pending) → sum_by (λ (x : ℕ × Row). held_units x.1 + coming s x.1.pending) (at_row p f rows) ≡ sum_by (λ (x : ℕ × Row). held_units x.1 + coming s x.1.pending) rows
 used_same s p f [] g same = refl
 used_same s p f (x ∷ xs) g same =
-    let size : ℕ × Row → ℕ = λ y. held_of y.1 + coming s y.1.pending in
+    let size : ℕ × Row → ℕ = λ y. held_units y.1 + coming s y.1.pending in
     by_cases (x.0 == p)
     (λ k. rw k (omega (arith, sum_by-cons size (x.0, f x.1) xs, sum_by-cons size x xs, g x.1, ap (coming s) (same x.1))))
     (λ k. rw k (omega (arith, sum_by-cons size x (at_row p f xs), sum_by-cons size x xs, used_same s p f xs g same)))

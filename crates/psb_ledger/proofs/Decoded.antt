@@ -8,7 +8,7 @@ use Rattle.psb_model.specs.declared.change.Change.{Change}
 use Rattle.psb_model.specs.declared.change.Change.TheVariants.{TookFresh}
 use Rattle.psb_bytes.specs.Numbers.{u32_bytes as u32, u64_bytes as u64}
 use Rattle.psb_model.specs.Heads.{flag, head_of}
-use Rattle.psb_model.specs.Grammar.{fits, is_u8, is_u32, is_u64, is_digest, are_bytes, chunk_fits, body_fits, is_chunk_len}
+use Rattle.psb_model.specs.Grammar.{fits_widths, is_u8, is_u32, is_u64, is_digest, are_bytes, chunk_fits, body_fits, is_chunk_len}
 use Rattle.psb_ledger.specs.Records.{HasNoChange, IsRead}
 use Rattle.psb_ledger.proofs.Spelled.{same_parts, digest_length}
 use Rattle.psb_ledger.proofs.OneChange.{of_kinds}
@@ -79,7 +79,7 @@ len_and_body (TookFresh p d n f l w b) = chunk_fits l w b
 len_and_body _ = true
 
 -- the body of the change that has these fields goes with its length and its flag
-pub body_goes : (c : Change) (fields n : List ℕ) (p d f l : ℕ) (w : Bool) (body : Option (List ℕ)) → 5 ∷ fields ≡ head_of (TookFresh p d n f l w None) → fits (TookFresh p d n f l w None) ≡ true → IsRead c (5 ∷ fields) body → chunk_fits l w body ≡ true
+pub body_goes : (c : Change) (fields n : List ℕ) (p d f l : ℕ) (w : Bool) (body : Option (List ℕ)) → 5 ∷ fields ≡ head_of (TookFresh p d n f l w None) → fits_widths (TookFresh p d n f l w None) ≡ true → IsRead c (5 ∷ fields) body → chunk_fits l w body ≡ true
 body_goes (TookFresh p' d' n' f' l' w' b') fields n p d f l w body head widths r =
     let same = of_kinds (TookFresh p' d' n' f' l' w' b') (TookFresh p d n f l w b') (5 ∷ fields) body refl refl r.widths (both (numbers_fit p d n f l) (are_bytes b') (and_parts (numbers_fit p d n f l) true widths).0 (and_parts (numbers_fit p' d' n' f' l') (are_bytes b') r.widths).1) r.stands (record { head_is = head; body_is = r.stands.body_is }) refl in
     let e : chunk_fits l' w' b' ≡ chunk_fits l w b' = ap len_and_body same in
@@ -87,7 +87,7 @@ body_goes (TookFresh p' d' n' f' l' w' b') fields n p d f l w body head widths r
 body_goes _ fields n p d f l w body head widths r = let e = r.stands.head_is in cc
 
 -- four numbers within their widths, and a name
-pub widths_of : (p d f l : ℕ) (n : List ℕ) (w : Bool) → p < 2 ^ 32 → d < 2 ^ 64 → f < 2 ^ 32 → l < 2 ^ 32 → is_digest n ≡ true → fits (TookFresh p d n f l w None) ≡ true
+pub widths_of : (p d f l : ℕ) (n : List ℕ) (w : Bool) → p < 2 ^ 32 → d < 2 ^ 64 → f < 2 ^ 32 → l < 2 ^ 32 → is_digest n ≡ true → fits_widths (TookFresh p d n f l w None) ≡ true
 widths_of p d f l n w hp hd hf hl hn = rw (lt-ltb p (2 ^ 32) hp, lt-ltb d (2 ^ 64) hd, lt-ltb f (2 ^ 32) hf, lt-ltb l (2 ^ 32) hl, hn) refl
 
 pub nothing_left : (xs : List ℕ) → length xs ≡ 0 → xs ≡ []
@@ -103,12 +103,12 @@ if_err (Ok x) P h = tt
 if_err (Err e) P h = h e refl
 
 -- no change has these fields and a length out of range, or a body of another length
-pub no_len : (c : Change) (fields n : List ℕ) (p d f l : ℕ) (w : Bool) (body : Option (List ℕ)) → 5 ∷ fields ≡ head_of (TookFresh p d n f l w None) → fits (TookFresh p d n f l w None) ≡ true → IsRead c (5 ∷ fields) body → is_chunk_len l ≡ false → ⊥
+pub no_len : (c : Change) (fields n : List ℕ) (p d f l : ℕ) (w : Bool) (body : Option (List ℕ)) → 5 ∷ fields ≡ head_of (TookFresh p d n f l w None) → fits_widths (TookFresh p d n f l w None) ≡ true → IsRead c (5 ∷ fields) body → is_chunk_len l ≡ false → ⊥
 no_len c fields n p d f l w body head widths r bad =
     let whole = body_goes c fields n p d f l w body head widths r in
     true≢false (sym (and_parts (is_chunk_len l) (body_fits (if w then l else 0) body) whole).0 ∙ bad)
 
-pub no_body : (c : Change) (fields n : List ℕ) (p d f l : ℕ) (w : Bool) (body : Option (List ℕ)) → 5 ∷ fields ≡ head_of (TookFresh p d n f l w None) → fits (TookFresh p d n f l w None) ≡ true → IsRead c (5 ∷ fields) body → body_fits (if w then l else 0) body ≡ false → ⊥
+pub no_body : (c : Change) (fields n : List ℕ) (p d f l : ℕ) (w : Bool) (body : Option (List ℕ)) → 5 ∷ fields ≡ head_of (TookFresh p d n f l w None) → fits_widths (TookFresh p d n f l w None) ≡ true → IsRead c (5 ∷ fields) body → body_fits (if w then l else 0) body ≡ false → ⊥
 no_body c fields n p d f l w body head widths r bad =
     let whole = body_goes c fields n p d f l w body head widths r in
     true≢false (sym (and_parts (is_chunk_len l) (body_fits (if w then l else 0) body) whole).1 ∙ bad)

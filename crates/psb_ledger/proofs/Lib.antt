@@ -2,8 +2,10 @@ pub mod Spelled
 pub mod OneChange
 pub mod Decoded
 pub mod Ordered
+pub mod Trees
 pub mod Slots
 pub mod Places
+pub mod Forms
 pub mod After
 pub mod Sound
 pub mod Taking

@@ -13,7 +13,7 @@ use Rattle.psb_model.specs.declared.change.Change.{Change}
 use Rattle.psb_model.specs.declared.change.Change.TheVariants.{Begun, Kept, Snapped, Forgot, TookFresh, TookSwap, LetGo, LetGoBack, Replaced, Refused, Proposed, Settled, Turned, Asked, Passed, Failed, Declined, Discarded, Chose}
 use Rattle.psb_bytes.specs.Numbers.{u16_bytes as u16, u32_bytes as u32, u64_bytes as u64}
 use Rattle.psb_model.specs.Heads.{flag, counted, object, ticket, candidate, deal_fields, head_of}
-use Rattle.psb_model.specs.Grammar.{in_grammar, fits, what_fits, what_in_grammar, ticket_fits, candidate_fits, object_fits, is_u16, is_u32, is_digest, is_count}
+use Rattle.psb_model.specs.Grammar.{in_grammar, fits_widths, what_fits, what_in_grammar, ticket_fits, candidate_fits, object_fits, is_u16, is_u32, is_digest, is_count}
 use Rattle.psb_ledger.specs.Records.{IsRecord, OneChangeEach}
 use Rattle.psb_ledger.proofs.Spelled.{same_byte, same_u16, same_u32, same_u64, same_name, same_flag, same_object, same_counted, IsTold}
 
@@ -139,7 +139,7 @@ same_what _ _ h h' c c' e = cc
 
 -- CHANGES, kind by kind
 
-kept : (n n' : List ℕ) (l l' : ℕ) (w w' : Bool) (b b' : Option (List ℕ)) → fits (Kept n l w b) ≡ true → fits (Kept n' l' w' b') ≡ true → b ≡ b' → head_of (Kept n l w b) ≡ head_of (Kept n' l' w' b') → Kept n l w b ≡ Kept n' l' w' b'
+kept : (n n' : List ℕ) (l l' : ℕ) (w w' : Bool) (b b' : Option (List ℕ)) → fits_widths (Kept n l w b) ≡ true → fits_widths (Kept n' l' w' b') ≡ true → b ≡ b' → head_of (Kept n l w b) ≡ head_of (Kept n' l' w' b') → Kept n l w b ≡ Kept n' l' w' b'
 kept n n' l l' w w' b b' h h' same e =
     let w2 = and_parts _ _ h in
     let w1 = and_parts _ _ w2.0 in
@@ -152,7 +152,7 @@ kept n n' l l' w w' b b' h h' same e =
     let e_w = same_flag w w' [] [] e_l.1 in
     λ i. Kept (e_n.0 i) (e_l.0 i) (e_w.0 i) (same i)
 
-snapped : (m m' : ℕ) (t t' : Ticket) (f f' : ℕ) (g g' : ℕ) (y y' : ℕ) (l l' : ℕ) (s s' : List (List ℕ)) → fits (Snapped m t f g y l s) ≡ true → fits (Snapped m' t' f' g' y' l' s') ≡ true → is_count (length s) ≡ true → is_count (length s') ≡ true → head_of (Snapped m t f g y l s) ≡ head_of (Snapped m' t' f' g' y' l' s') → Snapped m t f g y l s ≡ Snapped m' t' f' g' y' l' s'
+snapped : (m m' : ℕ) (t t' : Ticket) (f f' : ℕ) (g g' : ℕ) (y y' : ℕ) (l l' : ℕ) (s s' : List (List ℕ)) → fits_widths (Snapped m t f g y l s) ≡ true → fits_widths (Snapped m' t' f' g' y' l' s') ≡ true → is_count (length s) ≡ true → is_count (length s') ≡ true → head_of (Snapped m t f g y l s) ≡ head_of (Snapped m' t' f' g' y' l' s') → Snapped m t f g y l s ≡ Snapped m' t' f' g' y' l' s'
 snapped m m' t t' f f' g g' y y' l l' s s' h h' ns ns' e =
     let w6 = and_parts _ _ h in
     let w5 = and_parts _ _ w6.0 in
@@ -177,13 +177,13 @@ snapped m m' t t' f f' g g' y y' l l' s s' h h' ns ns' e =
     let e_s = same_counted (λ (name : List ℕ). name) is_digest same_name s s' [] [] w6.1 w6'.1 ns ns' (ended _ _ e_l.1) in
     λ i. Snapped (e_m.0 i) (e_t.0 i) (e_f.0 i) (e_g.0 i) (e_y.0 i) (e_l.0 i) (e_s.0 i)
 
-forgot : (m m' : ℕ) → fits (Forgot m) ≡ true → fits (Forgot m') ≡ true → head_of (Forgot m) ≡ head_of (Forgot m') → Forgot m ≡ Forgot m'
+forgot : (m m' : ℕ) → fits_widths (Forgot m) ≡ true → fits_widths (Forgot m') ≡ true → head_of (Forgot m) ≡ head_of (Forgot m') → Forgot m ≡ Forgot m'
 forgot m m' h h' e =
     let t0 = same_byte 4 4 _ _ e in
     let e_m = same_u32 m m' [] [] h h' t0.1 in
     λ i. Forgot (e_m.0 i)
 
-fresh : (p p' : ℕ) (d d' : ℕ) (n n' : List ℕ) (f f' : ℕ) (l l' : ℕ) (w w' : Bool) (b b' : Option (List ℕ)) → fits (TookFresh p d n f l w b) ≡ true → fits (TookFresh p' d' n' f' l' w' b') ≡ true → b ≡ b' → head_of (TookFresh p d n f l w b) ≡ head_of (TookFresh p' d' n' f' l' w' b') → TookFresh p d n f l w b ≡ TookFresh p' d' n' f' l' w' b'
+fresh : (p p' : ℕ) (d d' : ℕ) (n n' : List ℕ) (f f' : ℕ) (l l' : ℕ) (w w' : Bool) (b b' : Option (List ℕ)) → fits_widths (TookFresh p d n f l w b) ≡ true → fits_widths (TookFresh p' d' n' f' l' w' b') ≡ true → b ≡ b' → head_of (TookFresh p d n f l w b) ≡ head_of (TookFresh p' d' n' f' l' w' b') → TookFresh p d n f l w b ≡ TookFresh p' d' n' f' l' w' b'
 fresh p p' d d' n n' f f' l l' w w' b b' h h' same e =
     let w5 = and_parts _ _ h in
     let w4 = and_parts _ _ w5.0 in
@@ -205,7 +205,7 @@ fresh p p' d d' n n' f f' l l' w w' b b' h h' same e =
     let e_w = same_flag w w' [] [] e_l.1 in
     λ i. TookFresh (e_p.0 i) (e_d.0 i) (e_n.0 i) (e_f.0 i) (e_l.0 i) (e_w.0 i) (same i)
 
-swap : (p p' : ℕ) (d d' : ℕ) (n n' : List ℕ) (s s' : List ℕ) (l l' : ℕ) (w w' : Bool) (b b' : Option (List ℕ)) → fits (TookSwap p d n s l w b) ≡ true → fits (TookSwap p' d' n' s' l' w' b') ≡ true → is_count (length s) ≡ true → is_count (length s') ≡ true → b ≡ b' → head_of (TookSwap p d n s l w b) ≡ head_of (TookSwap p' d' n' s' l' w' b') → TookSwap p d n s l w b ≡ TookSwap p' d' n' s' l' w' b'
+swap : (p p' : ℕ) (d d' : ℕ) (n n' : List ℕ) (s s' : List ℕ) (l l' : ℕ) (w w' : Bool) (b b' : Option (List ℕ)) → fits_widths (TookSwap p d n s l w b) ≡ true → fits_widths (TookSwap p' d' n' s' l' w' b') ≡ true → is_count (length s) ≡ true → is_count (length s') ≡ true → b ≡ b' → head_of (TookSwap p d n s l w b) ≡ head_of (TookSwap p' d' n' s' l' w' b') → TookSwap p d n s l w b ≡ TookSwap p' d' n' s' l' w' b'
 swap p p' d d' n n' s s' l l' w w' b b' h h' ns ns' same e =
     let w5 = and_parts _ _ h in
     let w4 = and_parts _ _ w5.0 in
@@ -227,7 +227,7 @@ swap p p' d d' n n' s s' l l' w w' b b' h h' ns ns' same e =
     let e_w = same_flag w w' [] [] e_l.1 in
     λ i. TookSwap (e_p.0 i) (e_d.0 i) (e_n.0 i) (e_s.0 i) (e_l.0 i) (e_w.0 i) (same i)
 
-let_go : (p p' : ℕ) (d d' : ℕ) (n n' : List ℕ) (s s' : List ℕ) → fits (LetGo p d n s) ≡ true → fits (LetGo p' d' n' s') ≡ true → is_count (length s) ≡ true → is_count (length s') ≡ true → head_of (LetGo p d n s) ≡ head_of (LetGo p' d' n' s') → LetGo p d n s ≡ LetGo p' d' n' s'
+let_go : (p p' : ℕ) (d d' : ℕ) (n n' : List ℕ) (s s' : List ℕ) → fits_widths (LetGo p d n s) ≡ true → fits_widths (LetGo p' d' n' s') ≡ true → is_count (length s) ≡ true → is_count (length s') ≡ true → head_of (LetGo p d n s) ≡ head_of (LetGo p' d' n' s') → LetGo p d n s ≡ LetGo p' d' n' s'
 let_go p p' d d' n n' s s' h h' ns ns' e =
     let w3 = and_parts _ _ h in
     let w2 = and_parts _ _ w3.0 in
@@ -243,7 +243,7 @@ let_go p p' d d' n n' s s' h h' ns ns' e =
     let e_s = same_counted u32 is_u32 same_u32 s s' [] [] w3.1 w3'.1 ns ns' (ended _ _ e_n.1) in
     λ i. LetGo (e_p.0 i) (e_d.0 i) (e_n.0 i) (e_s.0 i)
 
-let_go_back : (p p' : ℕ) (d d' : ℕ) (n n' : List ℕ) (s s' : List ℕ) (b b' : Option (List ℕ)) → fits (LetGoBack p d n s b) ≡ true → fits (LetGoBack p' d' n' s' b') ≡ true → is_count (length s) ≡ true → is_count (length s') ≡ true → b ≡ b' → head_of (LetGoBack p d n s b) ≡ head_of (LetGoBack p' d' n' s' b') → LetGoBack p d n s b ≡ LetGoBack p' d' n' s' b'
+let_go_back : (p p' : ℕ) (d d' : ℕ) (n n' : List ℕ) (s s' : List ℕ) (b b' : Option (List ℕ)) → fits_widths (LetGoBack p d n s b) ≡ true → fits_widths (LetGoBack p' d' n' s' b') ≡ true → is_count (length s) ≡ true → is_count (length s') ≡ true → b ≡ b' → head_of (LetGoBack p d n s b) ≡ head_of (LetGoBack p' d' n' s' b') → LetGoBack p d n s b ≡ LetGoBack p' d' n' s' b'
 let_go_back p p' d d' n n' s s' b b' h h' ns ns' same e =
     let w4 = and_parts _ _ h in
     let w3 = and_parts _ _ w4.0 in
@@ -261,7 +261,7 @@ let_go_back p p' d d' n n' s s' b b' h h' ns ns' same e =
     let e_s = same_counted u32 is_u32 same_u32 s s' [] [] w3.1 w3'.1 ns ns' (ended _ _ e_n.1) in
     λ i. LetGoBack (e_p.0 i) (e_d.0 i) (e_n.0 i) (e_s.0 i) (same i)
 
-replaced : (p p' : ℕ) (d d' : ℕ) (s s' : ℕ) (q q' : ℕ) (m m' : ℕ) (b b' : Option (List ℕ)) → fits (Replaced p d s q m b) ≡ true → fits (Replaced p' d' s' q' m' b') ≡ true → b ≡ b' → head_of (Replaced p d s q m b) ≡ head_of (Replaced p' d' s' q' m' b') → Replaced p d s q m b ≡ Replaced p' d' s' q' m' b'
+replaced : (p p' : ℕ) (d d' : ℕ) (s s' : ℕ) (q q' : ℕ) (m m' : ℕ) (b b' : Option (List ℕ)) → fits_widths (Replaced p d s q m b) ≡ true → fits_widths (Replaced p' d' s' q' m' b') ≡ true → b ≡ b' → head_of (Replaced p d s q m b) ≡ head_of (Replaced p' d' s' q' m' b') → Replaced p d s q m b ≡ Replaced p' d' s' q' m' b'
 replaced p p' d d' s s' q q' m m' b b' h h' same e =
     let w5 = and_parts _ _ h in
     let w4 = and_parts _ _ w5.0 in
@@ -282,7 +282,7 @@ replaced p p' d d' s s' q q' m m' b b' h h' same e =
     let e_m = same_u32 m m' [] [] w4.1 w4'.1 e_q.1 in
     λ i. Replaced (e_p.0 i) (e_d.0 i) (e_s.0 i) (e_q.0 i) (e_m.0 i) (same i)
 
-refused : (p p' : ℕ) (d d' : ℕ) (y y' : ℕ) (t t' : ℕ) → fits (Refused p d y t) ≡ true → fits (Refused p' d' y' t') ≡ true → head_of (Refused p d y t) ≡ head_of (Refused p' d' y' t') → Refused p d y t ≡ Refused p' d' y' t'
+refused : (p p' : ℕ) (d d' : ℕ) (y y' : ℕ) (t t' : ℕ) → fits_widths (Refused p d y t) ≡ true → fits_widths (Refused p' d' y' t') ≡ true → head_of (Refused p d y t) ≡ head_of (Refused p' d' y' t') → Refused p d y t ≡ Refused p' d' y' t'
 refused p p' d d' y y' t t' h h' e =
     let w3 = and_parts _ _ h in
     let w2 = and_parts _ _ w3.0 in
@@ -298,7 +298,7 @@ refused p p' d d' y y' t t' h h' e =
     let e_t = same_u64 t t' [] [] w3.1 w3'.1 e_y.1 in
     λ i. Refused (e_p.0 i) (e_d.0 i) (e_y.0 i) (e_t.0 i)
 
-proposed : (p p' : ℕ) (d d' : ℕ) (x x' : DealWhat) → fits (Proposed p d x) ≡ true → fits (Proposed p' d' x') ≡ true → what_counts x ≡ true → what_counts x' ≡ true → head_of (Proposed p d x) ≡ head_of (Proposed p' d' x') → Proposed p d x ≡ Proposed p' d' x'
+proposed : (p p' : ℕ) (d d' : ℕ) (x x' : DealWhat) → fits_widths (Proposed p d x) ≡ true → fits_widths (Proposed p' d' x') ≡ true → what_counts x ≡ true → what_counts x' ≡ true → head_of (Proposed p d x) ≡ head_of (Proposed p' d' x') → Proposed p d x ≡ Proposed p' d' x'
 proposed p p' d d' x x' h h' nx nx' e =
     let w2 = and_parts _ _ h in
     let w1 = and_parts _ _ w2.0 in
@@ -311,7 +311,7 @@ proposed p p' d d' x x' h h' nx nx' e =
     let e_x = same_what x x' w2.1 w2'.1 nx nx' e_d.1 in
     λ i. Proposed (e_p.0 i) (e_d.0 i) (e_x i)
 
-settled : (p p' : ℕ) (d d' : ℕ) (s s' : List ℕ) (b b' : Option (List ℕ)) → fits (Settled p d s b) ≡ true → fits (Settled p' d' s' b') ≡ true → is_count (length s) ≡ true → is_count (length s') ≡ true → b ≡ b' → head_of (Settled p d s b) ≡ head_of (Settled p' d' s' b') → Settled p d s b ≡ Settled p' d' s' b'
+settled : (p p' : ℕ) (d d' : ℕ) (s s' : List ℕ) (b b' : Option (List ℕ)) → fits_widths (Settled p d s b) ≡ true → fits_widths (Settled p' d' s' b') ≡ true → is_count (length s) ≡ true → is_count (length s') ≡ true → b ≡ b' → head_of (Settled p d s b) ≡ head_of (Settled p' d' s' b') → Settled p d s b ≡ Settled p' d' s' b'
 settled p p' d d' s s' b b' h h' ns ns' same e =
     let w3 = and_parts _ _ h in
     let w2 = and_parts _ _ w3.0 in
@@ -326,7 +326,7 @@ settled p p' d d' s s' b b' h h' ns ns' same e =
     let e_s = same_counted u32 is_u32 same_u32 s s' [] [] w2.1 w2'.1 ns ns' (ended _ _ e_d.1) in
     λ i. Settled (e_p.0 i) (e_d.0 i) (e_s.0 i) (same i)
 
-turned : (p p' : ℕ) (d d' : ℕ) (y y' : ℕ) (t t' : ℕ) → fits (Turned p d y t) ≡ true → fits (Turned p' d' y' t') ≡ true → head_of (Turned p d y t) ≡ head_of (Turned p' d' y' t') → Turned p d y t ≡ Turned p' d' y' t'
+turned : (p p' : ℕ) (d d' : ℕ) (y y' : ℕ) (t t' : ℕ) → fits_widths (Turned p d y t) ≡ true → fits_widths (Turned p' d' y' t') ≡ true → head_of (Turned p d y t) ≡ head_of (Turned p' d' y' t') → Turned p d y t ≡ Turned p' d' y' t'
 turned p p' d d' y y' t t' h h' e =
     let w3 = and_parts _ _ h in
     let w2 = and_parts _ _ w3.0 in
@@ -342,7 +342,7 @@ turned p p' d d' y y' t t' h h' e =
     let e_t = same_u64 t t' [] [] w3.1 w3'.1 e_y.1 in
     λ i. Turned (e_p.0 i) (e_d.0 i) (e_y.0 i) (e_t.0 i)
 
-asked : (p p' : ℕ) (s s' : List Object) → fits (Asked p s) ≡ true → fits (Asked p' s') ≡ true → is_count (length s) ≡ true → is_count (length s') ≡ true → head_of (Asked p s) ≡ head_of (Asked p' s') → Asked p s ≡ Asked p' s'
+asked : (p p' : ℕ) (s s' : List Object) → fits_widths (Asked p s) ≡ true → fits_widths (Asked p' s') ≡ true → is_count (length s) ≡ true → is_count (length s') ≡ true → head_of (Asked p s) ≡ head_of (Asked p' s') → Asked p s ≡ Asked p' s'
 asked p p' s s' h h' ns ns' e =
     let w1 = and_parts _ _ h in
     let w1' = and_parts _ _ h' in
@@ -351,7 +351,7 @@ asked p p' s s' h h' ns ns' e =
     let e_s = same_counted object object_fits same_object s s' [] [] w1.1 w1'.1 ns ns' (ended _ _ e_p.1) in
     λ i. Asked (e_p.0 i) (e_s.0 i)
 
-passed : (p p' : ℕ) (d d' : ℕ) (s s' : List Object) → fits (Passed p d s) ≡ true → fits (Passed p' d' s') ≡ true → is_count (length s) ≡ true → is_count (length s') ≡ true → head_of (Passed p d s) ≡ head_of (Passed p' d' s') → Passed p d s ≡ Passed p' d' s'
+passed : (p p' : ℕ) (d d' : ℕ) (s s' : List Object) → fits_widths (Passed p d s) ≡ true → fits_widths (Passed p' d' s') ≡ true → is_count (length s) ≡ true → is_count (length s') ≡ true → head_of (Passed p d s) ≡ head_of (Passed p' d' s') → Passed p d s ≡ Passed p' d' s'
 passed p p' d d' s s' h h' ns ns' e =
     let w2 = and_parts _ _ h in
     let w1 = and_parts _ _ w2.0 in
@@ -364,7 +364,7 @@ passed p p' d d' s s' h h' ns ns' e =
     let e_s = same_counted object object_fits same_object s s' [] [] w2.1 w2'.1 ns ns' (ended _ _ e_d.1) in
     λ i. Passed (e_p.0 i) (e_d.0 i) (e_s.0 i)
 
-failed : (p p' : ℕ) (d d' : ℕ) (y y' : ℕ) (g g' : List ℕ) (s s' : List Object) → fits (Failed p d y g s) ≡ true → fits (Failed p' d' y' g' s') ≡ true → is_count (length s) ≡ true → is_count (length s') ≡ true → head_of (Failed p d y g s) ≡ head_of (Failed p' d' y' g' s') → Failed p d y g s ≡ Failed p' d' y' g' s'
+failed : (p p' : ℕ) (d d' : ℕ) (y y' : ℕ) (g g' : List ℕ) (s s' : List Object) → fits_widths (Failed p d y g s) ≡ true → fits_widths (Failed p' d' y' g' s') ≡ true → is_count (length s) ≡ true → is_count (length s') ≡ true → head_of (Failed p d y g s) ≡ head_of (Failed p' d' y' g' s') → Failed p d y g s ≡ Failed p' d' y' g' s'
 failed p p' d d' y y' g g' s s' h h' ns ns' e =
     let w4 = and_parts _ _ h in
     let w3 = and_parts _ _ w4.0 in
@@ -382,7 +382,7 @@ failed p p' d d' y y' g g' s s' h h' ns ns' e =
     let e_s = same_counted object object_fits same_object s s' [] [] w4.1 w4'.1 ns ns' (ended _ _ e_g.1) in
     λ i. Failed (e_p.0 i) (e_d.0 i) (e_y.0 i) (e_g.0 i) (e_s.0 i)
 
-declined : (p p' : ℕ) (d d' : ℕ) (s s' : List ℕ) → fits (Declined p d s) ≡ true → fits (Declined p' d' s') ≡ true → is_count (length s) ≡ true → is_count (length s') ≡ true → head_of (Declined p d s) ≡ head_of (Declined p' d' s') → Declined p d s ≡ Declined p' d' s'
+declined : (p p' : ℕ) (d d' : ℕ) (s s' : List ℕ) → fits_widths (Declined p d s) ≡ true → fits_widths (Declined p' d' s') ≡ true → is_count (length s) ≡ true → is_count (length s') ≡ true → head_of (Declined p d s) ≡ head_of (Declined p' d' s') → Declined p d s ≡ Declined p' d' s'
 declined p p' d d' s s' h h' ns ns' e =
     let w2 = and_parts _ _ h in
     let w1 = and_parts _ _ w2.0 in
@@ -395,7 +395,7 @@ declined p p' d d' s s' h h' ns ns' e =
     let e_s = same_counted u16 is_u16 same_u16 s s' [] [] w2.1 w2'.1 ns ns' (ended _ _ e_d.1) in
     λ i. Declined (e_p.0 i) (e_d.0 i) (e_s.0 i)
 
-discarded : (p p' : ℕ) (s s' : List Object) → fits (Discarded p s) ≡ true → fits (Discarded p' s') ≡ true → is_count (length s) ≡ true → is_count (length s') ≡ true → head_of (Discarded p s) ≡ head_of (Discarded p' s') → Discarded p s ≡ Discarded p' s'
+discarded : (p p' : ℕ) (s s' : List Object) → fits_widths (Discarded p s) ≡ true → fits_widths (Discarded p' s') ≡ true → is_count (length s) ≡ true → is_count (length s') ≡ true → head_of (Discarded p s) ≡ head_of (Discarded p' s') → Discarded p s ≡ Discarded p' s'
 discarded p p' s s' h h' ns ns' e =
     let w1 = and_parts _ _ h in
     let w1' = and_parts _ _ h' in
@@ -404,7 +404,7 @@ discarded p p' s s' h h' ns ns' e =
     let e_s = same_counted object object_fits same_object s s' [] [] w1.1 w1'.1 ns ns' (ended _ _ e_p.1) in
     λ i. Discarded (e_p.0 i) (e_s.0 i)
 
-chose : (s s' : List Candidate) → fits (Chose s) ≡ true → fits (Chose s') ≡ true → is_count (length s) ≡ true → is_count (length s') ≡ true → head_of (Chose s) ≡ head_of (Chose s') → Chose s ≡ Chose s'
+chose : (s s' : List Candidate) → fits_widths (Chose s) ≡ true → fits_widths (Chose s') ≡ true → is_count (length s) ≡ true → is_count (length s') ≡ true → head_of (Chose s) ≡ head_of (Chose s') → Chose s ≡ Chose s'
 chose s s' h h' ns ns' e =
     let t0 = same_byte 19 19 _ _ e in
     let e_s = same_counted candidate candidate_fits same_candidate s s' [] [] h h' ns ns' (ended _ _ t0.1) in
@@ -450,7 +450,7 @@ counts_in _ h = refl
 abbrev pub kind_of : Change → ℕ
 kind_of c = get_or (head_of c) 0 0
 
-pub of_kinds : (c d : Change) (head : List ℕ) (body : Option (List ℕ)) → counts_fit c ≡ true → counts_fit d ≡ true → fits c ≡ true → fits d ≡ true → IsRecord c head body → IsRecord d head body → kind_of c ≡ kind_of d → c ≡ d
+pub of_kinds : (c d : Change) (head : List ℕ) (body : Option (List ℕ)) → counts_fit c ≡ true → counts_fit d ≡ true → fits_widths c ≡ true → fits_widths d ≡ true → IsRecord c head body → IsRecord d head body → kind_of c ≡ kind_of d → c ≡ d
 of_kinds (Begun b) (Begun b') head body k k' h h' r r' e = ap Begun (sym r.body_is ∙ r'.body_is)
 of_kinds (Kept n l w b) (Kept n' l' w' b') head body k k' h h' r r' e = kept n n' l l' w w' b b' h h' (sym r.body_is ∙ r'.body_is) (sym r.head_is ∙ r'.head_is)
 of_kinds (Snapped m t f g y l s) (Snapped m' t' f' g' y' l' s') head body k k' h h' r r' e = snapped m m' t t' f f' g g' y y' l l' s s' h h' k k' (sym r.head_is ∙ r'.head_is)

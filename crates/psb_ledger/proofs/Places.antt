@@ -89,16 +89,22 @@ found_read vs p i r h is = let f = found vs p i (sym h) in found_row vs p i f.0 
 pub found_here : (vs : List AccountView) (p i : ℕ) (r : AccountView) → Some i ≡ position (λ (v : AccountView). v.id == p) vs → r ≡ get_or vs i r → Found vs p i r
 found_here vs p i r h is = let f = found vs p i (sym h) in subst (Found vs p i) (sym (is ∙ found_at vs p i f.0 r f.1)) f.1
 
+named_append : (vs : List AccountView) (w : AccountView) → map named_row (vs ++ w ∷ []) ≡ map named_row vs ++ named_row w ∷ []
+named_append [] w = refl
+named_append (v ∷ vs) w = ap (λ l. named_row v ∷ l) (named_append vs w)
+
+-- one more peer, of the same row
+pub more_same : (vs ws : List AccountView) (v w : AccountView) → map named_row ws ≡ map named_row vs → w.id ≡ v.id → w.row ≡ v.row → map named_row (ws ++ w ∷ []) ≡ map named_row (vs ++ v ∷ [])
+more_same vs ws v w h a b =
+    let one : named_row w ≡ named_row v = λ j. (a j, b j) in
+    named_append ws w ∙ (λ j. h j ++ one j ∷ []) ∙ sym (named_append vs v)
+
 -- one more blank peer
 pub more_blank : (vs : List AccountView) (w : AccountView) (xs : List PeerRow) (x : PeerRow) → map named_row vs ≡ blank_rows xs → w.id ≡ x.id → w.row ≡ blank → map named_row (vs ++ w ∷ []) ≡ blank_rows (xs ++ x ∷ [])
 more_blank vs w xs x h a b =
     let one : named_row w ≡ (x.id, blank) = λ j. (a j, b j) in
     named_append vs w ∙ (λ j. h j ++ one j ∷ []) ∙ sym (blank_append xs x)
   where
-    named_append : (vs : List AccountView) (w : AccountView) → map named_row (vs ++ w ∷ []) ≡ map named_row vs ++ named_row w ∷ []
-    named_append [] w = refl
-    named_append (v ∷ vs) w = ap (λ l. named_row v ∷ l) (named_append vs w)
-
     blank_append : (xs : List PeerRow) (x : PeerRow) → blank_rows (xs ++ x ∷ []) ≡ blank_rows xs ++ (x.id, blank) ∷ []
     blank_append [] x = refl
     blank_append (y ∷ ys) x = ap (λ l. (y.id, blank) ∷ l) (blank_append ys x)

@@ -9,9 +9,9 @@ use Rattle.psb_settings.proofs.Ranges.{settings_of-are}
 use Rattle.psb_model.specs.declared.change.Change.{Change}
 use Rattle.psb_model.specs.declared.change.Change.TheVariants.{Begun, TookFresh, Refused}
 use Rattle.psb_model.specs.Words.{units, all_of}
-use Rattle.psb_model.specs.State.{Row, State, row, at_row, held_of, back_of, used, coming, is_peer}
+use Rattle.psb_model.specs.State.{Row, State, row, at_row, held_units, back_units, used, coming, is_peer}
 use Rattle.psb_model.specs.Grammar.{in_grammar}
-use Rattle.psb_model.specs.Conditions.{capacity, tests, allowed, settings_in}
+use Rattle.psb_model.specs.Conditions.{capacity, tests, allowed, settings_of_body}
 use Rattle.psb_model.specs.Effects.{took_deal, after, blank_rows, first_rows}
 use Rattle.psb_model.proofs.Steps.{parts}
 use Rattle.psb_model.proofs.Balance.{Good, good_state}
@@ -50,17 +50,17 @@ total_fits ch st vs is total p deal name first len new i r u f e =
     let le : used s + units len ≤ capacity st = leb-true (used s + units len) (capacity st) ts.1.1.1.1.0 in
     omega (arith, le, e, f.sound.used_is, f.sound.small)
 
-pub held_fits : (ch : ℕ) (st : Option Settings) (vs : List AccountView) (is total p deal : ℕ) (name : List ℕ) (first len : ℕ) (new : Bool) (i : ℕ) (r : AccountView) (u : ℕ) → FreshAt ch st vs is total p deal name first len new i r → u ≡ units len → held_of r.row + u < 2 ^ 32
+pub held_fits : (ch : ℕ) (st : Option Settings) (vs : List AccountView) (is total p deal : ℕ) (name : List ℕ) (first len : ℕ) (new : Bool) (i : ℕ) (r : AccountView) (u : ℕ) → FreshAt ch st vs is total p deal name first len new i r → u ≡ units len → held_units r.row + u < 2 ^ 32
 held_fits ch st vs is total p deal name first len new i r u f e =
     let s = plain_state ch st vs is in
     let q : row s p ≡ r.row = found_row vs p i r (found_here vs p i r f.place f.here) in
-    omega (arith, total_fits ch st vs is total p deal name first len new i r u f e, row_within s s.rows p, ap held_of q, f.sound.used_is)
+    omega (arith, total_fits ch st vs is total p deal name first len new i r u f e, row_within s s.rows p, ap held_units q, f.sound.used_is)
 
-pub back_fits : (ch : ℕ) (st : Option Settings) (vs : List AccountView) (is total p deal : ℕ) (name : List ℕ) (first len : ℕ) (new : Bool) (i : ℕ) (r : AccountView) (u : ℕ) → FreshAt ch st vs is total p deal name first len new i r → u ≡ units len → back_of r.row + u < 2 ^ 32
+pub back_fits : (ch : ℕ) (st : Option Settings) (vs : List AccountView) (is total p deal : ℕ) (name : List ℕ) (first len : ℕ) (new : Bool) (i : ℕ) (r : AccountView) (u : ℕ) → FreshAt ch st vs is total p deal name first len new i r → u ≡ units len → back_units r.row + u < 2 ^ 32
 back_fits ch st vs is total p deal name first len new i r u f e =
     let s = plain_state ch st vs is in
     let q : row s p ≡ r.row = found_row vs p i r (found_here vs p i r f.place f.here) in
-    omega (arith, held_fits ch st vs is total p deal name first len new i r u f e, ((good_of s f.sound.reached).rows p).tidy.balanced, ap held_of q, ap back_of q)
+    omega (arith, held_fits ch st vs is total p deal name first len new i r u f e, ((good_of s f.sound.reached).rows p).tidy.balanced, ap held_units q, ap back_units q)
 
 pub taken : (ch : ℕ) (st : Option Settings) (vs : List AccountView) (is total p deal : ℕ) (name : List ℕ) (first len : ℕ) (new : Bool) (i : ℕ) (r w : AccountView) (u : ℕ) → FreshAt ch st vs is total p deal name first len new i r → u ≡ units len → w.id ≡ r.id → w.row ≡ fresh_row name u first deal ch r.row → plain_state (ch + 1) st (set vs i w) (is + u) ≡ after (plain_state ch st vs is) (fresh_change p deal name first len new)
 taken ch st vs is total p deal name first len new i r w u f e same changed =
@@ -76,7 +76,7 @@ taken_sound ch st vs is total p deal name first len new i r w u f e same changed
     let at = found_here vs p i r f.place f.here in
     let rows : map named_row (set vs i w) ≡ at_row p (fresh_row name u first deal ch) (map named_row vs) = found_set vs p i r w (fresh_row name u first deal ch) at same changed in
     record {
-      used_is = omega (arith, f.sound.used_is, ap (sum_by (λ (x : ℕ × Row). held_of x.1 + coming s x.1.pending)) rows, used_more s p u (fresh_row name u first deal ch) (map named_row vs) (found_peer vs p i r at) (fresh_held name u first deal ch) (λ y. refl));
+      used_is = omega (arith, f.sound.used_is, ap (sum_by (λ (x : ℕ × Row). held_units x.1 + coming s x.1.pending)) rows, used_more s p u (fresh_row name u first deal ch) (map named_row vs) (found_peer vs p i r at) (fresh_held name u first deal ch) (λ y. refl));
       reached = subst IsReached (sym (taken ch st vs is total p deal name first len new i r w u f e same changed)) (reached_after s c f.sound.reached f.grammar f.may);
       small = f.sound.small;
     }
@@ -90,26 +90,26 @@ refused_sound ch st vs is total p deal why detail i r w sound place here may sam
     let state_is = after_refused ch st vs (set vs i w) is p deal why detail rows in (
       state_is,
       record {
-        used_is = omega (arith, sound.used_is, ap (sum_by (λ (x : ℕ × Row). held_of x.1 + coming s x.1.pending)) rows, used_same s p (took_deal deal ch) (map named_row vs) (λ y. refl) (λ y. refl));
+        used_is = omega (arith, sound.used_is, ap (sum_by (λ (x : ℕ × Row). held_units x.1 + coming s x.1.pending)) rows, used_same s p (took_deal deal ch) (map named_row vs) (λ y. refl) (λ y. refl));
         reached = subst IsReached (sym state_is) (reached_after s (Refused p deal why detail) sound.reached refl may);
         small = sound.small;
       },
     )
 
 -- The first change.
-blank_units : (s : State) (ps : List PeerRow) → sum_by (λ (x : ℕ × Row). held_of x.1 + coming s x.1.pending) (blank_rows ps) ≡ 0
+blank_units : (s : State) (ps : List PeerRow) → sum_by (λ (x : ℕ × Row). held_units x.1 + coming s x.1.pending) (blank_rows ps) ≡ 0
 blank_units s [] = refl
 blank_units s (x ∷ xs) = blank_units s xs
 
-no_units : (s : State) (st : Option Settings) → sum_by (λ (x : ℕ × Row). held_of x.1 + coming s x.1.pending) (first_rows st) ≡ 0
+no_units : (s : State) (st : Option Settings) → sum_by (λ (x : ℕ × Row). held_units x.1 + coming s x.1.pending) (first_rows st) ≡ 0
 no_units s None = refl
 no_units s (Some x) = blank_units s x.peers
 
-text_there : (body : Option (List ℕ)) → is_some (settings_in body) ≡ true → is_some body ≡ true
+text_there : (body : Option (List ℕ)) → is_some (settings_of_body body) ≡ true → is_some body ≡ true
 text_there None h = h
 text_there (Some text) h = refl
 
-pub begun_sound : (ch : ℕ) (st : Option Settings) (vs : List AccountView) (is total : ℕ) (body : Option (List ℕ)) (nst : Option Settings) (nvs : List AccountView) → ch ≡ 0 → IsSound total (plain_state ch st vs is) → nst ≡ settings_in body → is_some (settings_in body) ≡ true → map named_row nvs ≡ first_rows (settings_in body) → capacity nst < 2 ^ 32 → (plain_state 1 nst nvs is ≡ after (plain_state ch st vs is) (Begun body)) × IsSound 0 (plain_state 1 nst nvs is)
+pub begun_sound : (ch : ℕ) (st : Option Settings) (vs : List AccountView) (is total : ℕ) (body : Option (List ℕ)) (nst : Option Settings) (nvs : List AccountView) → ch ≡ 0 → IsSound total (plain_state ch st vs is) → nst ≡ settings_of_body body → is_some (settings_of_body body) ≡ true → map named_row nvs ≡ first_rows (settings_of_body body) → capacity nst < 2 ^ 32 → (plain_state 1 nst nvs is ≡ after (plain_state ch st vs is) (Begun body)) × IsSound 0 (plain_state 1 nst nvs is)
 begun_sound ch st vs is total body nst nvs none_yet sound same some rows small =
     let s = plain_state ch st vs is in
     let n = plain_state 1 nst nvs is in
@@ -118,14 +118,14 @@ begun_sound ch st vs is total body nst nvs none_yet sound same some rows small =
     let may : allowed s (Begun body) ≡ true = rw (none_yet, some) refl in (
       is_after,
       record {
-        used_is = sym (no_units n (settings_in body)) ∙ ap (sum_by (λ (y : ℕ × Row). held_of y.1 + coming n y.1.pending)) (sym rows);
+        used_is = sym (no_units n (settings_of_body body)) ∙ ap (sum_by (λ (y : ℕ × Row). held_units y.1 + coming n y.1.pending)) (sym rows);
         reached = subst IsReached (sym is_after) (reached_after s (Begun body) sound.reached (text_there body some) may);
         small = small;
       },
     )
 
 -- a settings text keeps the capacity within four bytes
-pub text_capacity : (body : Option (List ℕ)) → capacity (settings_in body) < 2 ^ 32
+pub text_capacity : (body : Option (List ℕ)) → capacity (settings_of_body body) < 2 ^ 32
 text_capacity None = omega arith
 text_capacity (Some text) = of_text (settings_of text) refl
   where

@@ -5,29 +5,29 @@ use Rattle.std.proofs.lemmas.Bool.{and_parts, eqb-true}
 use Rattle.psb_bytes.specs.declared.ids.Object.TheVariants.{Chunk}
 use Rattle.psb_model.specs.declared.change.Change.{Change}
 use Rattle.psb_model.specs.Words.{units, has, all_of}
-use Rattle.psb_model.specs.State.{Row, row, is_peer, in_key, held_of, back_of}
+use Rattle.psb_model.specs.State.{Row, row, is_peer, in_key, held_units, back_units}
 use Rattle.psb_model.specs.Grammar.{in_grammar}
 use Rattle.psb_model.specs.Conditions.{allowed, tests}
 use Rattle.psb_model.specs.Effects.{after}
 use Rattle.psb_model.proofs.Steps.{parts}
-use Rattle.psb_ledger.specs.declared.codec.fields.Store.{Store}
-use Rattle.psb_ledger.specs.declared.book.Ledger.TheInside.{Inside}
+use Rattle.psb_ledger.specs.declared.codec.fields.FreshFields.{FreshFields}
+use Rattle.psb_ledger.specs.declared.book.Book.TheInside.{Inside}
 use Rattle.psb_ledger.specs.View.{AccountView, LedgerView, plain_state, fresh_row, LacksSlots, HasFreshRoom, IsSound}
 use Rattle.psb_ledger.proofs.Places.{found_row, found_here, found_peer, found_account}
 use Rattle.psb_ledger.proofs.Sound.{good_of, fresh_change, FreshAt, total_fits, held_fits, back_fits, taken, taken_sound}
 
 abbrev pub view_of : Inside → LedgerView
-view_of l = record { state = plain_state l.changes l.settings l.accounts.items l.issued; accounts = l.accounts.items; next = l.next; next_accounts = l.next_accounts.items }
+view_of l = record { state = plain_state l.changes l.settings l.accounts.items l.issued; accounts = l.accounts.items; next = l.next; next_accounts = l.next_accounts.items; in_blocks = l.in_blocks }
 
-abbrev pub change_of : Store → Change
+abbrev pub change_of : FreshFields → Change
 change_of x = fresh_change x.peer x.deal x.name x.first x.len x.new
 
 -- a deal that is no repeat, of a chunk that is not there, from the first number on that was not drawn
-pub record CanTake (l : Inside) (v : LedgerView) (x : Store) (i u : ℕ) (r : AccountView) : Type 0 where
+pub record CanTake (l : Inside) (v : LedgerView) (x : FreshFields) (i u : ℕ) (r : AccountView) : Type 0 where
   pub in_room : 1 ≤ r.in_room
   pub out_room : u ≤ r.out_room
-  pub held : held_of r.row + u < 2 ^ 32
-  pub back : back_of r.row + u < 2 ^ 32
+  pub held : held_units r.row + u < 2 ^ 32
+  pub back : back_units r.row + u < 2 ^ 32
   pub total : l.used + u < 2 ^ 32
   pub absent : has in_key r.row.ins (Chunk x.name) ≡ false
   pub free : LacksSlots x.first u r.row.outs
@@ -38,7 +38,7 @@ is_false : (b : Bool) → not b ≡ true → b ≡ false
 is_false true h = sym h
 is_false false h = refl
 
-pub can_take : (l : Inside) (v : LedgerView) (x : Store) (i u : ℕ) (r : AccountView) → view_of l ≡ v → IsSound l.used (plain_state l.changes l.settings l.accounts.items l.issued) → Some i ≡ position (λ (y : AccountView). y.id == x.peer) v.accounts → r ≡ get_or l.accounts.items i r → allowed v.state (change_of x) ≡ true → in_grammar (change_of x) ≡ true → HasFreshRoom v x.peer (units x.len) → u ≡ units x.len → CanTake l v x i u r
+pub can_take : (l : Inside) (v : LedgerView) (x : FreshFields) (i u : ℕ) (r : AccountView) → view_of l ≡ v → IsSound l.used (plain_state l.changes l.settings l.accounts.items l.issued) → Some i ≡ position (λ (y : AccountView). y.id == x.peer) v.accounts → r ≡ get_or l.accounts.items i r → allowed v.state (change_of x) ≡ true → in_grammar (change_of x) ≡ true → HasFreshRoom v x.peer (units x.len) → u ≡ units x.len → CanTake l v x i u r
 can_take l v x i u r view sound place here may grammar room same =
     let s = plain_state l.changes l.settings l.accounts.items l.issued in
     let vs = l.accounts.items in

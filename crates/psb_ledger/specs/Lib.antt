@@ -1,2 +1,4 @@
+pub mod Latest
+pub mod Lists
 pub mod Records
 pub mod View

@@ -3,7 +3,7 @@ use Rattle.std.specs.Prelude.{◌≡◌, ℕ, Bool, true, false, List, [], Optio
 use Rattle.psb_model.specs.declared.change.Change.{Change}
 use Rattle.psb_model.specs.declared.change.Change.TheVariants.{Begun, Kept, TookFresh, TookSwap, LetGoBack, Replaced, Settled}
 use Rattle.psb_model.specs.Heads.{head_of, body_of}
-use Rattle.psb_model.specs.Grammar.{in_grammar, fits}
+use Rattle.psb_model.specs.Grammar.{in_grammar, fits_widths}
 use Rattle.psb_model.specs.History.{is_built}
 
 -- the kinds that have a body part
@@ -27,18 +27,18 @@ pub record IsRecord (c : Change) (head : List ℕ) (body : Option (List ℕ)) : 
 pub record IsRead (c : Change) (head : List ℕ) (body : Option (List ℕ)) : Type 0 where
   pub kind : is_built c ≡ true
   pub grammar : in_grammar c ≡ true
-  pub widths : fits c ≡ true
+  pub widths : fits_widths c ≡ true
   pub stands : IsRecord c head body
 
 -- one record stands for one change, of whatever kind
 abbrev pub OneChangeEach : Type 0
 OneChangeEach = (c d : Change) (head : List ℕ) (body : Option (List ℕ))
-    → in_grammar c ≡ true → in_grammar d ≡ true → fits c ≡ true → fits d ≡ true
+    → in_grammar c ≡ true → in_grammar d ≡ true → fits_widths c ≡ true → fits_widths d ≡ true
     → IsRecord c head body → IsRecord d head body → c ≡ d
 
 -- no change has a record with this head; no change is read from this record
 abbrev pub HasNoChange : List ℕ → Type 0
-HasNoChange head = (c : Change) → is_built c ≡ true → fits c ≡ true → head ≡ head_of c → ⊥
+HasNoChange head = (c : Change) → is_built c ≡ true → fits_widths c ≡ true → head ≡ head_of c → ⊥
 
 abbrev pub NoneIsRead : List ℕ → Option (List ℕ) → Type 0
 NoneIsRead head body = (c : Change) → IsRead c head body → ⊥

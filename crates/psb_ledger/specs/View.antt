@@ -14,23 +14,27 @@ use Rattle.psb_model.specs.declared.change.Change.{Change}
 use Rattle.psb_model.specs.declared.change.Change.TheVariants.{Begun, TookFresh}
 use Rattle.psb_model.specs.Words.{units, occurs, with_one, with_all}
 use Rattle.psb_model.specs.State.{Row, State, blank, is_peer, used, in_key, in_size, out_key, out_size, debt_size}
-use Rattle.psb_model.specs.Conditions.{settings_in, capacity}
+use Rattle.psb_model.specs.Conditions.{settings_of_body, capacity}
 use Rattle.psb_model.specs.Effects.{chunk_in, own_slots, took_deal, first_rows}
 use Rattle.psb_model.specs.History.{is_lawful, state}
 
--- a peer's row, and how many more entries its two lists have room for
+-- a peer's row, how many more entries its two lists have room for, and whether what the node answers for
+-- is one block (else it is a tree)
 pub record AccountView : Type 0 where
   pub id : ℕ
   pub row : Row
   pub in_room : ℕ
   pub out_room : ℕ
+  pub in_block : Bool
 
--- the ledger: its state, its accounts with their room, and the settings that a Begun will bring
+-- the ledger: its state, its accounts with their room, the settings that a Begun will bring, and whether
+-- the accounts keep blocks
 pub record LedgerView : Type 0 where
   pub state : State
   pub accounts : List AccountView
   pub next : Option Settings
   pub next_accounts : List AccountView
+  pub in_blocks : Bool
 
 -- a row with these lists and this last deal, and nothing else
 abbrev pub plain_row : List InEntry → List OutEntry → List DebtEntry → LastDeal → Row
@@ -66,7 +70,7 @@ in_order key (e ∷ es) = list_all (λ x. is_lt (object_cmp (key e) (key x))) es
 
 -- the account of a peer; a stranger has no room
 abbrev pub account_in : List AccountView → ℕ → AccountView
-account_in [] p = record { id = p; row = blank; in_room = 0; out_room = 0 }
+account_in [] p = record { id = p; row = blank; in_room = 0; out_room = 0; in_block = true }
 account_in (v ∷ vs) p = if v.id == p then v else account_in vs p
 
 -- room for one chunk and u slots, if p is a peer
@@ -76,8 +80,8 @@ pub record HasFreshRoom (v : LedgerView) (p u : ℕ) : Type 0 where
 
 -- the settings of the text, if it has some, and an empty account for each peer
 pub record HasBegunRoom (v : LedgerView) (body : Option (List ℕ)) : Type 0 where
-  pub settings : v.next ≡ settings_in body
-  pub accounts : map named_row v.next_accounts ≡ first_rows (settings_in body)
+  pub settings : v.next ≡ settings_of_body body
+  pub accounts : map named_row v.next_accounts ≡ first_rows (settings_of_body body)
 
 abbrev pub HasRoom : LedgerView → Change → Type 0
 HasRoom v (Begun body) = HasBegunRoom v body
@@ -94,6 +98,11 @@ pub record IsAccount (held back debt : ℕ) (ins : List InEntry) (outs : List Ou
   pub ins_ordered : in_order in_key ins ≡ true
   pub outs_ordered : in_order out_key outs ≡ true
 
+-- each account keeps a block, or each a tree
+abbrev pub AreInForm : Bool → List AccountView → Type 0
+AreInForm in_blocks [] = Unit {0}
+AreInForm in_blocks (v ∷ vs) = (v.in_block ≡ in_blocks) × AreInForm in_blocks vs
+
 -- some lawful history gives the state
 pub record IsReached (s : State) : Type 0 where
   pub history : List Change
@@ -105,3 +114,9 @@ pub record IsSound (total : ℕ) (s : State) : Type 0 where
   pub used_is : total ≡ used s
   pub reached : IsReached s
   pub small : capacity s.settings < 2 ^ 32
+
+-- the ledger is sound, and its accounts, also those that a Begun will bring, are in one form
+pub record IsBook (total : ℕ) (in_blocks : Bool) (accounts next_accounts : List AccountView) (s : State) : Type 0 where
+  pub sound : IsSound total s
+  pub forms : AreInForm in_blocks accounts
+  pub next_forms : AreInForm in_blocks next_accounts

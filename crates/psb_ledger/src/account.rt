@@ -1,25 +1,28 @@
 //! What the ledger keeps of one peer, with its running sums.
 
-ghost use Rattle.std.specs.Prelude.{◌≡◌, ◌+◌, ◌-◌, ◌<◌, ◌≤◌, ◌^◌, true, false, OnOk, vec_len, vec_capacity};
+ghost use Rattle.std.specs.Prelude.{◌≡◌, ◌+◌, ◌-◌, ◌<◌, ◌≤◌, ◌^◌, true, false, OnOk, IfOk, vec_len, vec_capacity};
 ghost use Rattle.psb_bytes.specs.declared.ids.Object.TheVariants.{Chunk};
 ghost use Rattle.psb_model.specs.Words.{has, units};
-ghost use Rattle.psb_model.specs.State.{blank, in_key, held_of, back_of, debt_of};
+ghost use Rattle.psb_model.specs.State.{blank, in_key, held_units, back_units, debt_units};
 ghost use Rattle.psb_model.specs.Effects.{took_deal};
+ghost use Rattle.psb_ledger.specs.Lists.{in_items, in_room, is_block};
 ghost use Rattle.psb_ledger.specs.View.{AccountView, plain_row, fresh_row, LacksSlots, IsAccount};
 
-use crate::codec::Store;
-use crate::entries::{find, insert, insert_own_slots};
+use crate::codec::FreshFields;
+use crate::entries::insert_own_slots;
+use crate::in_list::InList;
 use psb_bytes::{Memory, Object, PeerId};
 use psb_model::{DebtEntry, InEntry, InState, LastDeal, OutEntry};
 use std::alloc::Global;
 use std::marker::Model;
 
 /// What the node answers for to a peer, what it has there, and what the peer lost, in object order
-/// and the debt in order of booking.
+/// and the debt in order of booking. What it has there is one block always: new slots have the
+/// highest numbers and go in at its end, which moves nothing.
 #[derive(Drop)]
 pub struct Account {
     id: PeerId,
-    ins: Vec<InEntry>,
+    ins: InList,
     outs: Vec<OutEntry>,
     debts: Vec<DebtEntry>,
     last: LastDeal,
@@ -31,20 +34,22 @@ pub struct Account {
 impl Model for Account {
     ghost Value = { AccountView };
 
-    ghost view = { λ a. record { id = a.id; row = plain_row a.ins.items a.outs.items a.debts.items a.last; in_room = vec_capacity a.ins - vec_len a.ins; out_room = vec_capacity a.outs - vec_len a.outs } };
+    ghost view = { λ a. record { id = a.id; row = plain_row (in_items a.ins) a.outs.items a.debts.items a.last; in_room = in_room a.ins; out_room = vec_capacity a.outs - vec_len a.outs; in_block = is_block a.ins } };
 
-    ghost invariant = { λ a. IsAccount a.held a.back a.debt a.ins.items a.outs.items a.debts.items };
+    ghost invariant = { λ a. IsAccount a.held a.back a.debt (in_items a.ins) a.outs.items a.debts.items };
 }
 
 impl Account {
-    /// An account with empty lists. Takes no memory.
-    pub fn new(alloc: Global, id: PeerId) -> Account
+    /// An account with empty lists, whose entries come into one block or into a tree. Takes no
+    /// memory.
+    pub fn new(alloc: Global, id: PeerId, in_block: bool) -> Account
         ensures id { result.id ≡ id }
         ensures row { result.row ≡ blank }
+        ensures form { result.in_block ≡ in_block }
     {
         Account {
             id,
-            ins: Vec::new(alloc),
+            ins: InList::new(alloc, in_block),
             outs: Vec::new(alloc),
             debts: Vec::new(alloc),
             last: LastDeal {
@@ -64,19 +69,19 @@ impl Account {
     }
 
     pub fn held(&self) -> u32
-        ensures { result ≡ held_of self.now.row }
+        ensures { result ≡ held_units self.now.row }
     {
         self.held
     }
 
     pub fn back(&self) -> u32
-        ensures { result ≡ back_of self.now.row }
+        ensures { result ≡ back_units self.now.row }
     {
         self.back
     }
 
     pub fn debt(&self) -> u32
-        ensures { result ≡ debt_of self.now.row }
+        ensures { result ≡ debt_units self.now.row }
     {
         self.debt
     }
@@ -88,6 +93,7 @@ impl Account {
     }
 
     pub fn ins(&self) -> &[InEntry]
+        requires { self.now.in_block ≡ true }
         ensures { result.now ≡ self.now.row.ins }
     {
         self.ins.as_slice()
@@ -110,17 +116,18 @@ impl Account {
         ensures { result ≡ has in_key self.now.row.ins object.now }
     {
         let _held = self.held;
-        find(self.ins.as_slice(), object).is_ok()
+        self.ins.has(object)
     }
 
     /// Makes room for one entry of a chunk, and for its units in own slots.
     pub fn reserve(&mut self, units: u32) -> Result<(), Memory>
         ensures id { self.new.id ≡ self.old.id }
         ensures row { self.new.row ≡ self.old.row }
+        ensures form { self.new.in_block ≡ self.old.in_block }
         ensures in_room { OnOk result (1 ≤ self.new.in_room) }
         ensures out_room { OnOk result (units ≤ self.new.out_room) }
     {
-        self.ins.try_reserve(1)?;
+        self.ins.reserve()?;
         self.outs.try_reserve(units as usize)?;
         Ok(())
     }
@@ -129,6 +136,7 @@ impl Account {
     pub fn note(&mut self, deal: u64, change: u64)
         ensures id { self.new.id ≡ self.old.id }
         ensures row { self.new.row ≡ took_deal deal change self.old.row }
+        ensures form { self.new.in_block ≡ self.old.in_block }
     {
         self.last = LastDeal {
             number: deal,
@@ -137,23 +145,24 @@ impl Account {
     }
 
     /// Takes a chunk of `u` units against as many new slots.
-    pub fn take_fresh(&mut self, x: &Store, u: u32, change: u64)
+    pub fn take_fresh(&mut self, x: &FreshFields, u: u32, change: u64)
         requires in_room { 1 ≤ self.old.in_room }
         requires out_room { u ≤ self.old.out_room }
         requires slots { x.now.first + u < 2 ^ 32 }
-        requires held { held_of self.old.row + u < 2 ^ 32 }
-        requires back { back_of self.old.row + u < 2 ^ 32 }
+        requires held { held_units self.old.row + u < 2 ^ 32 }
+        requires back { back_units self.old.row + u < 2 ^ 32 }
         requires absent { has in_key self.old.row.ins (Chunk x.now.name) ≡ false }
         requires absent_slots { LacksSlots x.now.first u self.old.row.outs }
         ensures id { self.new.id ≡ self.old.id }
         ensures row { self.new.row ≡ fresh_row x.now.name u x.now.first x.now.deal change self.old.row }
+        ensures form { self.new.in_block ≡ self.old.in_block }
     {
         let chunk = InEntry {
             object: Object::Chunk(x.name),
             units: u,
             state: InState::Body,
         };
-        insert(&mut self.ins, chunk);
+        self.ins.insert(chunk);
         insert_own_slots(&mut self.outs, x.first, u);
         self.held += u;
         self.back += u;
@@ -161,5 +170,23 @@ impl Account {
             number: x.deal,
             change,
         };
+    }
+
+    /// The same account with its entries in one block.
+    pub fn into_block(self) -> Result<Account, Memory>
+        ensures id { IfOk result (λ a. a.id ≡ self.id) }
+        ensures row { IfOk result (λ a. a.row ≡ self.row) }
+        ensures form { IfOk result (λ a. a.in_block ≡ true) }
+    {
+        Ok(Account {
+            id: self.id,
+            ins: self.ins.into_block()?,
+            outs: self.outs,
+            debts: self.debts,
+            last: self.last,
+            held: self.held,
+            back: self.back,
+            debt: self.debt,
+        })
     }
 }

@@ -1,22 +1,22 @@
-//! The ledger: the state that a history gives, kept with running sums.
+//! The book of a ledger: the state that a history gives, kept with running sums, and its changes.
 
-ghost use Rattle.std.specs.Prelude.{◌≡◌, ◌+◌, ◌<◌, ◌^◌, ◌==◌, ◌&&◌, ◌↔◌, map, IsTrue, OnOk, OnErr, IsOk, IfOk, IfSome, IsSome, Some, None, find, position};
+ghost use Rattle.std.specs.Prelude.{◌≡◌, ◌+◌, ◌<◌, ◌^◌, ◌==◌, ◌&&◌, ◌↔◌, true, map, IsTrue, OnOk, OnErr, IsOk, IfOk, IfSome, IsSome, Some, None, find, position};
 ghost use Rattle.std.specs.List.{list_any};
 ghost use Rattle.std.specs.Option.{option_copied};
 ghost use Rattle.psb_bytes.specs.declared.ids.Object.TheVariants.{Chunk};
 ghost use Rattle.psb_model.specs.declared.change.Change.TheVariants.{Begun, TookFresh, Refused};
 ghost use Rattle.psb_model.specs.Words.{has, units, all_of};
-ghost use Rattle.psb_model.specs.State.{row, row_in, used, is_held, in_key, held_of, back_of, debt_of, nothing_yet};
+ghost use Rattle.psb_model.specs.State.{row, used, is_held, in_key, held_units, back_units, debt_units, nothing_yet};
 ghost use Rattle.psb_model.specs.Grammar.{in_grammar};
-ghost use Rattle.psb_model.specs.Conditions.{allowed, settings_in, capacity, fresh_tests, refusal_tests};
+ghost use Rattle.psb_model.specs.Conditions.{allowed, settings_of_body, capacity, fresh_tests, refusal_tests};
 ghost use Rattle.psb_model.specs.Effects.{after, blank_rows, first_rows};
 ghost use Rattle.psb_model.specs.History.{is_built};
-ghost use Rattle.psb_ledger.specs.View.{named_row, row_of, HasBegunRoom, HasFreshRoom, HasRoom};
+ghost use Rattle.psb_ledger.specs.View.{named_row, row_of, AreInForm, HasBegunRoom, HasFreshRoom, HasRoom};
 
 use crate::account::Account;
-use crate::codec::{Refusal, Store};
+use crate::codec::{FreshFields, RefusedFields};
 use psb_bytes::{Bytes, Digest, Memory, Object, PeerId, units_of};
-use psb_model::{Change, DebtEntry, InEntry, LastDeal, OutEntry};
+use psb_model::Change;
 use psb_settings::{PeerRow, Settings, SettingsError, read_settings};
 use std::alloc::Global;
 use std::marker::Model;
@@ -85,7 +85,7 @@ struct Measure {
     issued: u32,
 }
 
-fn allows_fresh(account: &Account, x: &Store, m: Measure) -> bool
+fn allows_fresh(account: &Account, x: &FreshFields, m: Measure) -> bool
     ensures { result ≡ all_of (fresh_tests account.now.row x.now.deal x.now.name x.now.first x.now.new m.is_held m.used m.units m.capacity m.issued) }
 {
     is_next(account, x.deal)
@@ -97,7 +97,7 @@ fn allows_fresh(account: &Account, x: &Store, m: Measure) -> bool
         && m.issued as u64 + m.units as u64 <= u32::MAX as u64
 }
 
-fn allows_refusal(account: &Account, x: &Refusal) -> bool
+fn allows_refusal(account: &Account, x: &RefusedFields) -> bool
     ensures { result ≡ all_of (refusal_tests account.now.row x.now.deal x.now.why) }
 {
     is_next(account, x.deal) && 1 <= x.why && x.why <= 9
@@ -105,7 +105,7 @@ fn allows_refusal(account: &Account, x: &Refusal) -> bool
 
 /// What a settings text says, None where it is none or was given up.
 fn settings_of(alloc: Global, body: &Option<Bytes>) -> Result<Option<Settings>, Memory>
-    ensures { IfOk result (λ s. s ≡ settings_in body.now) }
+    ensures { IfOk result (λ s. s ≡ settings_of_body body.now) }
 {
     let Some(text) = body else {
         return Ok(None);
@@ -118,29 +118,47 @@ fn settings_of(alloc: Global, body: &Option<Bytes>) -> Result<Option<Settings>, 
 }
 
 /// An empty account for each peer of the settings.
-fn first_accounts(alloc: Global, settings: &Option<Settings>) -> Result<Vec<Account>, Memory>
-    ensures { IfOk result (λ v. map named_row v.items ≡ first_rows settings.now) }
+fn first_accounts(
+    alloc: Global,
+    settings: &Option<Settings>,
+    in_blocks: bool,
+) -> Result<Vec<Account>, Memory>
+    ensures rows { IfOk result (λ v. map named_row v.items ≡ first_rows settings.now) }
+    ensures forms { IfOk result (λ v. AreInForm in_blocks v.items) }
 {
     match settings {
         None => Ok(Vec::new(alloc)),
-        Some(x) => empty_accounts(alloc, x.peers.as_slice()),
+        Some(x) => empty_accounts(alloc, x.peers.as_slice(), in_blocks),
     }
 }
 
-fn empty_accounts(alloc: Global, peers: &[PeerRow]) -> Result<Vec<Account>, Memory>
-    ensures { IfOk result (λ v. map named_row v.items ≡ blank_rows peers.now) }
+fn empty_accounts(alloc: Global, peers: &[PeerRow], in_blocks: bool) -> Result<Vec<Account>, Memory>
+    ensures rows { IfOk result (λ v. map named_row v.items ≡ blank_rows peers.now) }
+    ensures forms { IfOk result (λ v. AreInForm in_blocks v.items) }
 {
     let mut accounts = Vec::new(alloc);
     for peer in peers {
-        accounts.push(Account::new(alloc, peer.id))?;
+        accounts.push(Account::new(alloc, peer.id, in_blocks))?;
     }
     Ok(accounts)
 }
 
-/// The state that a history of changes gives, with running sums. What it answers of a peer is
-/// zeros, empty lists or false for an id that is no peer of the settings.
+/// The same accounts, each with its entries in one block.
+fn accounts_in_blocks(alloc: Global, accounts: Vec<Account>) -> Result<Vec<Account>, Memory>
+    ensures rows { IfOk result (λ v. map named_row v.items ≡ map named_row accounts.items) }
+    ensures forms { IfOk result (λ v. AreInForm true v.items) }
+{
+    let mut blocks = Vec::new(alloc);
+    for account in accounts {
+        blocks.push(account.into_block()?)?;
+    }
+    Ok(blocks)
+}
+
+/// The state that a history of changes gives, with running sums. Its accounts keep what the node
+/// answers for in blocks, which a `Ledger` lends, or in trees, while a history is read.
 #[derive(Drop)]
-pub struct Ledger {
+pub struct Book {
     alloc: Global,
     changes: u64,
     settings: Option<Settings>,
@@ -149,24 +167,26 @@ pub struct Ledger {
     accounts: Vec<Account>,
     next: Option<Settings>,
     next_accounts: Vec<Account>,
+    in_blocks: bool,
 }
 
-impl Model for Ledger {
-    ghost use Rattle.psb_ledger.specs.View.{LedgerView, plain_state, IsSound};
+impl Model for Book {
+    ghost use Rattle.psb_ledger.specs.View.{LedgerView, plain_state, IsBook};
 
     ghost Value = { LedgerView };
 
-    ghost view = { λ l. record { state = plain_state l.changes l.settings l.accounts.items l.issued; accounts = l.accounts.items; next = l.next; next_accounts = l.next_accounts.items } };
+    ghost view = { λ l. record { state = plain_state l.changes l.settings l.accounts.items l.issued; accounts = l.accounts.items; next = l.next; next_accounts = l.next_accounts.items; in_blocks = l.in_blocks } };
 
-    ghost invariant = { λ l. IsSound l.used (plain_state l.changes l.settings l.accounts.items l.issued) };
+    ghost invariant = { λ l. IsBook l.used l.in_blocks l.accounts.items l.next_accounts.items (plain_state l.changes l.settings l.accounts.items l.issued) };
 }
 
-impl Ledger {
-    /// The ledger of the empty history. Takes no memory; what `make_room` takes comes from `alloc`.
-    pub fn new(alloc: Global) -> Ledger
-        ensures { result.state ≡ nothing_yet }
+impl Book {
+    /// The book of the empty history. Takes no memory; what `make_room` takes comes from `alloc`.
+    pub fn new(alloc: Global, in_blocks: bool) -> Book
+        ensures state { result.state ≡ nothing_yet }
+        ensures form { result.in_blocks ≡ in_blocks }
     {
-        Ledger {
+        Book {
             alloc,
             changes: 0,
             settings: None,
@@ -175,6 +195,7 @@ impl Ledger {
             accounts: Vec::new(alloc),
             next: None,
             next_accounts: Vec::new(alloc),
+            in_blocks,
         }
     }
 
@@ -206,17 +227,19 @@ impl Ledger {
         self.used
     }
 
-    fn account(&self, peer: PeerId) -> Option<&Account>
-        ensures { row_of (option_copied result) ≡ row self.now.state peer }
+    /// The account of a peer.
+    pub fn account(&self, peer: PeerId) -> Option<&Account>
+        ensures row { row_of (option_copied result) ≡ row self.now.state peer }
+        ensures form { IfSome (option_copied result) (λ v. v.in_block ≡ self.now.in_blocks) }
     {
         account_of(self.accounts.as_slice(), peer)
     }
 
     /// The three numbers of a peer.
     pub fn balance(&self, peer: PeerId) -> Balance
-        ensures held { result.held ≡ held_of (row self.now.state peer) }
-        ensures back { result.back ≡ back_of (row self.now.state peer) }
-        ensures debt { result.debt ≡ debt_of (row self.now.state peer) }
+        ensures held { result.held ≡ held_units (row self.now.state peer) }
+        ensures back { result.back ≡ back_units (row self.now.state peer) }
+        ensures debt { result.debt ≡ debt_units (row self.now.state peer) }
         ensures law { result.held ≡ result.back + result.debt }
     {
         let _changes = self.changes;
@@ -234,69 +257,6 @@ impl Ledger {
         }
     }
 
-    /// What the peer lost, in order of booking.
-    pub fn explain(&self, peer: PeerId) -> &[DebtEntry]
-        ensures { result.now ≡ (row self.now.state peer).debts }
-    {
-        match self.account(peer) {
-            None => &[],
-            Some(account) => account.debts(),
-        }
-    }
-
-    /// What the node answers for to the peer, in object order.
-    pub fn held_of(&self, peer: PeerId) -> &[InEntry]
-        ensures { result.now ≡ (row self.now.state peer).ins }
-    {
-        match self.account(peer) {
-            None => &[],
-            Some(account) => account.ins(),
-        }
-    }
-
-    /// What the node has on the peer, in object order.
-    pub fn out_of(&self, peer: PeerId) -> &[OutEntry]
-        ensures { result.now ≡ (row self.now.state peer).outs }
-    {
-        match self.account(peer) {
-            None => &[],
-            Some(account) => account.outs(),
-        }
-    }
-
-    /// The peer's last deal that was taken or refused, and its change; both 0 where there is none.
-    pub fn last(&self, peer: PeerId) -> LastDeal
-        ensures { result ≡ (row self.now.state peer).last }
-    {
-        match self.account(peer) {
-            None => LastDeal {
-                number: 0,
-                change: 0,
-            },
-            Some(account) => account.last(),
-        }
-    }
-
-    /// The units of the peer's debt.
-    pub fn debt_of(&self, peer: PeerId) -> u32
-        ensures { result ≡ debt_of (row self.now.state peer) }
-    {
-        match self.account(peer) {
-            None => 0,
-            Some(account) => account.debt(),
-        }
-    }
-
-    /// Whether the node answers for the object to the peer.
-    pub fn has_held(&self, peer: PeerId, object: &Object) -> bool
-        ensures { result ≡ has in_key (row self.now.state peer).ins object.now }
-    {
-        match self.account(peer) {
-            None => false,
-            Some(account) => account.has(object),
-        }
-    }
-
     /// Whether a body is held under the name.
     pub fn is_held(&self, name: &Digest) -> bool
         ensures { result ≡ is_held self.now.state name.now }
@@ -309,6 +269,7 @@ impl Ledger {
     pub fn make_room(&mut self, c: &Change) -> Result<(), Memory>
         ensures state { self.new.state ≡ self.old.state }
         ensures room { OnOk result (HasRoom self.new c.now) }
+        ensures form { self.new.in_blocks ≡ self.old.in_blocks }
     {
         match c {
             Change::Begun { body } => self.make_room_to_begin(body),
@@ -320,9 +281,10 @@ impl Ledger {
     fn make_room_to_begin(&mut self, body: &Option<Bytes>) -> Result<(), Memory>
         ensures state { self.new.state ≡ self.old.state }
         ensures room { OnOk result (HasBegunRoom self.new body.now) }
+        ensures form { self.new.in_blocks ≡ self.old.in_blocks }
     {
         let settings = settings_of(self.alloc, body)?;
-        self.next_accounts = first_accounts(self.alloc, &settings)?;
+        self.next_accounts = first_accounts(self.alloc, &settings, self.in_blocks)?;
         self.next = settings;
         Ok(())
     }
@@ -330,6 +292,7 @@ impl Ledger {
     fn make_room_for(&mut self, peer: PeerId, len: u32) -> Result<(), Memory>
         ensures state { self.new.state ≡ self.old.state }
         ensures room { OnOk result (HasFreshRoom self.new peer (units len)) }
+        ensures form { self.new.in_blocks ≡ self.old.in_blocks }
     {
         match place_of(self.accounts.as_slice(), peer) {
             None => Ok(()),
@@ -349,6 +312,7 @@ impl Ledger {
         ensures when { IsTrue (is_built c.now && allowed self.old.state c.now) ↔ IsOk result }
         ensures ok { OnOk result (self.new.state ≡ after self.old.state c.now) }
         ensures err { OnErr result (self.new ≡ self.old) }
+        ensures form { self.new.in_blocks ≡ self.old.in_blocks }
     {
         match c {
             Change::Begun { body } => self.begin(body),
@@ -360,7 +324,7 @@ impl Ledger {
                 len,
                 new,
                 body: _,
-            } => self.take_fresh(Store {
+            } => self.take_fresh(FreshFields {
                 peer: *peer,
                 deal: *deal,
                 name: *name,
@@ -373,7 +337,7 @@ impl Ledger {
                 deal,
                 why,
                 detail,
-            } => self.refuse(Refusal {
+            } => self.refuse(RefusedFields {
                 peer: *peer,
                 deal: *deal,
                 why: *why,
@@ -388,6 +352,7 @@ impl Ledger {
         ensures when { IsTrue (is_built (Begun body.now) && allowed self.old.state (Begun body.now)) ↔ IsOk result }
         ensures ok { OnOk result (self.new.state ≡ after self.old.state (Begun body.now)) }
         ensures err { OnErr result (self.new ≡ self.old) }
+        ensures form { self.new.in_blocks ≡ self.old.in_blocks }
     {
         if self.changes != 0 || self.next.is_none() {
             return Err(NotNow);
@@ -400,7 +365,7 @@ impl Ledger {
     }
 
     /// The place of the peer's account, where its chunk may be taken.
-    fn place_for_fresh(&self, x: &Store) -> Option<usize>
+    fn place_for_fresh(&self, x: &FreshFields) -> Option<usize>
         ensures when { IsTrue (allowed self.now.state (TookFresh x.now.peer x.now.deal x.now.name x.now.first x.now.len x.now.new None)) ↔ IsSome result }
         ensures place { IfSome result (λ i. Some i ≡ position (λ v. v.id == x.now.peer) self.now.accounts) }
     {
@@ -418,13 +383,14 @@ impl Ledger {
         allows_fresh(&self.accounts[at], x, measure).then_some(at)
     }
 
-    fn take_fresh(&mut self, x: Store) -> Result<(), NotNow>
+    fn take_fresh(&mut self, x: FreshFields) -> Result<(), NotNow>
         requires grammar { IsTrue (in_grammar (TookFresh x.peer x.deal x.name x.first x.len x.new None)) }
         requires room { HasFreshRoom self.old x.peer (units x.len) }
         requires few { self.old.state.changes < 2 ^ 62 }
         ensures when { IsTrue (allowed self.old.state (TookFresh x.peer x.deal x.name x.first x.len x.new None)) ↔ IsOk result }
         ensures ok { OnOk result (self.new.state ≡ after self.old.state (TookFresh x.peer x.deal x.name x.first x.len x.new None)) }
         ensures err { OnErr result (self.new ≡ self.old) }
+        ensures form { self.new.in_blocks ≡ self.old.in_blocks }
     {
         let Some(at) = self.place_for_fresh(&x) else {
             return Err(NotNow);
@@ -440,7 +406,7 @@ impl Ledger {
     }
 
     /// The place of the peer's account, where its deal may be refused.
-    fn place_to_refuse(&self, x: &Refusal) -> Option<usize>
+    fn place_to_refuse(&self, x: &RefusedFields) -> Option<usize>
         ensures when { IsTrue (allowed self.now.state (Refused x.now.peer x.now.deal x.now.why x.now.detail)) ↔ IsSome result }
         ensures place { IfSome result (λ i. Some i ≡ position (λ v. v.id == x.now.peer) self.now.accounts) }
     {
@@ -451,11 +417,12 @@ impl Ledger {
         allows_refusal(&self.accounts[at], x).then_some(at)
     }
 
-    fn refuse(&mut self, x: Refusal) -> Result<(), NotNow>
+    fn refuse(&mut self, x: RefusedFields) -> Result<(), NotNow>
         requires few { self.old.state.changes < 2 ^ 62 }
         ensures when { IsTrue (allowed self.old.state (Refused x.peer x.deal x.why x.detail)) ↔ IsOk result }
         ensures ok { OnOk result (self.new.state ≡ after self.old.state (Refused x.peer x.deal x.why x.detail)) }
         ensures err { OnErr result (self.new ≡ self.old) }
+        ensures form { self.new.in_blocks ≡ self.old.in_blocks }
     {
         let Some(at) = self.place_to_refuse(&x) else {
             return Err(NotNow);
@@ -466,7 +433,22 @@ impl Ledger {
         self.changes = changes + 1;
         Ok(())
     }
-}
 
-#[cfg(test)]
-mod tests;
+    /// The same book with its accounts in blocks. What room was made for is forgotten.
+    pub fn into_blocks(self) -> Result<Book, Memory>
+        ensures state { IfOk result (λ l. l.state ≡ self.state) }
+        ensures form { IfOk result (λ l. l.in_blocks ≡ true) }
+    {
+        Ok(Book {
+            alloc: self.alloc,
+            changes: self.changes,
+            settings: self.settings,
+            issued: self.issued,
+            used: self.used,
+            accounts: accounts_in_blocks(self.alloc, self.accounts)?,
+            next: None,
+            next_accounts: Vec::new(self.alloc),
+            in_blocks: true,
+        })
+    }
+}

@@ -5,8 +5,14 @@ mod account;
 mod book;
 mod codec;
 mod entries;
+mod in_list;
+mod in_tree;
 mod laws;
+mod ledger;
+mod opening;
 
-pub use book::{Balance, Ledger, NotNow};
+pub use book::{Balance, NotNow};
 pub use codec::{ChangeError, decode_change, encode_change};
 pub use laws::one_record_stands_for_one_change;
+pub use ledger::Ledger;
+pub use opening::Opening;

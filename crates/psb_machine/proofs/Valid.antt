@@ -8,9 +8,9 @@ use Rattle.psb_bytes.specs.Objects.{name_eq}
 use Rattle.psb_bytes.specs.declared.ids.Object.TheVariants.{Chunk}
 use Rattle.psb_digest.specs.Hashes.{sha}
 use Rattle.psb_settings.specs.declared.settings.Settings.{Settings}
-use Rattle.psb_model.specs.State.{State, row, in_key, debt_size, debt_of, is_held, is_peer, used}
+use Rattle.psb_model.specs.State.{State, row, in_key, debt_size, debt_units, is_held, is_peer, used}
 use Rattle.psb_model.specs.Words.{has}
-use Rattle.psb_model.specs.Grammar.{fits, in_grammar, is_u8, is_u32, is_u64, are_bytes, body_fits}
+use Rattle.psb_model.specs.Grammar.{fits_widths, in_grammar, is_u8, is_u32, is_u64, are_bytes, body_fits}
 use Rattle.psb_model.specs.Conditions.{most_claims, is_next_deal, capacity, allowed}
 use Rattle.psb_model.specs.History.{state}
 use Rattle.psb_model.specs.Needed.{brings_right, IsValid}
@@ -40,7 +40,7 @@ pub record IsTaken (settings : Settings) (s : State) (p number : ℕ) (name byte
   pub next_deal : is_next_deal s p number ≡ true
   pub named : name_eq (sha bytes) name ≡ true
   pub new_here : not (has in_key (row s p).ins (Chunk name)) ≡ true
-  pub no_debt : (debt_of (row s p) == 0) ≡ true
+  pub no_debt : (debt_units (row s p) == 0) ≡ true
   pub room : nat_le (used s + units (length bytes)) settings.capacity ≡ true
   pub claims : nat_le (s.issued + units (length bytes)) most_claims ≡ true
 
@@ -61,7 +61,7 @@ is_taken settings s p number name bytes clash next_deal none =
       next_deal = next_deal;
       named = not_false (name_eq (sha bytes) name) t.0;
       new_here = ap not t.1.0;
-      no_debt = not_some (debt_of (row s p)) t.1.1.1.0;
+      no_debt = not_some (debt_units (row s p)) t.1.1.1.0;
       room = not_less settings.capacity (used s + units (length bytes)) t.1.1.1.1.0;
       claims = not_less most_claims (s.issued + units (length bytes)) t.1.1.1.1.1.0;
     }
@@ -99,7 +99,7 @@ pub grammar_taken : (s : State) (p number : ℕ) (name bytes : List ℕ) → Sto
 grammar_taken s p number name bytes f =
     rw (le-leb 1 (length bytes) f.long, le-leb (length bytes) 32768 f.short, body_in_grammar (is_held s name) bytes) refl
 
-fits_taken : (settings : Settings) (s : State) (p number : ℕ) (name bytes : List ℕ) → StoreFits p number name bytes → IsTaken settings s p number name bytes → fits (took_fresh s p number name bytes) ≡ true
+fits_taken : (settings : Settings) (s : State) (p number : ℕ) (name bytes : List ℕ) → StoreFits p number name bytes → IsTaken settings s p number name bytes → fits_widths (took_fresh s p number name bytes) ≡ true
 fits_taken settings s p number name bytes f t =
     let claims = leb-true (s.issued + units (length bytes)) most_claims t.claims in
     let first : is_u32 s.issued ≡ true = lt-ltb s.issued (2 ^ 32) (omega (arith, claims)) in
@@ -171,8 +171,8 @@ details_fit settings h p name bytes clash v =
     let s = state h in
     let issued : is_u64 s.issued ≡ true = lt-ltb s.issued (2 ^ 64) (omega (arith, drawn h v)) in
     let used_fits : is_u64 (used s) ≡ true = lt-ltb (used s) (2 ^ 64) (omega (arith, drawn h v, used_plain s (plain_state h v.lawful v.built))) in
-    let none : debt_of (row s p) ≡ 0 = ap (sum_by debt_size) (plain_row h p v.lawful v.built).debts in
-    let debt : is_u64 (debt_of (row s p)) ≡ true = ap is_u64 none in
+    let none : debt_units (row s p) ≡ 0 = ap (sum_by debt_size) (plain_row h p v.lawful v.built).debts in
+    let debt : is_u64 (debt_units (row s p)) ≡ true = ap is_u64 none in
     rw (issued, used_fits, debt) refl
 
 pub judged_valid : (settings : Settings) (h : List Change) (p number : ℕ) (name bytes : List ℕ) (clash : Bool) → IsValid h → (state h).settings ≡ Some settings → is_peer (state h) p ≡ true

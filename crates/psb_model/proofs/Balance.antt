@@ -9,11 +9,11 @@ use Rattle.psb_model.specs.declared.deals.DealWhat.{DealWhat}
 use Rattle.psb_model.specs.declared.deals.DealWhat.TheVariants.{Fresh, Swap, Cancel, PutBack, Forward, Return}
 use Rattle.psb_model.specs.declared.change.Change.{Change}
 use Rattle.psb_model.specs.declared.change.Change.TheVariants.{Begun, Kept, Snapped, Forgot, TookFresh, TookSwap, LetGo, LetGoBack, Replaced, Refused, Proposed, Settled, Turned, Asked, Passed, Failed, Declined, Discarded, Chose}
-use Rattle.psb_model.specs.Conditions.{settings_in, allowed, asked_objects, at_places, declined_objects, is_begun, of_a_peer, peer_of, tests}
+use Rattle.psb_model.specs.Conditions.{settings_of_body, allowed, asked_objects, at_places, declined_objects, is_begun, of_a_peer, peer_of, tests}
 use Rattle.psb_model.specs.Effects.{after, all_rows_after, deal_name, disturbed, given_up, issued_after, kept_lists, loosen, move_of, note_of, own_after, rows_after, states_of}
 use Rattle.psb_model.specs.Grammar.{numbers_listed, ascend, body_fits, in_grammar}
 use Rattle.psb_model.specs.History.{Balances, is_lawful, lawful_from, state, state_from}
-use Rattle.psb_model.specs.Move.{moved, still}
+use Rattle.psb_model.specs.Move.{after_move, still}
 use Rattle.psb_model.specs.State.{Row, State, at_row, blank, has_row, is_peer, nothing_yet, own_has, row, row_in, tied_out}
 use Rattle.psb_model.specs.Words.{all_of, listed, object_eq, objects_distinct, units}
 use Rattle.std.specs.Prelude.{slice_get, option_to_list}
@@ -89,7 +89,7 @@ declined_distinct s p asked places f asc = by_asked (row s p).asked refl
     by_asked (Some a) e = subst (λ o. objects_distinct (elim (asked_objects o asked) [ None ↦ [] | Some os ↦ at_places os places ]) ≡ true) (sym e) (by_number a (f a e))
 
 -- a step whose lists stay
-still_step : (s : State) (p : ℕ) → Before s p → (IsTidy s.issued (moved still (row s p))) × ((d : Deal) → (row s p).pending ≡ Some d → StandsFor s.issued s.own (moved still (row s p)) d.what) × Weighs (row s p) still
+still_step : (s : State) (p : ℕ) → Before s p → (IsTidy s.issued (after_move still (row s p))) × ((d : Deal) → (row s p).pending ≡ Some d → StandsFor s.issued s.own (after_move still (row s p)) d.what) × Weighs (row s p) still
 still_step s p b = (tidy_still s.issued (row s p) b.tidy, same_stands s p s.issued (omega arith) b, weighs (row s p) still refl refl (omega arith))
 
 abbrev pub ForPeer : (ℕ → Type 0) → Option ℕ → Type 0
@@ -188,10 +188,10 @@ alike_after s c q r g a = record {
   asked = λ x e. g.asked q x (sym a.asked ∙ e);
 }
 
-noted_after : (s : State) (c : Change) (p : ℕ) (r : Row) → Good s → in_grammar c ≡ true → Step s c p → Alike (moved (move_of s c) (row s p)) r → RowAfter s c (note_of s c r)
+noted_after : (s : State) (c : Change) (p : ℕ) (r : Row) → Good s → in_grammar c ≡ true → Step s c p → Alike (after_move (move_of s c) (row s p)) r → RowAfter s c (note_of s c r)
 noted_after s c p r g gr st a =
     let lists = note_lists s c r in
-    let m = moved (move_of s c) (row s p) in
+    let m = after_move (move_of s c) (row s p) in
     record {
       tidy = tidy_lists (issued_after s c) r (note_of s c r) lists (tidy_alike (issued_after s c) m r a st.tidy);
       stands = λ d e. stands_lists (issued_after s c) s.own r (note_of s c r) d.what lists (stands_alike (issued_after s c) s.own m r d.what a (st.stands d (sym (note_pending s c r m a.pending) ∙ e)));
@@ -200,15 +200,15 @@ noted_after s c p r g gr st a =
 
 row_after : (s : State) (c : Change) (p q : ℕ) → Good s → in_grammar c ≡ true → Step s c p → is_peer s p ≡ true → RowAfter s c (row_in (rows_after s c p) q)
 row_after s c p q g gr st peer =
-    let first = at_row p (moved (move_of s c)) s.rows in
+    let first = at_row p (after_move (move_of s c)) s.rows in
     let second = loosen (disturbed s c) (states_of s c first) in
     let alike : AlikeRows first second = alike_rows_then first (states_of s c first) second (states_alike s c first) (loosen_alike (disturbed s c) (states_of s c first)) in
     by_cases (p == q)
     (λ k. let same : p ≡ q = eqb-true p q k in
-    let has_p : has_row second p ≡ true = alike.peers p ∙ has_row-at_row p p (moved (move_of s c)) s.rows ∙ peer in
-    let a : Alike (moved (move_of s c) (row s p)) (row_in second p) = subst (λ r. Alike r (row_in second p)) (row_in-at_row p (moved (move_of s c)) s.rows peer) (alike.each p) in
+    let has_p : has_row second p ≡ true = alike.peers p ∙ has_row-at_row p p (after_move (move_of s c)) s.rows ∙ peer in
+    let a : Alike (after_move (move_of s c) (row s p)) (row_in second p) = subst (λ r. Alike r (row_in second p)) (row_in-at_row p (after_move (move_of s c)) s.rows peer) (alike.each p) in
     subst (λ x. RowAfter s c (row_in (rows_after s c p) x)) same (subst (RowAfter s c) (sym (row_in-at_row p (note_of s c) second has_p)) (noted_after s c p (row_in second p) g gr st a)))
-    (λ k. let a : Alike (row s q) (row_in second q) = subst (λ r. Alike r (row_in second q)) (row_in-at_other p q (moved (move_of s c)) s.rows k) (alike.each q) in
+    (λ k. let a : Alike (row s q) (row_in second q) = subst (λ r. Alike r (row_in second q)) (row_in-at_other p q (after_move (move_of s c)) s.rows k) (alike.each q) in
     subst (RowAfter s c) (sym (row_in-at_other p q (note_of s c) second k)) (alike_after s c q (row_in second q) g a))
 
 -- the whole state after a change, from its rows
@@ -241,7 +241,7 @@ blank_after : (s : State) (c : Change) → RowAfter s c blank
 blank_after s c = record { tidy = tidy_blank (issued_after s c); stands = λ d e. cc; asked = λ a e. cc }
 
 each_row : (s : State) (c : Change) → Good s → in_grammar c ≡ true → of_a_peer s (peer_of c) ≡ true → all_of (tests s c) ≡ true → (q : ℕ) → RowAfter s c (row_in (all_rows_after s c) q)
-each_row s (Begun body) g gr pe h q = subst (RowAfter s (Begun body)) (sym (row_in-first_rows (settings_in body) q)) (blank_after s (Begun body))
+each_row s (Begun body) g gr pe h q = subst (RowAfter s (Begun body)) (sym (row_in-first_rows (settings_of_body body) q)) (blank_after s (Begun body))
 each_row s (Kept name len new body) g gr pe h q = unchanged s (Kept name len new body) g q
 each_row s (Snapped number ticket files folders bytes left names) g gr pe h q = unchanged s (Snapped number ticket files folders bytes left names) g q
 each_row s (Forgot number) g gr pe h q = unchanged s (Forgot number) g q

@@ -14,10 +14,10 @@ use Rattle.psb_model.specs.declared.entries.InEntry.{InEntry}
 use Rattle.psb_model.specs.declared.change.Change.{Change}
 use Rattle.psb_model.specs.declared.change.Change.TheVariants.{Begun, TookFresh, Refused}
 use Rattle.psb_model.specs.Words.{units, name_eq, object_eq, all_of, has, only, without}
-use Rattle.psb_model.specs.State.{Row, State, blank, nothing_yet, row, row_in, has_row, is_peer, at_row, in_key, in_size, held_of, own_has, is_held, coming, used}
-use Rattle.psb_model.specs.Grammar.{in_grammar, is_u8, fits}
-use Rattle.psb_model.specs.Conditions.{settings_in, peer_of, is_begun, of_a_peer, tests, allowed}
-use Rattle.psb_model.specs.Move.{moved}
+use Rattle.psb_model.specs.State.{Row, State, blank, nothing_yet, row, row_in, has_row, is_peer, at_row, in_key, in_size, held_units, own_has, is_held, coming, used}
+use Rattle.psb_model.specs.Grammar.{in_grammar, is_u8, fits_widths}
+use Rattle.psb_model.specs.Conditions.{settings_of_body, peer_of, is_begun, of_a_peer, tests, allowed}
+use Rattle.psb_model.specs.Move.{after_move}
 use Rattle.psb_model.specs.Effects.{move_of, note_of, loosen, blank_rows, first_rows, all_rows_after, after}
 use Rattle.psb_model.specs.History.{state_from, lawful_from, state, is_lawful, is_built}
 use Rattle.psb_model.specs.Needed.{brings_name, is_needed_by, body_is_right, bodies_right, is_sound, brings_right, IsValid}
@@ -75,28 +75,28 @@ plain_at_row p f (x ∷ xs) g h = by_cases (x.0 == p) (λ k. rw k (g x.1 h.0, h.
 
 -- what such rows hold in all
 abbrev pub held_total : List (ℕ × Row) → ℕ
-held_total rows = sum_by (λ (x : ℕ × Row). held_of x.1) rows
+held_total rows = sum_by (λ (x : ℕ × Row). held_units x.1) rows
 
-used_in : (s : State) (rows : List (ℕ × Row)) → AllPlain rows → sum_by (λ (x : ℕ × Row). held_of x.1 + coming s x.1.pending) rows ≡ held_total rows
+used_in : (s : State) (rows : List (ℕ × Row)) → AllPlain rows → sum_by (λ (x : ℕ × Row). held_units x.1 + coming s x.1.pending) rows ≡ held_total rows
 used_in s [] h = refl
 used_in s (x ∷ xs) h =
     let none : coming s x.1.pending ≡ 0 = ap (coming s) h.0.pending in
-    omega (arith, none, used_in s xs h.1, sum_by-cons (λ (x : ℕ × Row). held_of x.1 + coming s x.1.pending) x xs, sum_by-cons (λ (x : ℕ × Row). held_of x.1) x xs)
+    omega (arith, none, used_in s xs h.1, sum_by-cons (λ (x : ℕ × Row). held_units x.1 + coming s x.1.pending) x xs, sum_by-cons (λ (x : ℕ × Row). held_units x.1) x xs)
 
 held_blank_rows : (ps : List PeerRow) → held_total (blank_rows ps) ≡ 0
 held_blank_rows [] = refl
-held_blank_rows (x ∷ xs) = omega (arith, held_blank_rows xs, sum_by-cons (λ (x : ℕ × Row). held_of x.1) (x.id, blank) (blank_rows xs))
+held_blank_rows (x ∷ xs) = omega (arith, held_blank_rows xs, sum_by-cons (λ (x : ℕ × Row). held_units x.1) (x.id, blank) (blank_rows xs))
 
 held_first_rows : (o : Option Settings) → held_total (first_rows o) ≡ 0
 held_first_rows None = refl
 held_first_rows (Some x) = held_blank_rows x.peers
 
-held_at_row : (p : ℕ) (f : Row → Row) (n : ℕ) (rows : List (ℕ × Row)) → has_row rows p ≡ true → ((r : Row) → held_of (f r) ≡ held_of r + n) → held_total (at_row p f rows) ≡ held_total rows + n
+held_at_row : (p : ℕ) (f : Row → Row) (n : ℕ) (rows : List (ℕ × Row)) → has_row rows p ≡ true → ((r : Row) → held_units (f r) ≡ held_units r + n) → held_total (at_row p f rows) ≡ held_total rows + n
 held_at_row p f n [] here g = absurd (false≢true here)
 held_at_row p f n (x ∷ xs) here g =
     by_cases (x.0 == p)
-    (λ k. rw k (omega (arith, g x.1, sum_by-cons (λ (x : ℕ × Row). held_of x.1) (x.0, f x.1) xs, sum_by-cons (λ (x : ℕ × Row). held_of x.1) x xs)))
-    (λ k. let here' = rw k at here in rw k (omega (arith, held_at_row p f n xs here' g, sum_by-cons (λ (x : ℕ × Row). held_of x.1) x (at_row p f xs), sum_by-cons (λ (x : ℕ × Row). held_of x.1) x xs)))
+    (λ k. rw k (omega (arith, g x.1, sum_by-cons (λ (x : ℕ × Row). held_units x.1) (x.0, f x.1) xs, sum_by-cons (λ (x : ℕ × Row). held_units x.1) x xs)))
+    (λ k. let here' = rw k at here in rw k (omega (arith, held_at_row p f n xs here' g, sum_by-cons (λ (x : ℕ × Row). held_units x.1) x (at_row p f xs), sum_by-cons (λ (x : ℕ × Row). held_units x.1) x xs)))
 
 -- THE ROWS AFTER EACH KIND
 
@@ -110,25 +110,25 @@ at_row_twice p f g (x ∷ xs) = by_cases (x.0 == p) (λ k. rw (k, k) refl) (λ k
 
 -- what a change does to the row of its peer, where nothing comes loose
 abbrev pub changed : State → Change → Row → Row
-changed s c r = note_of s c (moved (move_of s c) r)
+changed s c r = note_of s c (after_move (move_of s c) r)
 
 pub rows_fresh : (s : State) (p deal : ℕ) (name : List ℕ) (first len : ℕ) (new : Bool) (body : Option (List ℕ)) → all_rows_after s (TookFresh p deal name first len new body) ≡ at_row p (changed s (TookFresh p deal name first len new body)) s.rows
 rows_fresh s p deal name first len new body =
     let c : Change = TookFresh p deal name first len new body in
-    let first_row : Row → Row = moved (move_of s c) in
+    let first_row : Row → Row = after_move (move_of s c) in
     ap (λ es. at_row p (note_of s c) (loosen es (at_row p first_row s.rows))) (only_none (row s p).ins) ∙ at_row_twice p first_row (note_of s c) s.rows
 
 pub rows_refused : (s : State) (p deal why detail : ℕ) → all_rows_after s (Refused p deal why detail) ≡ at_row p (changed s (Refused p deal why detail)) s.rows
 rows_refused s p deal why detail =
     let c : Change = Refused p deal why detail in
-    let first_row : Row → Row = moved (move_of s c) in
+    let first_row : Row → Row = after_move (move_of s c) in
     ap (λ es. at_row p (note_of s c) (loosen es (at_row p first_row s.rows))) (only_none (row s p).ins) ∙ at_row_twice p first_row (note_of s c) s.rows
 
-without_none : (l : List InEntry) → without in_key [] l ≡ l
+pub without_none : (l : List InEntry) → without in_key [] l ≡ l
 without_none [] = refl
 without_none (e ∷ es) = ap (λ l. e ∷ l) (without_none es)
 
-held_fresh : (s : State) (p deal : ℕ) (name : List ℕ) (first len : ℕ) (new : Bool) (body : Option (List ℕ)) (r : Row) → held_of (changed s (TookFresh p deal name first len new body) r) ≡ held_of r + units len
+held_fresh : (s : State) (p deal : ℕ) (name : List ℕ) (first len : ℕ) (new : Bool) (body : Option (List ℕ)) (r : Row) → held_units (changed s (TookFresh p deal name first len new body) r) ≡ held_units r + units len
 held_fresh s p deal name first len new body r =
     let c : Change = TookFresh p deal name first len new body in
     let m = move_of s c in
@@ -136,7 +136,7 @@ held_fresh s p deal name first len new body r =
     let b : sum_by in_size (without in_key [] r.ins) ≡ sum_by in_size r.ins = ap (sum_by in_size) (without_none r.ins) in
     omega (arith, a, b)
 
-held_refused : (s : State) (p deal why detail : ℕ) (r : Row) → held_of (changed s (Refused p deal why detail) r) ≡ held_of r + 0
+held_refused : (s : State) (p deal why detail : ℕ) (r : Row) → held_units (changed s (Refused p deal why detail) r) ≡ held_units r + 0
 held_refused s p deal why detail r =
     let b : sum_by in_size (without in_key [] r.ins) ≡ sum_by in_size r.ins = ap (sum_by in_size) (without_none r.ins) in
     omega (arith, b)
@@ -163,17 +163,17 @@ plain_begun : (s : State) (body : Option (List ℕ)) → IsPlain s → all_of (t
 plain_begun s body p h =
     let ts = parts (tests s (Begun body)) h in
     record {
-      rows = plain_first_rows (settings_in body);
+      rows = plain_first_rows (settings_of_body body);
       own = rw p.own refl;
       kept = p.kept;
       snapped = p.snapped;
       chosen = p.chosen;
-      issued = omega (arith, held_first_rows (settings_in body), p.before (eqb-true s.changes 0 ts.0));
+      issued = omega (arith, held_first_rows (settings_of_body body), p.before (eqb-true s.changes 0 ts.0));
       before = λ e. absurd (omega (arith, e));
     }
 
 -- one more step over one row
-plain_changed : (s s' : State) (p u : ℕ) (f : Row → Row) → IsPlain s → s'.rows ≡ at_row p f s.rows → s'.own ≡ [] → s'.kept ≡ s.kept → s'.snapped ≡ s.snapped → s'.chosen ≡ s.chosen → s'.issued ≡ s.issued + u → s'.changes ≡ s.changes + 1 → has_row s.rows p ≡ true → ((r : Row) → IsPlainRow r → IsPlainRow (f r)) → ((r : Row) → held_of (f r) ≡ held_of r + u) → IsPlain s'
+plain_changed : (s s' : State) (p u : ℕ) (f : Row → Row) → IsPlain s → s'.rows ≡ at_row p f s.rows → s'.own ≡ [] → s'.kept ≡ s.kept → s'.snapped ≡ s.snapped → s'.chosen ≡ s.chosen → s'.issued ≡ s.issued + u → s'.changes ≡ s.changes + 1 → has_row s.rows p ≡ true → ((r : Row) → IsPlainRow r → IsPlainRow (f r)) → ((r : Row) → held_units (f r) ≡ held_units r + u) → IsPlain s'
 plain_changed s s' p u f was rows own kept snapped chosen issued changes here plain held = record {
   rows = subst AllPlain (sym rows) (plain_at_row p f s.rows plain was.rows);
   own = own;
@@ -290,7 +290,7 @@ held_after s (Refused p deal why detail) n some b h held =
 held_after s _ n some b h held = absurd (false≢true b)
 
 -- a held name is not brought again
-brings_none : (s : State) (c : Change) (n : List ℕ) → IsPlain s → is_built c ≡ true → allowed s c ≡ true → held_in s.rows n ≡ true → brings_name n c ≡ false
+pub brings_none : (s : State) (c : Change) (n : List ℕ) → IsPlain s → is_built c ≡ true → allowed s c ≡ true → held_in s.rows n ≡ true → brings_name n c ≡ false
 brings_none s (Begun body) n p b h held = refl
 brings_none s (TookFresh q deal name first len true body) n p b h held =
     let c : Change = TookFresh q deal name first len true body in
@@ -355,13 +355,13 @@ pub brings_of : (h : List Change) → IsValid h → list_all brings_right h ≡ 
 brings_of h v = sym (sound_is h v.lawful v.built) ∙ v.sound
 
 -- one change more
-pub valid_snoc : (h : List Change) (c : Change) → IsValid h → in_grammar c ≡ true → allowed (state h) c ≡ true → fits c ≡ true → is_built c ≡ true → brings_right c ≡ true → IsValid (h ++ c ∷ [])
+pub valid_snoc : (h : List Change) (c : Change) → IsValid h → in_grammar c ≡ true → allowed (state h) c ≡ true → fits_widths c ≡ true → is_built c ≡ true → brings_right c ≡ true → IsValid (h ++ c ∷ [])
 valid_snoc h c v g a f b r =
     let lawful : is_lawful (h ++ c ∷ []) ≡ true = lawful_snoc h c ∙ rw (v.lawful, g, a) refl in
     let built : list_all is_built (h ++ c ∷ []) ≡ true = all_snoc is_built h c ∙ rw (v.built, b) refl in
     record {
       lawful = lawful;
-      fit = all_snoc fits h c ∙ rw (v.fit, f) refl;
+      fit = all_snoc fits_widths h c ∙ rw (v.fit, f) refl;
       built = built;
       some = omega (arith, length-append h (c ∷ []));
       sound = sound_is (h ++ c ∷ []) lawful built ∙ all_snoc brings_right h c ∙ rw (brings_of h v, r) refl;
@@ -374,7 +374,7 @@ valid_prefix n h v =
     let built = all_prefix is_built (suc n) h v.built in
     record {
       lawful = lawful;
-      fit = all_prefix fits (suc n) h v.fit;
+      fit = all_prefix fits_widths (suc n) h v.fit;
       built = built;
       some = some_left h v.some;
       sound = sound_is (take (suc n) h) lawful built ∙ all_prefix brings_right (suc n) h (brings_of h v);

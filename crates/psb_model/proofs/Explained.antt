@@ -16,11 +16,11 @@ use Rattle.psb_model.specs.declared.entries.InState.{InState}
 use Rattle.psb_model.specs.declared.entries.InState.TheVariants as at
 use Rattle.psb_model.specs.declared.change.Change.{Change}
 use Rattle.psb_model.specs.declared.change.Change.TheVariants.{Begun, Kept, Snapped, Forgot, TookFresh, TookSwap, LetGo, LetGoBack, Replaced, Refused, Proposed, Settled, Turned, Asked, Passed, Failed, Declined, Discarded, Chose}
-use Rattle.psb_model.specs.Conditions.{settings_in, allowed, declined_objects, is_begun, of_a_peer, peer_of, tests}
+use Rattle.psb_model.specs.Conditions.{settings_of_body, allowed, declined_objects, is_begun, of_a_peer, peer_of, tests}
 use Rattle.psb_model.specs.Effects.{after, debt_row, disturbed, is_whole_listed, loosen, lost_rows, move_of, note_of, relabel_debt, relabel_in, relabel_out, rows_after, settle_move, settle_states, states_of}
 use Rattle.psb_model.specs.Grammar.{in_grammar}
 use Rattle.psb_model.specs.History.{AllExplained, Books, Explains, IsLoss, gives_back, gives_none, lawful_from, state, state_from}
-use Rattle.psb_model.specs.Move.{moved, use_up}
+use Rattle.psb_model.specs.Move.{after_move, use_up}
 use Rattle.psb_model.specs.State.{Row, State, at_row, debt_key, has_row, is_peer, nothing_yet, out_key, out_size, row, row_in}
 use Rattle.psb_model.specs.Words.{In, all_of, has, has_so, listed, object_eq, only, units_at}
 use Rattle.std.proofs.Common.{append_assoc, append-nil}
@@ -221,7 +221,7 @@ origin_of s c q d d' i o =
     (λ (k : KeptRow s c q d). inr (record { old = k.old; there = k.there; same = of_then k.old d d' k.same i; stays = k.stays }))
     o
 
-origin_moved : (s : State) (c : Change) (p : ℕ) → ((d : DebtEntry) → In d (move_of s c).booked → Booking s c p d) → ((d : DebtEntry) → In d (row s p).debts → (move_of s c).returned d ≡ false → gives_back s c p d.object ≡ false) → (d : DebtEntry) → In d (moved (move_of s c) (row s p)).debts → Origin s c p d
+origin_moved : (s : State) (c : Change) (p : ℕ) → ((d : DebtEntry) → In d (move_of s c).booked → Booking s c p d) → ((d : DebtEntry) → In d (row s p).debts → (move_of s c).returned d ≡ false → gives_back s c p d.object ≡ false) → (d : DebtEntry) → In d (after_move (move_of s c) (row s p)).debts → Origin s c p d
 origin_moved s c p bookings keeps d h =
     let m = move_of s c in
     let q : DebtEntry → Bool = λ x. not (m.returned x) in
@@ -235,22 +235,22 @@ origin_moved s c p bookings keeps d h =
 
 origin_of_peer : (s : State) (c : Change) (p : ℕ) → is_peer s p ≡ true → ((d : DebtEntry) → In d (move_of s c).booked → Booking s c p d) → ((d : DebtEntry) → In d (row s p).debts → (move_of s c).returned d ≡ false → gives_back s c p d.object ≡ false) → ((q : ℕ) (o : Object) → (p == q) ≡ false → gives_back s c q o ≡ false) → (q : ℕ) (d : DebtEntry) → In d (row_in (rows_after s c p) q).debts → Origin s c q d
 origin_of_peer s c p peer bookings keeps others q d h =
-    let first = at_row p (moved (move_of s c)) s.rows in
+    let first = at_row p (after_move (move_of s c)) s.rows in
     let second = loosen (disturbed s c) (states_of s c first) in
     let from : FromRows first second = from_rows_then first (states_of s c first) second (from_states s c first) (from_loosen (disturbed s c) (states_of s c first)) in
     let alike : AlikeRows first second = alike_rows_then first (states_of s c first) second (states_alike s c first) (loosen_alike (disturbed s c) (states_of s c first)) in
     by_cases (p == q)
     (λ k. let same : p ≡ q = eqb-true p q k in
-    let has_p : has_row second p ≡ true = alike.peers p ∙ has_row-at_row p p (moved (move_of s c)) s.rows ∙ peer in
+    let has_p : has_row second p ≡ true = alike.peers p ∙ has_row-at_row p p (after_move (move_of s c)) s.rows ∙ peer in
     let at_p : In d (row_in (rows_after s c p) p).debts = subst (λ x. In d (row_in (rows_after s c p) x).debts) (sym same) h in
     let noted : In d (note_of s c (row_in second p)).debts = subst (λ (r : Row). In d r.debts) (row_in-at_row p (note_of s c) second has_p) at_p in
     let plain : In d (row_in second p).debts = subst (λ ds. In d ds) (note_lists s c (row_in second p)).debts noted in
     let y = from p d plain in
-    let there : In y.0 (moved (move_of s c) (row s p)).debts = subst (λ (r : Row). In y.0 r.debts) (row_in-at_row p (moved (move_of s c)) s.rows peer) y.1 in
+    let there : In y.0 (after_move (move_of s c) (row s p)).debts = subst (λ (r : Row). In y.0 r.debts) (row_in-at_row p (after_move (move_of s c)) s.rows peer) y.1 in
     subst (λ x. Origin s c x d) same (origin_of s c p y.0 d y.2 (origin_moved s c p bookings keeps y.0 there)))
     (λ k. let plain : In d (row_in second q).debts = subst (λ (r : Row). In d r.debts) (row_in-at_other p q (note_of s c) second k) h in
     let y = from q d plain in
-    let there : In y.0 (row s q).debts = subst (λ (r : Row). In y.0 r.debts) (row_in-at_other p q (moved (move_of s c)) s.rows k) y.1 in
+    let there : In y.0 (row s q).debts = subst (λ (r : Row). In y.0 r.debts) (row_in-at_other p q (after_move (move_of s c)) s.rows k) y.1 in
     inr (record { old = y.0; there = there; same = y.2; stays = others q y.0.object k }))
 
 -- what a Failed or Declined books
@@ -287,7 +287,7 @@ lacks_so test d (x ∷ xs) (inr there) once fails =
     (λ k. let once' = rw k at once in rw k (lacks_so test d xs there (omega (arith, once')) fails))
 
 pub origin : (s : State) (c : Change) → Good s → of_a_peer s (peer_of c) ≡ true → (q : ℕ) (d : DebtEntry) → In d (row (after s c) q).debts → Origin s c q d
-origin s (Begun body) g pe q d h = absurd (subst (λ (r : Row). In d r.debts) (Rattle.psb_model.proofs.Rows.row_in-first_rows (settings_in body) q) h)
+origin s (Begun body) g pe q d h = absurd (subst (λ (r : Row). In d r.debts) (Rattle.psb_model.proofs.Rows.row_in-first_rows (settings_of_body body) q) h)
 origin s (Kept name len new body) g pe q d h = inr (record { old = d; there = h; same = of_self d; stays = refl })
 origin s (Snapped number ticket files folders bytes left names) g pe q d h = inr (record { old = d; there = h; same = of_self d; stays = refl })
 origin s (Forgot number) g pe q d h = inr (record { old = d; there = h; same = of_self d; stays = refl })

@@ -123,8 +123,8 @@ Ones-own_slots first zero = tt
 Ones-own_slots first (suc u) = (refl, Ones-own_slots (first + 1) u)
 
 -- Rows of debt that a change books.
-abbrev pub debt_units : DebtEntry → ℕ
-debt_units d = d.units
+abbrev pub booked_units : DebtEntry → ℕ
+booked_units d = d.units
 
 pub sum-lost_rows : (n : ℕ) (declined : Bool) (os : List Object) (outs : List OutEntry) → sum_by debt_size (lost_rows n declined os outs) ≡ sum_at out_key out_size outs os
 sum-lost_rows n declined [] outs = refl
@@ -143,11 +143,11 @@ units_at-lost_rows size size' n declined same (o ∷ os) outs x d =
     (units_at-map out_key size debt_key size' (debt_row n declined) (λ e. refl) same (only out_key (o ∷ []) outs) x ∙ units_at-only out_key size (o ∷ []) outs x)
     (units_at-lost_rows size size' n declined same os outs x)
 
-pub Ones-lost_rows : (n : ℕ) (declined : Bool) (os : List Object) (outs : List OutEntry) → Ones out_key out_size outs → Ones debt_key debt_units (lost_rows n declined os outs)
+pub Ones-lost_rows : (n : ℕ) (declined : Bool) (os : List Object) (outs : List OutEntry) → Ones out_key out_size outs → Ones debt_key booked_units (lost_rows n declined os outs)
 Ones-lost_rows n declined [] outs h = tt
 Ones-lost_rows n declined (o ∷ os) outs h =
-    Ones-append debt_key debt_units (map (debt_row n declined) (only out_key (o ∷ []) outs)) (lost_rows n declined os outs)
-    (Ones-map out_key out_size debt_key debt_units (debt_row n declined) (λ e. refl) (λ e. refl) _ (Ones-filter out_key out_size (λ e. listed (o ∷ []) (out_key e)) outs h))
+    Ones-append debt_key booked_units (map (debt_row n declined) (only out_key (o ∷ []) outs)) (lost_rows n declined os outs)
+    (Ones-map out_key out_size debt_key booked_units (debt_row n declined) (λ e. refl) (λ e. refl) _ (Ones-filter out_key out_size (λ e. listed (o ∷ []) (out_key e)) outs h))
     (Ones-lost_rows n declined os outs h)
 
 -- Whole rows go back with what is left of them.
@@ -179,7 +179,7 @@ occurs-use_up (suc n) (d ∷ ds) o =
     (λ k. rw k (omega (arith, occurs-use_up (suc n - d.left) ds o)))
     (λ k. rw k (omega arith))
 
-pub Ones-use_up : (n : ℕ) (ds : List DebtEntry) → Ones debt_key debt_units ds → Ones debt_key debt_units (use_up n ds)
+pub Ones-use_up : (n : ℕ) (ds : List DebtEntry) → Ones debt_key booked_units ds → Ones debt_key booked_units (use_up n ds)
 Ones-use_up zero ds h = h
 Ones-use_up (suc n) [] h = tt
 Ones-use_up (suc n) (d ∷ ds) h =

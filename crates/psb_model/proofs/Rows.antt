@@ -20,25 +20,25 @@ use Rattle.psb_model.specs.declared.entries.InState.TheVariants as at
 use Rattle.psb_model.specs.declared.change.Change.{Change}
 use Rattle.psb_model.specs.declared.change.Change.TheVariants.{TookFresh, TookSwap, LetGo, LetGoBack, Replaced, Refused, Proposed, Settled, Turned, Asked, Passed, Failed, Declined, Discarded}
 use Rattle.psb_model.specs.Effects.{blank_rows, first_rows, loosen, note_of, relabel_debt, relabel_in, relabel_out, settle_states, states_of}
-use Rattle.psb_model.specs.State.{Row, State, at_row, back_of, blank, debt_key, debt_of, debt_size, has_row, held_of, in_key, in_size, out_key, out_size, row, row_in}
+use Rattle.psb_model.specs.State.{Row, State, at_row, back_units, blank, debt_key, debt_units, debt_size, has_row, held_units, in_key, in_size, out_key, out_size, row, row_in}
 use Rattle.psb_model.specs.Words.{object_eq, units_at}
 use Rattle.psb_model.proofs.ByObject.{by_cases, occurs, units_at-map, sum_by-map, Ones, Ones-map}
-use Rattle.psb_model.proofs.Parts.{debt_units}
+use Rattle.psb_model.proofs.Parts.{booked_units}
 use Rattle.psb_model.proofs.Tidy.{IsTidy}
 use Rattle.psb_model.proofs.Standing.{StandsFor}
 
 -- two rows with the same objects and units
 pub record Alike (r r' : Row) : Type 0 where
-  pub held : held_of r' ≡ held_of r
-  pub back : back_of r' ≡ back_of r
-  pub debt : debt_of r' ≡ debt_of r
+  pub held : held_units r' ≡ held_units r
+  pub back : back_units r' ≡ back_units r
+  pub debt : debt_units r' ≡ debt_units r
   pub ins : (o : Object) → occurs in_key r'.ins o ≡ occurs in_key r.ins o
   pub outs : (o : Object) → occurs out_key r'.outs o ≡ occurs out_key r.outs o
   pub debts : (o : Object) → occurs debt_key r'.debts o ≡ occurs debt_key r.debts o
   pub sizes : (o : Object) → units_at out_key out_size r'.outs o ≡ units_at out_key out_size r.outs o
   pub ins_ones : Ones in_key in_size r.ins → Ones in_key in_size r'.ins
   pub outs_ones : Ones out_key out_size r.outs → Ones out_key out_size r'.outs
-  pub debts_ones : Ones debt_key debt_units r.debts → Ones debt_key debt_units r'.debts
+  pub debts_ones : Ones debt_key booked_units r.debts → Ones debt_key booked_units r'.debts
   pub pending : r'.pending ≡ r.pending
   pub asked : r'.asked ≡ r.asked
 
@@ -137,7 +137,7 @@ relabel_debt_alike o st r =
     let g : DebtEntry → DebtEntry = λ e. cond (object_eq e.object o) (record e { state = st }) e in
     let key : (e : DebtEntry) → debt_key (g e) ≡ debt_key e = λ e. same_field debt_key (object_eq e.object o) (record e { state = st }) e refl in
     let size : (e : DebtEntry) → debt_size (g e) ≡ debt_size e = λ e. same_field debt_size (object_eq e.object o) (record e { state = st }) e refl in
-    let all : (e : DebtEntry) → debt_units (g e) ≡ debt_units e = λ e. same_field debt_units (object_eq e.object o) (record e { state = st }) e refl in
+    let all : (e : DebtEntry) → booked_units (g e) ≡ booked_units e = λ e. same_field booked_units (object_eq e.object o) (record e { state = st }) e refl in
     record {
       held = refl;
       back = refl;
@@ -148,7 +148,7 @@ relabel_debt_alike o st r =
       sizes = λ x. refl;
       ins_ones = λ h. h;
       outs_ones = λ h. h;
-      debts_ones = Ones-map debt_key debt_units debt_key debt_units g key all r.debts;
+      debts_ones = Ones-map debt_key booked_units debt_key booked_units g key all r.debts;
       pending = refl;
       asked = refl;
     }

@@ -16,8 +16,8 @@ use Rattle.psb_model.specs.Conditions.{same_objects}
 use Rattle.psb_model.specs.Discards.{is_picked, picks}
 use Rattle.psb_model.specs.Effects.{chunk_out, direct_slots, own_slots}
 use Rattle.psb_model.specs.Grammar.{ascend}
-use Rattle.psb_model.specs.Move.{Move, moved, still}
-use Rattle.psb_model.specs.State.{Row, debt_key, debt_of, debt_size, in_key, in_size, out_key, out_size, own_has, own_len}
+use Rattle.psb_model.specs.Move.{Move, after_move, still}
+use Rattle.psb_model.specs.State.{Row, debt_key, debt_units, debt_size, in_key, in_size, out_key, out_size, own_has, own_len}
 use Rattle.psb_model.specs.Words.{has, listed, object_eq, objects_distinct, only, slots, units, units_at}
 use Rattle.psb_model.proofs.ByObject.{object_eq-same, object_eq-refl, by_cases, carry, occurs, sum_by-only, sum_by-parts, sum_at, sum_at-ones, Ones, units_at-slot}
 use Rattle.psb_model.proofs.Parts.{ascend-distinct, length-slots, no_chunk, sum-direct_slots, Ones-direct_slots, sum-own_slots, own_slots-chunk, IsRange, own_slots-slot, Ones-own_slots}
@@ -74,7 +74,7 @@ new_chunk_total r name o x y d b absent is le once =
     (λ k. let none : total r o ≡ 0 = sym (carry (total r) (Chunk name) o k) ∙ absent in let is' = rw k at is in omega (arith, is', none, le, fewer b (occurs out_key r.outs o)))
     (λ k. let is' = rw k at is in omega (arith, is', once, le, fewer b (occurs out_key r.outs o)))
 
-pub tidy_settle_fresh : (issued u : ℕ) (numbers name : List ℕ) (r : Row) → 1 ≤ u → IsTidy issued r → total r (Chunk name) ≡ 0 → ascend numbers ≡ true → ((o : Object) → listed (slots numbers) o ≡ true → not (has in_key r.ins o) ≡ true) → length numbers ≡ u → IsTidy issued (moved (settle_fresh_move name u numbers) r)
+pub tidy_settle_fresh : (issued u : ℕ) (numbers name : List ℕ) (r : Row) → 1 ≤ u → IsTidy issued r → total r (Chunk name) ≡ 0 → ascend numbers ≡ true → ((o : Object) → listed (slots numbers) o ≡ true → not (has in_key r.ins o) ≡ true) → length numbers ≡ u → IsTidy issued (after_move (settle_fresh_move name u numbers) r)
 tidy_settle_fresh issued u numbers name r some t absent asc lacks long =
     let m : Move = settle_fresh_move name u numbers in
     let w = weighs r m refl refl (omega arith) in
@@ -98,7 +98,7 @@ units_of_ones key size l ns ones here =
     sum_at-ones key size l (slots ns) (elim [ Chunk c ↦ λ h. absurd (false≢true (sym (no_chunk ns c) ∙ h)) | Slot n ↦ λ h. units_at-slot key size l n ones ∙ here (Slot n) h ])
     ∙ length-slots ns
 
-pub tidy_settle_swap : (issued : ℕ) (own : List OwnEntry) (numbers name : List ℕ) (r : Row) → IsTidy issued r → SwapStands own r name numbers → IsTidy issued (moved (settle_swap_move name (units (own_len own name)) numbers) r)
+pub tidy_settle_swap : (issued : ℕ) (own : List OwnEntry) (numbers name : List ℕ) (r : Row) → IsTidy issued r → SwapStands own r name numbers → IsTidy issued (after_move (settle_swap_move name (units (own_len own name)) numbers) r)
 tidy_settle_swap issued own numbers name r t s =
     let m : Move = settle_swap_move name (units (own_len own name)) numbers in
     let w = weighs r m refl (ascend-distinct numbers s.ascends) (omega arith) in
@@ -116,7 +116,7 @@ tidy_settle_swap issued own numbers name r t s =
 abbrev pub settle_cancel_move : List ℕ → List ℕ → Move
 settle_cancel_move name numbers = record still { out_gone = Chunk name ∷ []; in_gone = slots numbers }
 
-pub tidy_settle_cancel : (issued : ℕ) (numbers name : List ℕ) (r : Row) → IsTidy issued r → CancelStands r name numbers → IsTidy issued (moved (settle_cancel_move name numbers) r)
+pub tidy_settle_cancel : (issued : ℕ) (numbers name : List ℕ) (r : Row) → IsTidy issued r → CancelStands r name numbers → IsTidy issued (after_move (settle_cancel_move name numbers) r)
 tidy_settle_cancel issued numbers name r t s =
     let m : Move = settle_cancel_move name numbers in
     let w = weighs r m (ascend-distinct numbers s.ascends) refl (omega arith) in
@@ -146,7 +146,7 @@ range_below first u r n k x y d b range high none is le =
     (λ h. absurd (omega (arith, range.high (leb-true 1 k h))))
     (λ h. let less = none_left k h in omega (arith, fewer b (occurs out_key r.outs (Slot n))))
 
-pub tidy_settle_put_back : (issued first : ℕ) (name : List ℕ) (r : Row) → IsTidy issued r → PutBackStands issued r name first → IsTidy issued (moved (settle_put_back_move name first (units_at out_key out_size r.outs (Chunk name))) r)
+pub tidy_settle_put_back : (issued first : ℕ) (name : List ℕ) (r : Row) → IsTidy issued r → PutBackStands issued r name first → IsTidy issued (after_move (settle_put_back_move name first (units_at out_key out_size r.outs (Chunk name))) r)
 tidy_settle_put_back issued first name r t s =
     let u = units_at out_key out_size r.outs (Chunk name) in
     let m : Move = settle_put_back_move name first u in
@@ -221,18 +221,18 @@ same_objects-same (x ∷ xs) (y ∷ ys) h =
     cc
 
 -- what is picked has no more units than the debt
-pub picked_units : (words : ℕ → ℕ) (every room : ℕ) (q : InEntry → Bool) (r : Row) (objects : List Object) → ((o : Object) → occurs in_key r.ins o ≤ 1) → objects_distinct objects ≡ true → objects ≡ map in_key (picks words every 0 (debt_of r) room (filter q r.ins)) → sum_by in_size (only in_key objects r.ins) ≤ debt_of r
+pub picked_units : (words : ℕ → ℕ) (every room : ℕ) (q : InEntry → Bool) (r : Row) (objects : List Object) → ((o : Object) → occurs in_key r.ins o ≤ 1) → objects_distinct objects ≡ true → objects ≡ map in_key (picks words every 0 (debt_units r) room (filter q r.ins)) → sum_by in_size (only in_key objects r.ins) ≤ debt_units r
 picked_units words every room q r objects once distinct is =
-    let ps = picks words every 0 (debt_of r) room (filter q r.ins) in
+    let ps = picks words every 0 (debt_units r) room (filter q r.ins) in
     let a : sum_by in_size (only in_key objects r.ins) ≡ sum_at in_key in_size r.ins objects = sum_by-only in_key in_size r.ins objects distinct in
-    let b : sum_at in_key in_size r.ins (map in_key ps) ≡ sum_by in_size ps = sum_at_members in_key in_size r.ins ps once (λ e h. in_filter q e r.ins (picks_in words every 0 (debt_of r) room (filter q r.ins) e h)) in
+    let b : sum_at in_key in_size r.ins (map in_key ps) ≡ sum_by in_size ps = sum_at_members in_key in_size r.ins ps once (λ e h. in_filter q e r.ins (picks_in words every 0 (debt_units r) room (filter q r.ins) e h)) in
     let c : sum_at in_key in_size r.ins objects ≡ sum_at in_key in_size r.ins (map in_key ps) = ap (sum_at in_key in_size r.ins) is in
-    omega (arith, a, b, c, picks_total words every 0 (debt_of r) room (filter q r.ins))
+    omega (arith, a, b, c, picks_total words every 0 (debt_units r) room (filter q r.ins))
 
 abbrev pub discard_move : List Object → Row → Move
 discard_move objects r = record still { in_gone = objects; used_up = sum_by in_size (only in_key objects r.ins) }
 
-pub tidy_discard : (issued : ℕ) (objects : List Object) (r : Row) → IsTidy issued r → objects_distinct objects ≡ true → sum_by in_size (only in_key objects r.ins) ≤ debt_of r → IsTidy issued (moved (discard_move objects r) r)
+pub tidy_discard : (issued : ℕ) (objects : List Object) (r : Row) → IsTidy issued r → objects_distinct objects ≡ true → sum_by in_size (only in_key objects r.ins) ≤ debt_units r → IsTidy issued (after_move (discard_move objects r) r)
 tidy_discard issued objects r t distinct le =
     let m : Move = discard_move objects r in
     let w = weighs r m distinct refl (omega (arith, le, sum_by-parts (λ (d : DebtEntry). false) debt_size r.debts, none_returned debt_size r.debts)) in

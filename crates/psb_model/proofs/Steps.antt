@@ -17,8 +17,8 @@ use Rattle.psb_digest.specs.Words.{own_word}
 use Rattle.psb_model.specs.Discards.{discards, one_in, seed}
 use Rattle.psb_model.specs.Effects.{is_whole_listed, issued_after, loses, move_of, note_of, out_again, settle_move}
 use Rattle.psb_model.specs.Grammar.{numbers_listed, ascend, chunk_fits, in_grammar}
-use Rattle.psb_model.specs.Move.{Move, moved, still}
-use Rattle.psb_model.specs.State.{Row, State, debt_key, debt_of, debt_size, in_key, in_size, in_ties, is_wanted, out_key, out_size, own_has, own_len, row, row_in, tied_in, tied_out, ties_in, ties_out}
+use Rattle.psb_model.specs.Move.{Move, after_move, still}
+use Rattle.psb_model.specs.State.{Row, State, debt_key, debt_units, debt_size, in_key, in_size, in_ties, is_wanted, out_key, out_size, own_has, own_len, row, row_in, tied_in, tied_out, ties_in, ties_out}
 use Rattle.psb_model.specs.Words.{all_of, has, has_so, listed, object_eq, objects_distinct, slots, units, units_at}
 use Rattle.psb_model.proofs.ByObject.{object_eq-refl, object_eq-same, by_cases, carry, occurs, units_at-map, has-occurs, lacks-units_at, has_so-has}
 use Rattle.psb_model.proofs.Parts.{numbers_ascend, ascend-distinct, each_slot-listed, own_slots-chunk, IsRange, own_slots-slot, no_chunk, units_at-lost_rows}
@@ -60,15 +60,15 @@ tie_shows (x ∷ xs) p q d o e h =
 -- What a step of p leaves.
 pub record Step (s : State) (c : Change) (p : ℕ) : Type 0 where
   pub weighs : Weighs (row s p) (move_of s c)
-  pub tidy : IsTidy (issued_after s c) (moved (move_of s c) (row s p))
-  pub stands : (d : Deal) → (note_of s c (moved (move_of s c) (row s p))).pending ≡ Some d → StandsFor (issued_after s c) s.own (moved (move_of s c) (row s p)) d.what
+  pub tidy : IsTidy (issued_after s c) (after_move (move_of s c) (row s p))
+  pub stands : (d : Deal) → (note_of s c (after_move (move_of s c) (row s p))).pending ≡ Some d → StandsFor (issued_after s c) s.own (after_move (move_of s c) (row s p)) d.what
 
 pub record Before (s : State) (p : ℕ) : Type 0 where
   pub tidy : IsTidy s.issued (row s p)
   pub stands : (d : Deal) → (row s p).pending ≡ Some d → StandsFor s.issued s.own (row s p) d.what
 
 -- nothing moves and the deal stays
-pub same_stands : (s : State) (p issued' : ℕ) → s.issued ≤ issued' → Before s p → (d : Deal) → (row s p).pending ≡ Some d → StandsFor issued' s.own (moved still (row s p)) d.what
+pub same_stands : (s : State) (p issued' : ℕ) → s.issued ≤ issued' → Before s p → (d : Deal) → (row s p).pending ≡ Some d → StandsFor issued' s.own (after_move still (row s p)) d.what
 same_stands s p issued' le b d e =
     let t = tidy_still s.issued (row s p) b.tidy in
     let w = weighs (row s p) still refl refl (omega arith) in
@@ -83,9 +83,9 @@ step_fresh s p deal name first len new body b h =
     let r = row s p in
     let u = units len in
     let m : Move = fresh_move s.issued u name in
-    let t : IsTidy (s.issued + u) (moved m r) = tidy_fresh s.issued u name r (omega arith) b.tidy (not_true (has in_key r.ins (Chunk name)) ts.1.0) in
+    let t : IsTidy (s.issued + u) (after_move m r) = tidy_fresh s.issued u name r (omega arith) b.tidy (not_true (has in_key r.ins (Chunk name)) ts.1.0) in
     let w = weighs r m refl refl (omega arith) in
-    let late : (o : Object) → IsOld s.issued o → total r o ≡ 0 → total (moved m r) o ≡ 0 = elim [ Chunk c ↦ λ _ none. omega (arith, w.outs (Chunk c), w.debts (Chunk c), own_slots-chunk s.issued u c, none) | Slot n ↦ λ old none. late_slot s r u n _ _ _ _ (own_slots-slot s.issued u n) old none (w.outs (Slot n)) (w.debts (Slot n)) ] in
+    let late : (o : Object) → IsOld s.issued o → total r o ≡ 0 → total (after_move m r) o ≡ 0 = elim [ Chunk c ↦ λ _ none. omega (arith, w.outs (Chunk c), w.debts (Chunk c), own_slots-chunk s.issued u c, none) | Slot n ↦ λ old none. late_slot s r u n _ _ _ _ (own_slots-slot s.issued u n) old none (w.outs (Slot n)) (w.debts (Slot n)) ] in
     record {
       weighs = rw same w;
       tidy = rw same t;
@@ -102,7 +102,7 @@ step_swap s p deal name numbers len new body b g h =
     let asc : ascend numbers ≡ true = numbers_ascend numbers (and_parts (chunk_fits len new body) (numbers_listed numbers) g).1 in
     let r = row s p in
     let m : Move = swap_move numbers name (units len) in
-    let t : IsTidy s.issued (moved m r) = tidy_swap s.issued (units len) numbers name r (omega arith) b.tidy (not_true (has in_key r.ins (Chunk name)) ts.1.0) asc (λ o. each_slot-listed (has in_key r.ins) numbers o ts.1.1.1.0) (eqb-true (length numbers) (units len) ts.1.1.1.1.1.0) in
+    let t : IsTidy s.issued (after_move m r) = tidy_swap s.issued (units len) numbers name r (omega arith) b.tidy (not_true (has in_key r.ins (Chunk name)) ts.1.0) asc (λ o. each_slot-listed (has in_key r.ins) numbers o ts.1.1.1.0) (eqb-true (length numbers) (units len) ts.1.1.1.1.1.0) in
     let w = weighs r m (ascend-distinct numbers asc) refl (omega arith) in
     record {
       weighs = w;
@@ -135,7 +135,7 @@ step_let_go s p deal name numbers b asc h =
     let ts = parts (tests s (LetGo p deal name numbers)) h in
     let r = row s p in
     let m : Move = let_go_move name numbers in
-    let t : IsTidy s.issued (moved m r) = tidy_let_go s.issued numbers name r b.tidy asc (λ o k. has_so-has out_key carries_none r.outs o (each_slot-listed (has_so out_key carries_none r.outs) numbers o ts.1.1.0 k)) (eqb-true (length numbers) (units_at in_key in_size r.ins (Chunk name)) ts.1.1.1.1.0) in
+    let t : IsTidy s.issued (after_move m r) = tidy_let_go s.issued numbers name r b.tidy asc (λ o k. has_so-has out_key carries_none r.outs o (each_slot-listed (has_so out_key carries_none r.outs) numbers o ts.1.1.0 k)) (eqb-true (length numbers) (units_at in_key in_size r.ins (Chunk name)) ts.1.1.1.1.0) in
     let w = weighs r m refl (ascend-distinct numbers asc) (omega arith) in
     record {
       weighs = w;
@@ -154,7 +154,7 @@ step_let_go_back s p deal name numbers body b asc h =
     let ts = parts (tests s (LetGoBack p deal name numbers body)) h in
     let r = row s p in
     let m : Move = put_back_move name numbers in
-    let t : IsTidy s.issued (moved m r) = tidy_put_back s.issued numbers name r b.tidy asc (λ o. each_slot-listed (λ x. not (has in_key r.ins x)) numbers o ts.1.1.0) (eqb-true (length numbers) (units_at in_key in_size r.ins (Chunk name)) ts.1.1.1.0) in
+    let t : IsTidy s.issued (after_move m r) = tidy_put_back s.issued numbers name r b.tidy asc (λ o. each_slot-listed (λ x. not (has in_key r.ins x)) numbers o ts.1.1.0) (eqb-true (length numbers) (units_at in_key in_size r.ins (Chunk name)) ts.1.1.1.0) in
     let w = weighs r m refl refl (omega arith) in
     record {
       weighs = w;
@@ -164,13 +164,13 @@ step_let_go_back s p deal name numbers body b asc h =
           (b.stands d e);
     }
 
-pub step_loses : (s : State) (p : ℕ) (declined : Bool) (objects : List Object) → Before s p → objects_distinct objects ≡ true → ((o : Object) → listed objects o ≡ true → not (tied_out s p o) ≡ true) → (IsTidy s.issued (moved (loses s.changes declined objects (row s p)) (row s p))) × ((d : Deal) → (row s p).pending ≡ Some d → StandsFor s.issued s.own (moved (loses s.changes declined objects (row s p)) (row s p)) d.what) × Weighs (row s p) (loses s.changes declined objects (row s p))
+pub step_loses : (s : State) (p : ℕ) (declined : Bool) (objects : List Object) → Before s p → objects_distinct objects ≡ true → ((o : Object) → listed objects o ≡ true → not (tied_out s p o) ≡ true) → (IsTidy s.issued (after_move (loses s.changes declined objects (row s p)) (row s p))) × ((d : Deal) → (row s p).pending ≡ Some d → StandsFor s.issued s.own (after_move (loses s.changes declined objects (row s p)) (row s p)) d.what) × Weighs (row s p) (loses s.changes declined objects (row s p))
 step_loses s p declined objects b distinct untied =
     let r = row s p in
     let m : Move = loses s.changes declined objects r in
-    let t : IsTidy s.issued (moved m r) = tidy_loses s.issued s.changes declined objects r b.tidy distinct in
+    let t : IsTidy s.issued (after_move m r) = tidy_loses s.issued s.changes declined objects r b.tidy distinct in
     let w = weighs r m refl distinct (omega arith) in
-    let tot : (o : Object) → total (moved m r) o ≤ total r o = λ o. lost_total _ _ _ 0 (occurs out_key r.outs o) (occurs debt_key r.debts o) _ (listed objects o) (w.outs o) (w.debts o) (units_at-lost_rows (λ _. 1) (λ _. 1) s.changes declined (λ e. refl) objects r.outs o distinct) in (
+    let tot : (o : Object) → total (after_move m r) o ≤ total r o = λ o. lost_total _ _ _ 0 (occurs out_key r.outs o) (occurs debt_key r.debts o) _ (listed objects o) (w.outs o) (w.debts o) (units_at-lost_rows (λ _. 1) (λ _. 1) s.changes declined (λ e. refl) objects r.outs o distinct) in (
       t,
       λ d e. stands_after s.issued s.issued p s.own r m d.what (omega arith) t w
           (record {
@@ -182,11 +182,11 @@ step_loses s p declined objects b distinct untied =
       w,
     )
 
-pub step_gives_back : (s : State) (p : ℕ) (objects : List Object) → Before s p → (IsTidy s.issued (moved (give_back_move objects (row s p)) (row s p))) × ((d : Deal) → (row s p).pending ≡ Some d → StandsFor s.issued s.own (moved (give_back_move objects (row s p)) (row s p)) d.what) × Weighs (row s p) (give_back_move objects (row s p))
+pub step_gives_back : (s : State) (p : ℕ) (objects : List Object) → Before s p → (IsTidy s.issued (after_move (give_back_move objects (row s p)) (row s p))) × ((d : Deal) → (row s p).pending ≡ Some d → StandsFor s.issued s.own (after_move (give_back_move objects (row s p)) (row s p)) d.what) × Weighs (row s p) (give_back_move objects (row s p))
 step_gives_back s p objects b =
     let r = row s p in
     let m : Move = give_back_move objects r in
-    let t : IsTidy s.issued (moved m r) = tidy_give_back s.issued objects r b.tidy in
+    let t : IsTidy s.issued (after_move m r) = tidy_give_back s.issued objects r b.tidy in
     let w = weighs r m refl refl (omega arith) in (
       t,
       λ d e. stands_after s.issued s.issued p s.own r m d.what (omega arith) t w
@@ -224,11 +224,11 @@ step_discards s p objects b distinct h =
     let is : objects ≡ map in_key (discards s p) = same_objects-same objects (map in_key (discards s p)) ts.1.0 in
     let m : Move = discard_move objects r in
     let le = picked_units words (one_in r.fails) 1048576 q r objects b.tidy.ins_once distinct is in
-    let t : IsTidy s.issued (moved m r) = tidy_discard s.issued objects r b.tidy distinct le in
+    let t : IsTidy s.issued (after_move m r) = tidy_discard s.issued objects r b.tidy distinct le in
     let w = weighs r m distinct refl (omega (arith, le, Rattle.psb_model.proofs.ByObject.sum_by-parts (λ (d : DebtEntry). false) debt_size r.debts, Rattle.psb_model.proofs.Tidy.none_returned debt_size r.debts)) in
     let untied : (o : Object) → listed objects o ≡ true → not (tied_in s p o) ≡ true = λ o k.
     let found = listed_in in_key (discards s p) o (ap (λ l. listed l o) (sym is) ∙ k) in
-    ap (λ x. not (tied_in s p x)) (sym found.2) ∙ in_passes q found.0 r.ins (picks_in words (one_in r.fails) 0 (debt_of r) 1048576 (filter q r.ins) found.0 found.1)
+    ap (λ x. not (tied_in s p x)) (sym found.2) ∙ in_passes q found.0 r.ins (picks_in words (one_in r.fails) 0 (debt_units r) 1048576 (filter q r.ins) found.0 found.1)
     in
     record {
       weighs = w;
@@ -293,7 +293,7 @@ issued_grows s p deal (Forward slot entry) = omega arith
 issued_grows s p deal (Return slot) = omega arith
 
 -- a new deal stands over the row as the still move leaves it
-stands_over_still : (s : State) (p issued' : ℕ) (what : DealWhat) → IsTidy s.issued (row s p) → s.issued ≤ issued' → StandsFor issued' s.own (row s p) what → StandsFor issued' s.own (moved still (row s p)) what
+stands_over_still : (s : State) (p issued' : ℕ) (what : DealWhat) → IsTidy s.issued (row s p) → s.issued ≤ issued' → StandsFor issued' s.own (row s p) what → StandsFor issued' s.own (after_move still (row s p)) what
 stands_over_still s p issued' what t le st =
     let t' = tidy_still s.issued (row s p) t in
     let w = weighs (row s p) still refl refl (omega arith) in
@@ -312,12 +312,12 @@ step_proposes s p deal what b g wanted h =
     record {
       weighs = weighs (row s p) still refl refl (omega arith);
       tidy = tidy_later s.issued (issued_after s (Proposed p deal what)) _ le (tidy_still s.issued (row s p) b.tidy);
-      stands = λ d e. subst (λ x. StandsFor (issued_after s (Proposed p deal what)) s.own (moved still (row s p)) x) (some_same (record { number = deal; what = what }) d e) st;
+      stands = λ d e. subst (λ x. StandsFor (issued_after s (Proposed p deal what)) s.own (after_move still (row s p)) x) (some_same (record { number = deal; what = what }) d e) st;
     }
 
 -- SETTLING
 
-settled_tidy : (s : State) (p : ℕ) (what : DealWhat) (number : ℕ) (numbers : List ℕ) → Before s p → ascend numbers ≡ true → StandsFor s.issued s.own (row s p) what → may_settle s p (Some (record { number = number; what = what })) numbers ≡ true → IsTidy s.issued (moved (settle_move s (row s p) (Some (record { number = number; what = what })) numbers) (row s p))
+settled_tidy : (s : State) (p : ℕ) (what : DealWhat) (number : ℕ) (numbers : List ℕ) → Before s p → ascend numbers ≡ true → StandsFor s.issued s.own (row s p) what → may_settle s p (Some (record { number = number; what = what })) numbers ≡ true → IsTidy s.issued (after_move (settle_move s (row s p) (Some (record { number = number; what = what })) numbers) (row s p))
 settled_tidy s p (Fresh name) number numbers b asc st h =
     let both = and_parts (length numbers == units (own_len s.own name)) (each_slot (λ o. not (has in_key (row s p).ins o)) numbers) h in
     tidy_settle_fresh s.issued (units (own_len s.own name)) numbers name (row s p) (omega arith) b.tidy st asc (λ o. each_slot-listed (λ x. not (has in_key (row s p).ins x)) numbers o both.1) (eqb-true (length numbers) (units (own_len s.own name)) both.0)
@@ -344,9 +344,9 @@ step_settles s p deal numbers body b asc h =
       stands = λ d e. cc;
     }
   where
-    by_deal : (o : Option Deal) → (row s p).pending ≡ o → may_settle s p o numbers ≡ true → IsTidy s.issued (moved (settle_move s (row s p) (row s p).pending numbers) (row s p))
+    by_deal : (o : Option Deal) → (row s p).pending ≡ o → may_settle s p o numbers ≡ true → IsTidy s.issued (after_move (settle_move s (row s p) (row s p).pending numbers) (row s p))
     by_deal None e k = absurd (false≢true k)
-    by_deal (Some d) e k = subst (λ x. IsTidy s.issued (moved (settle_move s (row s p) x numbers) (row s p))) (sym e) (settled_tidy s p d.what d.number numbers b asc (b.stands d e) k)
+    by_deal (Some d) e k = subst (λ x. IsTidy s.issued (after_move (settle_move s (row s p) x numbers) (row s p))) (sym e) (settled_tidy s p d.what d.number numbers b asc (b.stands d e) k)
 
     weigh_deal : (o : Option Deal) → (row s p).pending ≡ o → Weighs (row s p) (settle_move s (row s p) (row s p).pending numbers)
     weigh_deal None e = subst (λ x. Weighs (row s p) (settle_move s (row s p) x numbers)) (sym e) (weighs (row s p) still refl refl (omega arith))

@@ -9,13 +9,13 @@ use Rattle.psb_model.specs.declared.deals.DealWhat.{DealWhat}
 use Rattle.psb_model.specs.declared.deals.DealWhat.TheVariants.{Fresh, Swap, Cancel, PutBack, Forward, Return}
 use Rattle.psb_model.specs.declared.change.Change.{Change}
 use Rattle.psb_model.specs.declared.change.Change.TheVariants.{Begun, Kept, Snapped, Forgot, TookFresh, TookSwap, LetGo, LetGoBack, Replaced, Refused, Proposed, Settled, Turned, Asked, Passed, Failed, Declined, Discarded, Chose}
-use Rattle.psb_model.specs.Conditions.{settings_in, allowed, carries_none, declined_objects, is_begun, of_a_peer, peer_of, tests}
+use Rattle.psb_model.specs.Conditions.{settings_of_body, allowed, carries_none, declined_objects, is_begun, of_a_peer, peer_of, tests}
 use Rattle.psb_model.specs.Effects.{after, disturbed, loosen, loses, move_of, note_of, rows_after, settle_move, states_of}
 use Rattle.psb_model.specs.Grammar.{in_grammar}
 use Rattle.psb_model.specs.History.{lawful_from, state_from}
-use Rattle.psb_model.specs.Move.{moved, still}
+use Rattle.psb_model.specs.Move.{after_move, still}
 use Rattle.psb_model.specs.Moved.{AllAreSums, AreSums, Shift, no_shift, settled_shift, shift_for, shift_of, sum_from}
-use Rattle.psb_model.specs.State.{Row, State, at_row, back_of, blank, debt_of, debt_size, has_row, held_of, in_key, in_size, is_peer, nothing_yet, out_key, out_size, row, row_in}
+use Rattle.psb_model.specs.State.{Row, State, at_row, back_units, blank, debt_units, debt_size, has_row, held_units, in_key, in_size, is_peer, nothing_yet, out_key, out_size, row, row_in}
 use Rattle.psb_model.specs.Words.{all_of, has, has_so, objects_distinct, units, units_at}
 use Rattle.psb_model.specs.Moved
 use Rattle.psb_model.proofs.ByObject.{by_cases, sum_by-only, has_so-has}
@@ -28,15 +28,15 @@ use Rattle.psb_model.proofs.Balance.{Good, steps, good_after, good_nothing}
 
 -- from r to r' the numbers moved by m
 pub record Moves (r r' : Row) (m : Shift) : Type 0 where
-  pub held : held_of r' + m.held_down ≡ held_of r + m.held_up
-  pub back : back_of r' + m.back_down ≡ back_of r + m.back_up
-  pub debt : debt_of r' + m.debt_down ≡ debt_of r + m.debt_up
+  pub held : held_units r' + m.held_down ≡ held_units r + m.held_up
+  pub back : back_units r' + m.back_down ≡ back_units r + m.back_up
+  pub debt : debt_units r' + m.debt_down ≡ debt_units r + m.debt_up
 
 -- the moves of a change, as its table says
-still_moves : (r : Row) → Weighs r still → Moves r (moved still r) no_shift
+still_moves : (r : Row) → Weighs r still → Moves r (after_move still r) no_shift
 still_moves r w = record { held = omega (arith, w.held); back = omega (arith, w.back); debt = omega (arith, w.debt, none_returned debt_size r.debts) }
 
-settle_moves : (s : State) (p : ℕ) (what : DealWhat) (number : ℕ) (numbers : List ℕ) → IsTidy s.issued (row s p) → StandsFor s.issued s.own (row s p) what → Weighs (row s p) (settle_move s (row s p) (Some (record { number = number; what = what })) numbers) → Moves (row s p) (moved (settle_move s (row s p) (Some (record { number = number; what = what })) numbers) (row s p)) (settled_shift s (row s p) (Some (record { number = number; what = what })) numbers)
+settle_moves : (s : State) (p : ℕ) (what : DealWhat) (number : ℕ) (numbers : List ℕ) → IsTidy s.issued (row s p) → StandsFor s.issued s.own (row s p) what → Weighs (row s p) (settle_move s (row s p) (Some (record { number = number; what = what })) numbers) → Moves (row s p) (after_move (settle_move s (row s p) (Some (record { number = number; what = what })) numbers) (row s p)) (settled_shift s (row s p) (Some (record { number = number; what = what })) numbers)
 settle_moves s p (Fresh name) number numbers t st w = record { held = omega (arith, w.held, sum-direct_slots numbers); back = omega (arith, w.back); debt = omega (arith, w.debt, none_returned debt_size (row s p).debts) }
 settle_moves s p (Swap name mine) number numbers t st w = record { held = omega (arith, w.held); back = omega (arith, w.back, units_of_ones out_key out_size (row s p).outs mine t.outs_ones st.here); debt = omega (arith, w.debt, none_returned debt_size (row s p).debts) }
 settle_moves s p (Cancel name theirs) number numbers t st w = record { held = omega (arith, w.held, units_of_ones in_key in_size (row s p).ins theirs t.ins_ones st.here); back = omega (arith, w.back); debt = omega (arith, w.debt, none_returned debt_size (row s p).debts) }
@@ -44,18 +44,18 @@ settle_moves s p (PutBack name first) number numbers t st w = record { held = om
 settle_moves s p (Forward slot entry) number numbers t st w = still_moves (row s p) w
 settle_moves s p (Return slot) number numbers t st w = still_moves (row s p) w
 
-settled_moves : (s : State) (p : ℕ) (numbers : List ℕ) (o : Option Deal) → IsTidy s.issued (row s p) → ((d : Deal) → o ≡ Some d → StandsFor s.issued s.own (row s p) d.what) → Weighs (row s p) (settle_move s (row s p) o numbers) → Moves (row s p) (moved (settle_move s (row s p) o numbers) (row s p)) (settled_shift s (row s p) o numbers)
+settled_moves : (s : State) (p : ℕ) (numbers : List ℕ) (o : Option Deal) → IsTidy s.issued (row s p) → ((d : Deal) → o ≡ Some d → StandsFor s.issued s.own (row s p) d.what) → Weighs (row s p) (settle_move s (row s p) o numbers) → Moves (row s p) (after_move (settle_move s (row s p) o numbers) (row s p)) (settled_shift s (row s p) o numbers)
 settled_moves s p numbers None t st w = still_moves (row s p) w
 settled_moves s p numbers (Some d) t st w = settle_moves s p d.what d.number numbers t (st d refl) w
 
-loses_moves : (n : ℕ) (declined : Bool) (objects : List Object) (r : Row) → objects_distinct objects ≡ true → Weighs r (loses n declined objects r) → Moves r (moved (loses n declined objects r) r) (Rattle.psb_model.specs.Moved.lost (Rattle.psb_model.specs.Moved.out_units r objects))
+loses_moves : (n : ℕ) (declined : Bool) (objects : List Object) (r : Row) → objects_distinct objects ≡ true → Weighs r (loses n declined objects r) → Moves r (after_move (loses n declined objects r) r) (Rattle.psb_model.specs.Moved.lost (Rattle.psb_model.specs.Moved.out_units r objects))
 loses_moves n declined objects r distinct w = record { held = omega (arith, w.held); back = omega (arith, w.back, sum_by-only out_key out_size r.outs objects distinct); debt = omega (arith, w.debt, none_returned debt_size r.debts, sum-lost_rows n declined objects r.outs, sum_by-only out_key out_size r.outs objects distinct) }
 
 abbrev ForPeer : (ℕ → Type 0) → Option ℕ → Type 0
 ForPeer P None = Unit {0}
 ForPeer P (Some p) = P p
 
-table : (s : State) (c : Change) → Good s → in_grammar c ≡ true → all_of (tests s c) ≡ true → ForPeer (Step s c) (peer_of c) → ForPeer (λ p. Moves (row s p) (moved (move_of s c) (row s p)) (shift_of s c)) (peer_of c)
+table : (s : State) (c : Change) → Good s → in_grammar c ≡ true → all_of (tests s c) ≡ true → ForPeer (Step s c) (peer_of c) → ForPeer (λ p. Moves (row s p) (after_move (move_of s c) (row s p)) (shift_of s c)) (peer_of c)
 table s (Begun body) g gr h st = tt
 table s (Kept name len new body) g gr h st = tt
 table s (Snapped number ticket files folders bytes left names) g gr h st = tt
@@ -100,19 +100,19 @@ moves_on r a b c m h al same = record {
 none_moves : (r r' : Row) → Alike r r' → Moves r r' no_shift
 none_moves r r' a = record { held = omega (arith, a.held); back = omega (arith, a.back); debt = omega (arith, a.debt) }
 
-of_peer : (s : State) (c : Change) (p : ℕ) → is_peer s p ≡ true → Moves (row s p) (moved (move_of s c) (row s p)) (shift_of s c) → (q : ℕ) → Moves (row s q) (row_in (rows_after s c p) q) (cond (p == q) (shift_of s c) no_shift)
+of_peer : (s : State) (c : Change) (p : ℕ) → is_peer s p ≡ true → Moves (row s p) (after_move (move_of s c) (row s p)) (shift_of s c) → (q : ℕ) → Moves (row s q) (row_in (rows_after s c p) q) (cond (p == q) (shift_of s c) no_shift)
 of_peer s c p peer h q =
-    let first = at_row p (moved (move_of s c)) s.rows in
+    let first = at_row p (after_move (move_of s c)) s.rows in
     let second = loosen (disturbed s c) (states_of s c first) in
     let alike : AlikeRows first second = alike_rows_then first (states_of s c first) second (states_alike s c first) (loosen_alike (disturbed s c) (states_of s c first)) in
     by_cases (p == q)
     (λ k. let same : p ≡ q = eqb-true p q k in
-    let has_p : has_row second p ≡ true = alike.peers p ∙ has_row-at_row p p (moved (move_of s c)) s.rows ∙ peer in
-    let a : Alike (moved (move_of s c) (row s p)) (row_in second p) = subst (λ r. Alike r (row_in second p)) (row_in-at_row p (moved (move_of s c)) s.rows peer) (alike.each p) in
-    let whole : Moves (row s p) (note_of s c (row_in second p)) (shift_of s c) = moves_on (row s p) (moved (move_of s c) (row s p)) (row_in second p) (note_of s c (row_in second p)) (shift_of s c) h a (note_lists s c (row_in second p)) in
+    let has_p : has_row second p ≡ true = alike.peers p ∙ has_row-at_row p p (after_move (move_of s c)) s.rows ∙ peer in
+    let a : Alike (after_move (move_of s c) (row s p)) (row_in second p) = subst (λ r. Alike r (row_in second p)) (row_in-at_row p (after_move (move_of s c)) s.rows peer) (alike.each p) in
+    let whole : Moves (row s p) (note_of s c (row_in second p)) (shift_of s c) = moves_on (row s p) (after_move (move_of s c) (row s p)) (row_in second p) (note_of s c (row_in second p)) (shift_of s c) h a (note_lists s c (row_in second p)) in
     let at_p : Moves (row s p) (row_in (rows_after s c p) p) (shift_of s c) = subst (λ r. Moves (row s p) r (shift_of s c)) (sym (row_in-at_row p (note_of s c) second has_p)) whole in
     rw k (subst (λ x. Moves (row s x) (row_in (rows_after s c p) x) (shift_of s c)) same at_p))
-    (λ k. let a : Alike (row s q) (row_in second q) = subst (λ r. Alike r (row_in second q)) (row_in-at_other p q (moved (move_of s c)) s.rows k) (alike.each q) in
+    (λ k. let a : Alike (row s q) (row_in second q) = subst (λ r. Alike r (row_in second q)) (row_in-at_other p q (after_move (move_of s c)) s.rows k) (alike.each q) in
     rw k (subst (λ r. Moves (row s q) r no_shift) (sym (row_in-at_other p q (note_of s c) second k)) (none_moves (row s q) (row_in second q) a)))
 
 -- OVER WHOLE HISTORIES
@@ -125,7 +125,7 @@ each_moves : (s : State) (c : Change) → Good s → Begins s → in_grammar c �
 each_moves s (Begun body) g b gr pe h q =
     let ts = parts (tests s (Begun body)) h in
     let was : row s q ≡ blank = b (eqb-true s.changes 0 ts.0) q in
-    subst (λ r. Moves (row s q) r no_shift) (sym (row_in-first_rows (settings_in body) q)) (record { held = omega (arith, ap held_of was); back = omega (arith, ap back_of was); debt = omega (arith, ap debt_of was) })
+    subst (λ r. Moves (row s q) r no_shift) (sym (row_in-first_rows (settings_of_body body) q)) (record { held = omega (arith, ap held_units was); back = omega (arith, ap back_units was); debt = omega (arith, ap debt_units was) })
 each_moves s (Kept name len new body) g b gr pe h q = record { held = refl; back = refl; debt = refl }
 each_moves s (Snapped number ticket files folders bytes left names) g b gr pe h q = record { held = refl; back = refl; debt = refl }
 each_moves s (Forgot number) g b gr pe h q = record { held = refl; back = refl; debt = refl }
@@ -146,9 +146,9 @@ each_moves s (Declined p asked places) g b gr pe h q = let c : Change = Declined
 each_moves s (Discarded p objects) g b gr pe h q = let c : Change = Discarded p objects in of_peer s c p pe (table s c g gr h (steps s c g gr h)) q
 
 record Adds (s : State) (h : List Change) (q : ℕ) : Type 0 where
-  held : held_of (row (state_from s h) q) + sum_from (λ m. m.held_down) s h q ≡ held_of (row s q) + sum_from (λ m. m.held_up) s h q
-  back : back_of (row (state_from s h) q) + sum_from (λ m. m.back_down) s h q ≡ back_of (row s q) + sum_from (λ m. m.back_up) s h q
-  debt : debt_of (row (state_from s h) q) + sum_from (λ m. m.debt_down) s h q ≡ debt_of (row s q) + sum_from (λ m. m.debt_up) s h q
+  held : held_units (row (state_from s h) q) + sum_from (λ m. m.held_down) s h q ≡ held_units (row s q) + sum_from (λ m. m.held_up) s h q
+  back : back_units (row (state_from s h) q) + sum_from (λ m. m.back_down) s h q ≡ back_units (row s q) + sum_from (λ m. m.back_up) s h q
+  debt : debt_units (row (state_from s h) q) + sum_from (λ m. m.debt_down) s h q ≡ debt_units (row s q) + sum_from (λ m. m.debt_up) s h q
 
 adds : (s : State) (h : List Change) (q : ℕ) → Good s → Begins s → lawful_from s h ≡ true → Adds s h q
 adds s [] q g b v = record { held = refl; back = refl; debt = refl }

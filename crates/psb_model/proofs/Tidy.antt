@@ -8,33 +8,33 @@ use Rattle.psb_bytes.specs.declared.ids.Object.TheVariants.{Chunk, Slot}
 use Rattle.psb_model.specs.declared.entries.DebtEntry.{DebtEntry}
 use Rattle.psb_model.specs.Effects.{chunk_in, direct_slots, is_whole_listed, loses, out_again, own_slots}
 use Rattle.psb_model.specs.Grammar.{ascend}
-use Rattle.psb_model.specs.Move.{Move, moved, still, use_up}
-use Rattle.psb_model.specs.State.{Row, back_of, debt_key, debt_of, debt_size, held_of, in_key, in_size, out_key, out_size}
+use Rattle.psb_model.specs.Move.{Move, after_move, still, use_up}
+use Rattle.psb_model.specs.State.{Row, back_units, debt_key, debt_units, debt_size, held_units, in_key, in_size, out_key, out_size}
 use Rattle.psb_model.specs.Words.{has, listed, object_eq, objects_distinct, slots, units_at, without}
 use Rattle.psb_model.proofs.ByObject.{by_cases, carry, occurs, units_at-without, units_at-with_all, units_at-filter_both, units_at-append, units_at-map, sum_by-with_all, sum_by-without, sum_by-only, sum_by-parts, sum_at, sum_at-ones, Ones, Ones-filter, Ones-with_all, Ones-map, Ones-append, units_at-slot, has-occurs, lacks-units_at}
-use Rattle.psb_model.proofs.Parts.{ascend-distinct, length-slots, no_chunk, sum-direct_slots, occurs-direct_slots, Ones-direct_slots, sum-own_slots, own_slots-chunk, IsRange, own_slots-slot, Ones-own_slots, debt_units, sum-lost_rows, units_at-lost_rows, Ones-lost_rows, sum-out_again, sum-use_up, occurs-use_up, Ones-use_up}
+use Rattle.psb_model.proofs.Parts.{ascend-distinct, length-slots, no_chunk, sum-direct_slots, occurs-direct_slots, Ones-direct_slots, sum-own_slots, own_slots-chunk, IsRange, own_slots-slot, Ones-own_slots, booked_units, sum-lost_rows, units_at-lost_rows, Ones-lost_rows, sum-out_again, sum-use_up, occurs-use_up, Ones-use_up}
 
 -- how often out(p) and debt(p) have the object
 abbrev pub total : Row → Object → ℕ
 total r o = occurs out_key r.outs o + occurs debt_key r.debts o
 
 pub record IsTidy (issued : ℕ) (r : Row) : Type 0 where
-  pub balanced : held_of r ≡ back_of r + debt_of r
+  pub balanced : held_units r ≡ back_units r + debt_units r
   pub ins_once : (o : Object) → occurs in_key r.ins o ≤ 1
   pub ins_ones : Ones in_key in_size r.ins
   pub outs_once : (o : Object) → total r o ≤ 1
   pub outs_ones : Ones out_key out_size r.outs
-  pub debts_ones : Ones debt_key debt_units r.debts
+  pub debts_ones : Ones debt_key booked_units r.debts
   pub below : (n : ℕ) → issued ≤ n → total r (Slot n) ≡ 0
 
 -- What a move does to sums and to what stands at each object.
 pub record Weighs (r : Row) (m : Move) : Type 0 where
-  pub held : held_of (moved m r) + sum_at in_key in_size r.ins m.in_gone ≡ held_of r + sum_by in_size m.in_new
-  pub back : back_of (moved m r) + sum_at out_key out_size r.outs m.out_gone ≡ back_of r + sum_by out_size m.out_new
-  pub debt : debt_of (moved m r) + m.used_up + sum_by debt_size (filter m.returned r.debts) ≡ debt_of r + sum_by debt_size m.booked
-  pub ins : (o : Object) → occurs in_key (moved m r).ins o ≡ occurs in_key m.in_new o + cond (listed m.in_gone o) 0 (occurs in_key r.ins o)
-  pub outs : (o : Object) → occurs out_key (moved m r).outs o ≡ occurs out_key m.out_new o + cond (listed m.out_gone o) 0 (occurs out_key r.outs o)
-  pub debts : (o : Object) → occurs debt_key (moved m r).debts o + occurs debt_key (filter m.returned r.debts) o ≤ occurs debt_key r.debts o + occurs debt_key m.booked o
+  pub held : held_units (after_move m r) + sum_at in_key in_size r.ins m.in_gone ≡ held_units r + sum_by in_size m.in_new
+  pub back : back_units (after_move m r) + sum_at out_key out_size r.outs m.out_gone ≡ back_units r + sum_by out_size m.out_new
+  pub debt : debt_units (after_move m r) + m.used_up + sum_by debt_size (filter m.returned r.debts) ≡ debt_units r + sum_by debt_size m.booked
+  pub ins : (o : Object) → occurs in_key (after_move m r).ins o ≡ occurs in_key m.in_new o + cond (listed m.in_gone o) 0 (occurs in_key r.ins o)
+  pub outs : (o : Object) → occurs out_key (after_move m r).outs o ≡ occurs out_key m.out_new o + cond (listed m.out_gone o) 0 (occurs out_key r.outs o)
+  pub debts : (o : Object) → occurs debt_key (after_move m r).debts o + occurs debt_key (filter m.returned r.debts) o ≤ occurs debt_key r.debts o + occurs debt_key m.booked o
 
 pub weighs : (r : Row) (m : Move) → objects_distinct m.in_gone ≡ true → objects_distinct m.out_gone ≡ true → m.used_up ≤ sum_by debt_size (filter (λ d. not (m.returned d)) r.debts) → Weighs r m
 weighs r m in_d out_d room =
@@ -54,11 +54,11 @@ none_returned size [] = refl
 none_returned size (d ∷ ds) = none_returned size ds
 
 -- the tidiness of what comes and goes
-pub ones_moved : (issued : ℕ) (r : Row) (m : Move) → IsTidy issued r → Ones in_key in_size m.in_new → Ones out_key out_size m.out_new → Ones debt_key debt_units m.booked → (Ones in_key in_size (moved m r).ins) × (Ones out_key out_size (moved m r).outs) × (Ones debt_key debt_units (moved m r).debts)
+pub ones_moved : (issued : ℕ) (r : Row) (m : Move) → IsTidy issued r → Ones in_key in_size m.in_new → Ones out_key out_size m.out_new → Ones debt_key booked_units m.booked → (Ones in_key in_size (after_move m r).ins) × (Ones out_key out_size (after_move m r).outs) × (Ones debt_key booked_units (after_move m r).debts)
 ones_moved issued r m t a b c = (
   Ones-with_all in_key in_size m.in_new _ a (Ones-filter in_key in_size (λ e. not (listed m.in_gone (in_key e))) r.ins t.ins_ones),
   Ones-with_all out_key out_size m.out_new _ b (Ones-filter out_key out_size (λ e. not (listed m.out_gone (out_key e))) r.outs t.outs_ones),
-  Ones-append debt_key debt_units _ m.booked (Ones-use_up m.used_up _ (Ones-filter debt_key debt_units (λ d. not (m.returned d)) r.debts t.debts_ones)) c,
+  Ones-append debt_key booked_units _ m.booked (Ones-use_up m.used_up _ (Ones-filter debt_key booked_units (λ d. not (m.returned d)) r.debts t.debts_ones)) c,
 )
 
 -- one chunk that was not there
@@ -68,7 +68,7 @@ new_chunk key l name o n lacks is once =
     (λ k. let none : occurs key l o ≡ 0 = sym (carry (occurs key l) (Chunk name) o k) ∙ lacks-units_at key (λ _. 1) l (Chunk name) lacks in let is' = rw k at is in omega (arith, is', none))
     (λ k. let is' = rw k at is in omega (arith, is', once))
 
-pub tidy_still : (issued : ℕ) (r : Row) → IsTidy issued r → IsTidy issued (moved still r)
+pub tidy_still : (issued : ℕ) (r : Row) → IsTidy issued r → IsTidy issued (after_move still r)
 tidy_still issued r t =
     let w = weighs r still refl refl (omega arith) in
     let ones = ones_moved issued r still t tt tt tt in
@@ -101,7 +101,7 @@ new_slots_below issued u r n k x y d range le below a b =
     (λ h. absurd (omega (arith, range.high (leb-true 1 k h))))
     (λ h. let less = none_left k h in omega (arith, below (omega arith)))
 
-pub tidy_fresh : (issued u : ℕ) (name : List ℕ) (r : Row) → 1 ≤ u → IsTidy issued r → has in_key r.ins (Chunk name) ≡ false → IsTidy (issued + u) (moved (fresh_move issued u name) r)
+pub tidy_fresh : (issued u : ℕ) (name : List ℕ) (r : Row) → 1 ≤ u → IsTidy issued r → has in_key r.ins (Chunk name) ≡ false → IsTidy (issued + u) (after_move (fresh_move issued u name) r)
 tidy_fresh issued u name r some t lacks =
     let m : Move = fresh_move issued u name in
     let w = weighs r m refl refl (omega arith) in
@@ -136,7 +136,7 @@ new_chunk_less key l name o n b lacks is once =
     (λ k. let none : occurs key l o ≡ 0 = sym (carry (occurs key l) (Chunk name) o k) ∙ lacks-units_at key (λ _. 1) l (Chunk name) lacks in let is' = rw k at is in omega (arith, is', none, fewer b (occurs key l o)))
     (λ k. let is' = rw k at is in omega (arith, is', once, fewer b (occurs key l o)))
 
-pub tidy_swap : (issued u : ℕ) (numbers : List ℕ) (name : List ℕ) (r : Row) → 1 ≤ u → IsTidy issued r → has in_key r.ins (Chunk name) ≡ false → ascend numbers ≡ true → ((o : Object) → listed (slots numbers) o ≡ true → has in_key r.ins o ≡ true) → length numbers ≡ u → IsTidy issued (moved (swap_move numbers name u) r)
+pub tidy_swap : (issued u : ℕ) (numbers : List ℕ) (name : List ℕ) (r : Row) → 1 ≤ u → IsTidy issued r → has in_key r.ins (Chunk name) ≡ false → ascend numbers ≡ true → ((o : Object) → listed (slots numbers) o ≡ true → has in_key r.ins o ≡ true) → length numbers ≡ u → IsTidy issued (after_move (swap_move numbers name u) r)
 tidy_swap issued u numbers name r some t lacks asc here long =
     let m : Move = swap_move numbers name u in
     let w = weighs r m (ascend-distinct numbers asc) refl (omega arith) in
@@ -155,7 +155,7 @@ tidy_swap issued u numbers name r some t lacks asc here long =
 abbrev pub let_go_move : List ℕ → List ℕ → Move
 let_go_move name numbers = record still { in_gone = Chunk name ∷ []; out_gone = slots numbers }
 
-pub tidy_let_go : (issued : ℕ) (numbers : List ℕ) (name : List ℕ) (r : Row) → IsTidy issued r → ascend numbers ≡ true → ((o : Object) → listed (slots numbers) o ≡ true → has out_key r.outs o ≡ true) → length numbers ≡ units_at in_key in_size r.ins (Chunk name) → IsTidy issued (moved (let_go_move name numbers) r)
+pub tidy_let_go : (issued : ℕ) (numbers : List ℕ) (name : List ℕ) (r : Row) → IsTidy issued r → ascend numbers ≡ true → ((o : Object) → listed (slots numbers) o ≡ true → has out_key r.outs o ≡ true) → length numbers ≡ units_at in_key in_size r.ins (Chunk name) → IsTidy issued (after_move (let_go_move name numbers) r)
 tidy_let_go issued numbers name r t asc here long =
     let m : Move = let_go_move name numbers in
     let w = weighs r m refl (ascend-distinct numbers asc) (omega arith) in
@@ -185,7 +185,7 @@ new_slots_in r numbers o n b asc lacks is once =
     not_true true h = sym h
     not_true false h = refl
 
-pub tidy_put_back : (issued : ℕ) (numbers : List ℕ) (name : List ℕ) (r : Row) → IsTidy issued r → ascend numbers ≡ true → ((o : Object) → listed (slots numbers) o ≡ true → not (has in_key r.ins o) ≡ true) → length numbers ≡ units_at in_key in_size r.ins (Chunk name) → IsTidy issued (moved (put_back_move name numbers) r)
+pub tidy_put_back : (issued : ℕ) (numbers : List ℕ) (name : List ℕ) (r : Row) → IsTidy issued r → ascend numbers ≡ true → ((o : Object) → listed (slots numbers) o ≡ true → not (has in_key r.ins o) ≡ true) → length numbers ≡ units_at in_key in_size r.ins (Chunk name) → IsTidy issued (after_move (put_back_move name numbers) r)
 tidy_put_back issued numbers name r t asc lacks long =
     let m : Move = put_back_move name numbers in
     let w = weighs r m refl refl (omega arith) in
@@ -204,12 +204,12 @@ tidy_put_back issued numbers name r t asc lacks long =
 pub lost_total : (x y z d a b c : ℕ) (l : Bool) → x ≡ 0 + cond l 0 a → y + z ≤ b + c → c ≡ cond l a 0 → x + y ≤ a + b
 lost_total x y z d a b c l p q e = grind (arith, cases_Bool l)
 
-pub tidy_loses : (issued n : ℕ) (declined : Bool) (objects : List Object) (r : Row) → IsTidy issued r → objects_distinct objects ≡ true → IsTidy issued (moved (loses n declined objects r) r)
+pub tidy_loses : (issued n : ℕ) (declined : Bool) (objects : List Object) (r : Row) → IsTidy issued r → objects_distinct objects ≡ true → IsTidy issued (after_move (loses n declined objects r) r)
 tidy_loses issued n declined objects r t distinct =
     let m : Move = loses n declined objects r in
     let w = weighs r m refl distinct (omega arith) in
     let ones = ones_moved issued r m t tt tt (Ones-lost_rows n declined objects r.outs t.outs_ones) in
-    let tot : (o : Object) → total (moved m r) o ≤ total r o = λ o. lost_total _ _ _ 0 (occurs out_key r.outs o) (occurs debt_key r.debts o) _ (listed objects o) (w.outs o) (w.debts o) (units_at-lost_rows (λ _. 1) (λ _. 1) n declined (λ e. refl) objects r.outs o distinct) in
+    let tot : (o : Object) → total (after_move m r) o ≤ total r o = λ o. lost_total _ _ _ 0 (occurs out_key r.outs o) (occurs debt_key r.debts o) _ (listed objects o) (w.outs o) (w.debts o) (units_at-lost_rows (λ _. 1) (λ _. 1) n declined (λ e. refl) objects r.outs o distinct) in
     record {
       balanced = omega (arith, w.held, w.back, w.debt, t.balanced, none_returned debt_size r.debts, sum-lost_rows n declined objects r.outs);
       ins_once = λ o. omega (arith, w.ins o, t.ins_once o);
@@ -224,15 +224,15 @@ tidy_loses issued n declined objects r t distinct =
 abbrev pub give_back_move : List Object → Row → Move
 give_back_move objects r = record still { returned = is_whole_listed objects; out_new = map out_again (filter (is_whole_listed objects) r.debts) }
 
-ones_again : (objects : List Object) (ds : List DebtEntry) → Ones debt_key debt_units ds → Ones out_key out_size (map out_again (filter (is_whole_listed objects) ds))
-ones_again objects ds h = Ones-map debt_key debt_units out_key out_size out_again (λ d. refl) (λ d. refl) (filter (is_whole_listed objects) ds) (Ones-filter debt_key debt_units (is_whole_listed objects) ds h)
+ones_again : (objects : List Object) (ds : List DebtEntry) → Ones debt_key booked_units ds → Ones out_key out_size (map out_again (filter (is_whole_listed objects) ds))
+ones_again objects ds h = Ones-map debt_key booked_units out_key out_size out_again (λ d. refl) (λ d. refl) (filter (is_whole_listed objects) ds) (Ones-filter debt_key booked_units (is_whole_listed objects) ds h)
 
-pub tidy_give_back : (issued : ℕ) (objects : List Object) (r : Row) → IsTidy issued r → IsTidy issued (moved (give_back_move objects r) r)
+pub tidy_give_back : (issued : ℕ) (objects : List Object) (r : Row) → IsTidy issued r → IsTidy issued (after_move (give_back_move objects r) r)
 tidy_give_back issued objects r t =
     let m : Move = give_back_move objects r in
     let w = weighs r m refl refl (omega arith) in
     let ones = ones_moved issued r m t tt (ones_again objects r.debts t.debts_ones) tt in
-    let tot : (o : Object) → total (moved m r) o ≤ total r o = λ o. omega (arith, w.outs o, w.debts o, units_at-map debt_key (λ _. 1) out_key (λ _. 1) out_again (λ d. refl) (λ d. refl) (filter (is_whole_listed objects) r.debts) o) in
+    let tot : (o : Object) → total (after_move m r) o ≤ total r o = λ o. omega (arith, w.outs o, w.debts o, units_at-map debt_key (λ _. 1) out_key (λ _. 1) out_again (λ d. refl) (λ d. refl) (filter (is_whole_listed objects) r.debts) o) in
     record {
       balanced = omega (arith, w.held, w.back, w.debt, t.balanced, sum-out_again objects r.debts);
       ins_once = λ o. omega (arith, w.ins o, t.ins_once o);

@@ -21,7 +21,7 @@ use Rattle.psb_model.specs.declared.change.Change.{Change}
 use Rattle.psb_model.specs.declared.change.Change.TheVariants.{Begun, Kept, Snapped, Forgot, TookFresh, TookSwap, LetGo, LetGoBack, Replaced, Refused, Proposed, Settled, Turned, Asked, Passed, Failed, Declined, Discarded, Chose}
 use Rattle.psb_settings.specs.Settings.{settings_of}
 use Rattle.psb_model.specs.Words.{units, object_eq, all_of, name_listed, has, has_so, units_at}
-use Rattle.psb_model.specs.State.{Row, State, row, is_peer, in_key, in_size, out_key, out_size, debt_key, debt_of, own_has, own_marked, own_len, is_held, is_wanted, is_barred, snaps_made, tied_in, tied_out, used}
+use Rattle.psb_model.specs.State.{Row, State, row, is_peer, in_key, in_size, out_key, out_size, debt_key, debt_units, own_has, own_marked, own_len, is_held, is_wanted, is_barred, snaps_made, tied_in, tied_out, used}
 use Rattle.psb_model.specs.Discards.{discards}
 use Rattle.psb_model.specs.Candidates.{in_select_order, distinct_peers}
 
@@ -49,9 +49,9 @@ is_begun (Begun body) = true
 is_begun _ = false
 
 -- what the settings text says, if it says settings
-abbrev pub settings_in : Option (List ℕ) → Option Settings
-settings_in None = None
-settings_in (Some text) = settings_of text
+abbrev pub settings_of_body : Option (List ℕ) → Option Settings
+settings_of_body None = None
+settings_of_body (Some text) = settings_of text
 
 -- how many claims can be drawn
 abbrev pub most_claims : ℕ
@@ -223,7 +223,7 @@ fresh_tests r deal name first new held in_use u most issued =
     ((deal == r.last.number + 1)
     ∷ not (has in_key r.ins (Chunk name))
     ∷ (if held then not new else new)
-    ∷ (debt_of r == 0)
+    ∷ (debt_units r == 0)
     ∷ nat_le (in_use + u) most
     ∷ (first == issued)
     ∷ nat_le (issued + u) most_claims
@@ -237,7 +237,7 @@ refusal_tests r deal why = (deal == r.last.number + 1) ∷ nat_le 1 why ∷ nat_
 abbrev pub tests : State → Change → List Bool
 tests s (Begun body) =
     ((s.changes == 0)
-    ∷ is_some (settings_in body)
+    ∷ is_some (settings_of_body body)
     ∷ [])
 tests s (Kept name len new body) =
     (not (own_has s.own name)
@@ -258,7 +258,7 @@ tests s (TookSwap p deal name numbers len new body) =
     ∷ each_slot (has in_key (row s p).ins) numbers
     ∷ each_slot (λ o. not (tied_in s p o)) numbers
     ∷ (length numbers == units len)
-    ∷ (debt_of (row s p) == 0)
+    ∷ (debt_units (row s p) == 0)
     ∷ [])
 tests s (LetGo p deal name numbers) =
     (is_next_deal s p deal

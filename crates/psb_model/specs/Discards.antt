@@ -3,7 +3,7 @@
 use Rattle.std.specs.Prelude.{ℕ, ◌+◌, ◌-◌, ◌%◌, nat_le, nat_lt, Bool, not, ◌&&◌, ◌==◌, if◌then◌else◌, List, [], ◌∷◌, filter, Option, Some, None}
 use Rattle.psb_model.specs.declared.entries.InEntry.{InEntry}
 use Rattle.psb_settings.specs.declared.settings.Settings.{Settings}
-use Rattle.psb_model.specs.State.{State, row, debt_of, tied_in}
+use Rattle.psb_model.specs.State.{State, row, debt_units, tied_in}
 use Rattle.psb_digest.specs.Words.{own_word}
 
 -- one entry in how many, by the failures in a row: 0 stands for none
@@ -29,4 +29,4 @@ seed (Some x) = x.seed
 
 -- the untied entries of in(p) that the words of the next change choose
 abbrev pub discards : State → ℕ → List InEntry
-discards s p = picks (own_word (seed s.settings) s.changes) (one_in (row s p).fails) 0 (debt_of (row s p)) 1048576 (filter (λ (e : InEntry). not (tied_in s p e.object)) (row s p).ins)
+discards s p = picks (own_word (seed s.settings) s.changes) (one_in (row s p).fails) 0 (debt_units (row s p)) 1048576 (filter (λ (e : InEntry). not (tied_in s p e.object)) (row s p).ins)

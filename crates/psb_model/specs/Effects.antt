@@ -25,8 +25,8 @@ use Rattle.psb_model.specs.declared.change.Change.{Change}
 use Rattle.psb_model.specs.declared.change.Change.TheVariants.{Begun, Kept, Snapped, Forgot, TookFresh, TookSwap, LetGo, LetGoBack, Replaced, Refused, Proposed, Settled, Turned, Asked, Passed, Failed, Declined, Discarded, Chose}
 use Rattle.psb_model.specs.Words.{units, object_eq, listed, name_listed, slots, has, units_at, only}
 use Rattle.psb_model.specs.State.{Row, State, blank, row, at_row, in_key, in_size, out_key, out_size, debt_key, own_len}
-use Rattle.psb_model.specs.Conditions.{peer_of, settings_in, buddies, is_whole, declined_objects}
-use Rattle.psb_model.specs.Move.{Move, still, moved}
+use Rattle.psb_model.specs.Conditions.{peer_of, settings_of_body, buddies, is_whole, declined_objects}
+use Rattle.psb_model.specs.Move.{Move, still, after_move}
 
 -- First what the three lists of the peer gain and lose.
 
@@ -194,7 +194,7 @@ note_of s _ r = r
 
 -- the rows after a change of a peer
 abbrev pub rows_after : State → Change → ℕ → List (ℕ × Row)
-rows_after s c p = at_row p (note_of s c) (loosen (disturbed s c) (states_of s c (at_row p (moved (move_of s c)) s.rows)))
+rows_after s c p = at_row p (note_of s c) (loosen (disturbed s c) (states_of s c (at_row p (after_move (move_of s c)) s.rows)))
 
 -- And what is noted beside the rows.
 
@@ -241,7 +241,7 @@ chosen_after s (Chose candidates) = take (buddies s.settings) (map (λ (x : Cand
 chosen_after s _ = s.chosen
 
 abbrev pub settings_after : State → Change → Option Settings
-settings_after s (Begun body) = settings_in body
+settings_after s (Begun body) = settings_of_body body
 settings_after s _ = s.settings
 
 -- a blank row for each peer of the settings
@@ -255,7 +255,7 @@ first_rows (Some x) = blank_rows x.peers
 
 -- the rows after any change
 abbrev pub all_rows_after : State → Change → List (ℕ × Row)
-all_rows_after s (Begun body) = first_rows (settings_in body)
+all_rows_after s (Begun body) = first_rows (settings_of_body body)
 all_rows_after s c = elim (peer_of c) [ None ↦ s.rows | Some p ↦ rows_after s c p ]
 
 -- Giving up: a marked name leaves own as soon as no out list, debt or pending deal names it.

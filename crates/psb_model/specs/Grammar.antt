@@ -108,23 +108,23 @@ what_fits (Forward slot entry) = is_u32 slot && is_u32 entry.peer && is_u32 entr
 what_fits (Return slot) = is_u32 slot
 
 -- the change fits its fields
-abbrev pub fits : Change → Bool
-fits (Begun body) = are_bytes body
-fits (Kept name len new body) = is_digest name && is_u32 len && are_bytes body
-fits (Snapped number ticket files folders bytes left names) = is_u32 number && ticket_fits ticket && is_u32 files && is_u32 folders && is_u64 bytes && is_u32 left && list_all is_digest names
-fits (Forgot number) = is_u32 number
-fits (TookFresh p deal name first len new body) = is_u32 p && is_u64 deal && is_digest name && is_u32 first && is_u32 len && are_bytes body
-fits (TookSwap p deal name numbers len new body) = is_u32 p && is_u64 deal && is_digest name && list_all is_u32 numbers && is_u32 len && are_bytes body
-fits (LetGo p deal name numbers) = is_u32 p && is_u64 deal && is_digest name && list_all is_u32 numbers
-fits (LetGoBack p deal name numbers body) = is_u32 p && is_u64 deal && is_digest name && list_all is_u32 numbers && are_bytes body
-fits (Replaced p deal slot place home body) = is_u32 p && is_u64 deal && is_u32 slot && is_u8 place && is_u32 home && are_bytes body
-fits (Refused p deal why detail) = is_u32 p && is_u64 deal && is_u8 why && is_u64 detail
-fits (Proposed p deal what) = is_u32 p && is_u64 deal && what_fits what
-fits (Settled p deal numbers body) = is_u32 p && is_u64 deal && list_all is_u32 numbers && are_bytes body
-fits (Turned p deal why detail) = is_u32 p && is_u64 deal && is_u8 why && is_u64 detail
-fits (Asked p objects) = is_u32 p && list_all object_fits objects
-fits (Passed p asked objects) = is_u32 p && is_u64 asked && list_all object_fits objects
-fits (Failed p asked how got objects) = is_u32 p && is_u64 asked && is_u8 how && is_digest got && list_all object_fits objects
-fits (Declined p asked places) = is_u32 p && is_u64 asked && list_all is_u16 places
-fits (Discarded p objects) = is_u32 p && list_all object_fits objects
-fits (Chose candidates) = list_all candidate_fits candidates
+abbrev pub fits_widths : Change → Bool
+fits_widths (Begun body) = are_bytes body
+fits_widths (Kept name len new body) = is_digest name && is_u32 len && are_bytes body
+fits_widths (Snapped number ticket files folders bytes left names) = is_u32 number && ticket_fits ticket && is_u32 files && is_u32 folders && is_u64 bytes && is_u32 left && list_all is_digest names
+fits_widths (Forgot number) = is_u32 number
+fits_widths (TookFresh p deal name first len new body) = is_u32 p && is_u64 deal && is_digest name && is_u32 first && is_u32 len && are_bytes body
+fits_widths (TookSwap p deal name numbers len new body) = is_u32 p && is_u64 deal && is_digest name && list_all is_u32 numbers && is_u32 len && are_bytes body
+fits_widths (LetGo p deal name numbers) = is_u32 p && is_u64 deal && is_digest name && list_all is_u32 numbers
+fits_widths (LetGoBack p deal name numbers body) = is_u32 p && is_u64 deal && is_digest name && list_all is_u32 numbers && are_bytes body
+fits_widths (Replaced p deal slot place home body) = is_u32 p && is_u64 deal && is_u32 slot && is_u8 place && is_u32 home && are_bytes body
+fits_widths (Refused p deal why detail) = is_u32 p && is_u64 deal && is_u8 why && is_u64 detail
+fits_widths (Proposed p deal what) = is_u32 p && is_u64 deal && what_fits what
+fits_widths (Settled p deal numbers body) = is_u32 p && is_u64 deal && list_all is_u32 numbers && are_bytes body
+fits_widths (Turned p deal why detail) = is_u32 p && is_u64 deal && is_u8 why && is_u64 detail
+fits_widths (Asked p objects) = is_u32 p && list_all object_fits objects
+fits_widths (Passed p asked objects) = is_u32 p && is_u64 asked && list_all object_fits objects
+fits_widths (Failed p asked how got objects) = is_u32 p && is_u64 asked && is_u8 how && is_digest got && list_all object_fits objects
+fits_widths (Declined p asked places) = is_u32 p && is_u64 asked && list_all is_u16 places
+fits_widths (Discarded p objects) = is_u32 p && list_all object_fits objects
+fits_widths (Chose candidates) = list_all candidate_fits candidates

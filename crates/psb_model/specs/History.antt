@@ -6,9 +6,9 @@ use Rattle.psb_model.specs.declared.change.Change.{Change}
 use Rattle.psb_model.specs.declared.change.Change.TheVariants.{Begun, TookFresh, Refused, Passed, Failed, Declined}
 use Rattle.psb_settings.specs.declared.settings.Settings.{Settings}
 use Rattle.psb_model.specs.Words.{listed, has, units_at, has_so, occurs, In}
-use Rattle.psb_model.specs.State.{State, nothing_yet, row, held_of, back_of, debt_of, out_key, out_size, debt_key}
+use Rattle.psb_model.specs.State.{State, nothing_yet, row, held_units, back_units, debt_units, out_key, out_size, debt_key}
 use Rattle.psb_model.specs.Grammar.{in_grammar}
-use Rattle.psb_model.specs.Conditions.{allowed, settings_in, declined_objects}
+use Rattle.psb_model.specs.Conditions.{allowed, settings_of_body, declined_objects}
 use Rattle.psb_model.specs.Effects.{after, is_whole_listed}
 
 -- the state after some changes more
@@ -37,13 +37,13 @@ is_built _ = false
 
 -- the three numbers of a peer
 abbrev pub held : List Change → ℕ → ℕ
-held h p = held_of (row (state h) p)
+held h p = held_units (row (state h) p)
 
 abbrev pub back : List Change → ℕ → ℕ
-back h p = back_of (row (state h) p)
+back h p = back_units (row (state h) p)
 
 abbrev pub debt : List Change → ℕ → ℕ
-debt h p = debt_of (row (state h) p)
+debt h p = debt_units (row (state h) p)
 
 -- what the node answers for to a peer is what it is owed back, plus debt
 abbrev pub Balances : Type 0

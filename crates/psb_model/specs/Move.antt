@@ -28,8 +28,8 @@ use_up (suc n) [] = []
 use_up (suc n) (d ∷ ds) = if nat_le d.left (suc n) then use_up (suc n - d.left) ds else record d { left = d.left - suc n } ∷ ds
 
 -- the row after the move
-abbrev pub moved : Move → Row → Row
-moved m r = record r {
+abbrev pub after_move : Move → Row → Row
+after_move m r = record r {
   ins = with_all in_key m.in_new (without in_key m.in_gone r.ins);
   outs = with_all out_key m.out_new (without out_key m.out_gone r.outs);
   debts = use_up m.used_up (filter (λ d. not (m.returned d)) r.debts) ++ m.booked;

@@ -8,7 +8,7 @@ use Rattle.psb_model.specs.declared.change.Change.TheVariants.{Kept, TookFresh, 
 use Rattle.psb_model.specs.Words.{name_eq, has_so}
 use Rattle.psb_model.specs.State.{State, row, in_key, is_held}
 use Rattle.psb_model.specs.Heads.{body_of}
-use Rattle.psb_model.specs.Grammar.{fits}
+use Rattle.psb_model.specs.Grammar.{fits_widths}
 use Rattle.psb_model.specs.Conditions.{peer_of, is_begun, is_direct}
 use Rattle.psb_model.specs.History.{state, is_lawful, is_built}
 
@@ -76,7 +76,7 @@ brings_right c = elim (brings c) [ None ↦ true | Some name ↦ body_is_right c
 -- history needs are there.
 pub record IsValid (h : List Change) : Type 0 where
   pub lawful : is_lawful h ≡ true
-  pub fit : list_all fits h ≡ true
+  pub fit : list_all fits_widths h ≡ true
   pub built : list_all is_built h ≡ true
   pub some : 1 ≤ length h
   pub sound : is_sound h ≡ true

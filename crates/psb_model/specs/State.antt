@@ -91,14 +91,14 @@ abbrev pub debt_size : DebtEntry → ℕ
 debt_size e = e.left
 
 -- the three numbers of a peer: what the node answers for, what it is owed back, and debt
-abbrev pub held_of : Row → ℕ
-held_of r = sum_by in_size r.ins
+abbrev pub held_units : Row → ℕ
+held_units r = sum_by in_size r.ins
 
-abbrev pub back_of : Row → ℕ
-back_of r = sum_by out_size r.outs
+abbrev pub back_units : Row → ℕ
+back_units r = sum_by out_size r.outs
 
-abbrev pub debt_of : Row → ℕ
-debt_of r = sum_by debt_size r.debts
+abbrev pub debt_units : Row → ℕ
+debt_units r = sum_by debt_size r.debts
 
 -- own chunks: whether one has the name, whether it is marked, and its length
 abbrev pub own_has : List OwnEntry → List ℕ → Bool
@@ -167,4 +167,4 @@ coming s (Some d) = elim d.what [ Fresh name ↦ units (own_len s.own name) | _ 
 
 -- the units in use, of the capacity that the settings give
 abbrev pub used : State → ℕ
-used s = sum_by (λ (x : ℕ × Row). held_of x.1 + coming s x.1.pending) s.rows
+used s = sum_by (λ (x : ℕ × Row). held_units x.1 + coming s x.1.pending) s.rows

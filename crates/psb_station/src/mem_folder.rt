@@ -1,7 +1,7 @@
 ghost use Rattle.std.specs.Prelude.{◌≡◌, ◌-◌, [], OnOk, OnErr, length, take, drop, min, Some, None, true};
 ghost use Rattle.std.specs.FinMap.{get, insert};
 ghost use Rattle.psb_station.specs.Folder.{plain, parent, Folder, File};
-ghost use Rattle.psb_station.specs.MemTree.{stored_of, bytes_in, takes_folder, takes_file, with_put};
+ghost use Rattle.psb_station.specs.MemTree.{stored_of, held, bytes_in, takes_folder, takes_file, with_put};
 ghost use Rattle.std.specs.Option.{option_map};
 
 use crate::call_log::{CallKind, CallLog};
@@ -40,10 +40,10 @@ fn copy_piece(bytes: &[u8], at: u64, into: &mut [u8]) -> usize
 
 /// Makes an entry where nothing stands and the path is in a folder.
 fn make(tree: &mut Tree, path: &str, node: Node) -> Result<(), Failed>
-    ensures parent { OnOk result (get tree.old (parent path.now) ≡ Some Folder) }
-    ensures new { OnOk result (get tree.old path.now ≡ None) }
-    ensures made { OnOk result (tree.new ≡ insert tree.old path.now (stored_of node)) }
-    ensures err { OnErr result (tree.new ≡ tree.old) }
+    ensures parent { OnOk result (get (held tree.old) (parent path.now) ≡ Some Folder) }
+    ensures new { OnOk result (get (held tree.old) path.now ≡ None) }
+    ensures made { OnOk result (held tree.new ≡ insert (held tree.old) path.now (stored_of node)) }
+    ensures err { OnErr result (held tree.new ≡ held tree.old) }
 {
     let Some(Kind::Folder) = tree.kind(parent(path)) else {
         return Err(Failed);

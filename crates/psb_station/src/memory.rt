@@ -1,23 +1,24 @@
-ghost use Rattle.std.specs.Prelude.{◌≡◌, ◌≤◌, ◌+◌, ◌<◌, ◌++◌, [], ◌∷◌, length, OnOk, OnErr, IfOk, IfSome, vec_len, vec_capacity, All, Option, Some, false, slice_get};
+ghost use Rattle.std.specs.Prelude.{◌≡◌, ◌≤◌, ◌+◌, ◌<◌, length, IfOk, IfSome, All, Some, slice_get};
 ghost use Rattle.std.proofs.Props.{props};
 ghost use Rattle.std.specs.Coded.{le_prop};
-ghost use Rattle.psb_station.specs.Past.{ToldBy, ToldBy-prop};
-ghost use Rattle.psb_station.specs.Calls.{Grows};
-ghost use Rattle.psb_station.specs.StationCalls.{IsFull};
-ghost use Rattle.psb_station.specs.Answers.{answer_of, heard_of, sent_of, joined_of, time_of, TicksBy, TicksBy-prop};
+ghost use Rattle.psb_station.specs.Past.{past_of, ToldBy, ToldBy-prop};
+ghost use Rattle.psb_station.specs.Answers.{TicksBy, TicksBy-prop};
 
-use crate::answer::{Answer, Answered, Joining, SentFrame};
+use crate::answer::{Answer, Answered};
 use crate::count::{fault, write_fault};
 use crate::crash::{Outcome, left};
 use crate::mem_disk::MemDisk;
+use crate::pieces::Pieces;
 use crate::plan::Planned;
 use crate::{Disk, Failed, LONGEST_DISK, Station};
 use calls::{Plan, is_due};
+use link::{keep, time_at};
 use psb_bytes::Memory;
-use std::alloc::{AllocError, Global};
+use std::alloc::Global;
 use tears::{Syncs, Tears, part_of};
 
 mod calls;
+mod link;
 mod tears;
 
 pub use calls::StationCall;
@@ -28,7 +29,6 @@ pub use tears::TornWrite;
 /// is refused fails too. A write that fails puts down nothing, but where `tear` was told otherwise.
 #[derive(Drop)]
 pub struct MemStation {
-    alloc: Global,
     disk: MemDisk,
     told: u64,
     arrivals: Vec<Vec<u8>>,
@@ -46,15 +46,15 @@ pub struct MemStation {
     heard: Vec<Answered>,
     /// Whether each answer could be kept.
     whole: bool,
-    sent: Vec<SentFrame>,
+    sent: Pieces<u32>,
     said: Vec<u8>,
-    joined: Vec<Joining>,
+    joined: Pieces<u32>,
     disk_faults: u64,
     write_faults: u64,
     link_faults: u64,
     send_faults: u64,
     say_faults: u64,
-    ghost ordered: { ToldBy told disk.past.items } by { ToldBy-prop told disk.past.items },
+    ghost ordered: { ToldBy told (past_of disk.written.items disk.past.items) } by { ToldBy-prop told (past_of disk.written.items disk.past.items) },
     ghost timed: { TicksBy ticks heard.items } by { TicksBy-prop ticks heard.items },
     ghost counted: { ticks ≤ calls } by { le_prop },
     ghost short: { All (λ a. length a.items ≤ 65507) arrivals.items } by { Prim.hlevel props },
@@ -78,7 +78,6 @@ impl MemStation {
         ensures given { IsGiven arrivals.items clock.items faults.items result }
     {
         MemStation {
-            alloc,
             disk: MemDisk::new(alloc, image),
             told: 0,
             arrivals,
@@ -92,9 +91,9 @@ impl MemStation {
             syncs: Syncs::Each,
             heard: Vec::new(alloc),
             whole: true,
-            sent: Vec::new(alloc),
+            sent: Pieces::new(alloc),
             said: Vec::new(alloc),
-            joined: Vec::new(alloc),
+            joined: Pieces::new(alloc),
             disk_faults: 0,
             write_faults: 0,
             link_faults: 0,
@@ -199,7 +198,7 @@ impl MemStation {
         requires { IfSome (view_of self.now).outside.sent (λ sent. j < length sent) }
         ensures { IfSome (view_of self.now).outside.sent (λ sent. IfSome (slice_get sent j) (λ s. result ≡ s.0)) }
     {
-        self.sent[j].to
+        self.sent.label(j)
     }
 
     /// A frame that was sent.
@@ -207,7 +206,7 @@ impl MemStation {
         requires { IfSome (view_of self.now).outside.sent (λ sent. j < length sent) }
         ensures { IfSome (view_of self.now).outside.sent (λ sent. IfSome (slice_get sent j) (λ s. result.now ≡ s.1)) }
     {
-        &self.sent[j].frame
+        self.sent.content(j)
     }
 
     /// How many nodes the link was told of.
@@ -222,14 +221,13 @@ impl MemStation {
         requires { IfSome (view_of self.now).outside.joined (λ joined. j < length joined) }
         ensures { IfSome (view_of self.now).outside.joined (λ joined. IfSome (slice_get joined j) (λ node. (result.0 ≡ node.0) × (result.1.now ≡ node.1))) }
     {
-        let node = &self.joined[j];
-        (node.id, &node.address)
+        (self.joined.label(j), self.joined.content(j))
     }
 }
 
 impl Disk for MemStation {
     ghost use Rattle.psb_station.specs.Memory.{view_of, ahead_of, Fails, Works};
-    ghost use Rattle.psb_station.specs.MemDisk.{start};
+    ghost use Rattle.psb_station.specs.MemDisk.{start, past_in};
     ghost use Rattle.psb_station.specs.Past.{leaves};
     ghost use Rattle.psb_station.specs.Replay.{now_counts, now_only, seen_left};
     ghost use Rattle.std.specs.Prelude.{◌+◌, length};
@@ -243,11 +241,11 @@ impl Disk for MemStation {
 
     ghost worked = { Works };
 
-    ghost counts_now = { λ m t c le left. now_counts (λ c. c ≡ start m.disk) (start m.disk) 0 0 m.disk.past.items m.told t c m.ordered (Prim.omega arith) (Prim.omega arith) left };
+    ghost counts_now = { λ m t c le left. now_counts (λ c. c ≡ start m.disk) (start m.disk) 0 0 (past_in m.disk) m.told t c m.ordered (Prim.omega arith) (Prim.omega arith) left };
 
-    ghost only_now = { λ m c k left. now_only (λ c. c ≡ start m.disk) (start m.disk) 0 0 m.disk.past.items m.told (length m.disk.past.items + m.told) c k m.ordered (Prim.omega arith) left };
+    ghost only_now = { λ m c k left. now_only (λ c. c ≡ start m.disk) (start m.disk) 0 0 (past_in m.disk) m.told (length (past_in m.disk) + m.told) c k m.ordered (Prim.omega arith) left };
 
-    ghost reads_image = { λ m. subst (leaves (λ c. c ≡ start m.disk) (start m.disk) m.disk.past.items) (sym m.disk.same) (seen_left (λ c. c ≡ start m.disk) (start m.disk) m.disk.past.items m.disk.in_bytes refl) };
+    ghost reads_image = { λ m. subst (leaves (λ c. c ≡ start m.disk) (start m.disk) (past_in m.disk)) (sym m.disk.same) (seen_left (λ c. c ≡ start m.disk) (start m.disk) (past_in m.disk) m.disk.in_bytes refl) };
 
     fn len(&mut self) -> Result<u64, Failed> {
         let len = self.disk.bytes.len() as u64;
@@ -340,62 +338,6 @@ impl Disk for MemStation {
     }
 }
 
-/// Keeps an answer of the link. Where its growth is refused, the answers are told no more.
-fn keep(
-    heard: &mut Vec<Answered>,
-    whole: &mut bool,
-    ticks: u64,
-    answer: Answer,
-) -> Result<(), AllocError>
-    ensures grows { (clock : _) (arrivals : _) → Grows (heard_of whole.old clock arrivals heard.old.items ticks) (heard_of whole.new clock arrivals heard.new.items ticks) (answer_of arrivals answer ∷ []) }
-    ensures timed { TicksBy ticks heard.old.items → TicksBy ticks heard.new.items }
-    ensures ok { OnOk result (whole.new ≡ whole.old) }
-    ensures err { OnErr result (whole.new ≡ false) }
-    ensures full { OnErr result (IsFull 1 heard.old) }
-{
-    match heard.push(Answered { answer, ticks }) {
-        Ok(()) => Ok(()),
-        Err(_) => {
-            *whole = false;
-            Err(AllocError)
-        }
-    }
-}
-
-fn keep_sent(
-    alloc: Global,
-    sent: &mut Vec<SentFrame>,
-    to: u32,
-    frame: &[u8],
-) -> Result<(), AllocError>
-    ensures ok { OnOk result (sent_of sent.new.items ≡ sent_of sent.old.items ++ (to, frame.now) ∷ []) }
-    ensures err { OnErr result (sent_of sent.new.items ≡ sent_of sent.old.items) }
-{
-    let frame = frame.to_vec(alloc)?;
-    sent.push(SentFrame { to, frame })?;
-    Ok(())
-}
-
-/// Copies an address, and makes room for it in the list.
-fn make_room(alloc: Global, joined: &mut Vec<Joining>, address: &str) -> Result<Vec<u8>, AllocError>
-    ensures copy { IfOk result (λ v. v.items ≡ address.now) }
-    ensures room { OnOk result (vec_len joined.new < vec_capacity joined.new) }
-    ensures same { joined.new.items ≡ joined.old.items }
-{
-    joined.reserve(1)?;
-    Ok(address.as_bytes().to_vec(alloc)?)
-}
-
-/// The number of the clock at a call of `now`, counted from 0.
-fn time_at(clock: &[u64], tick: u64) -> u64
-    ensures { result ≡ time_of clock.now tick }
-{
-    if clock.is_empty() {
-        return 0;
-    }
-    clock[(tick as usize).min(clock.len() - 1)]
-}
-
 impl Station for MemStation {
     ghost use Rattle.psb_station.specs.Memory.{Ticks};
 
@@ -411,14 +353,14 @@ impl Station for MemStation {
             let _ = keep(&mut self.heard, &mut self.whole, self.ticks, Answer::Fault);
             return Err(fault(&mut self.link_faults));
         }
-        let Ok(address) = make_room(self.alloc, &mut self.joined, address) else {
+        if let Err(_) = self.joined.make_room(address.len()) {
             let _ = keep(&mut self.heard, &mut self.whole, self.ticks, Answer::Fault);
             return Err(fault(&mut self.link_faults));
-        };
+        }
         if let Err(_) = keep(&mut self.heard, &mut self.whole, self.ticks, Answer::Joined) {
             return Err(fault(&mut self.link_faults));
         }
-        self.joined.push_reserved(Joining { id, address });
+        self.joined.push(id, address.as_bytes());
         Ok(())
     }
 
@@ -468,9 +410,10 @@ impl Station for MemStation {
         ) {
             return Err(fault(&mut self.send_faults));
         }
-        if let Err(_) = keep_sent(self.alloc, &mut self.sent, to, frame) {
+        if let Err(_) = self.sent.make_room(frame.len()) {
             return Err(fault(&mut self.send_faults));
         }
+        self.sent.push(to, frame);
         Ok(())
     }
 

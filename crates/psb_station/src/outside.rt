@@ -24,9 +24,9 @@ pub trait Disk {
     /// What is known of the calls to come.
     ghost ahead: { Self → Ahead } = { λ _. nothing_known };
 
-    /// What is known of a call that fails: its kind, where a write ends or how long a text is, and the
-    /// disk before and after it.
-    ghost failed: { StationCall → ℕ → Self → Self → Type 0 } = { λ _ _ _ _. ⊤ };
+    /// What is known of a call that fails: its kind, where a write begins, how many bytes it was given,
+    /// and the disk before and after it.
+    ghost failed: { StationCall → ℕ → ℕ → Self → Self → Type 0 } = { λ _ _ _ _ _. ⊤ };
 
     /// What is known of a call that answers Ok: its kind, and the disk before and after it.
     ghost worked: { StationCall → Self → Self → Type 0 } = { λ _ _ _. ⊤ };
@@ -35,7 +35,7 @@ pub trait Disk {
     fn len(&mut self) -> Result<u64, Failed>
         ensures due { IsDue StationCall.Len (ahead self.old) → IsErr result }
         ensures ahead { ahead self.new ≡ called StationCall.Len (ahead self.old) }
-        ensures failed { OnErr result (failed StationCall.Len 0 self.old self.new) }
+        ensures failed { OnErr result (failed StationCall.Len 0 0 self.old self.new) }
         ensures worked { OnOk result (worked StationCall.Len self.old self.new) }
         ensures length { IfOk result (λ n. IfSome (view self.new).bytes (λ b. n ≡ length b)) }
         ensures small { IfOk result (λ n. n ≤ 2 ^ 62) }
@@ -47,7 +47,7 @@ pub trait Disk {
     fn read(&mut self, at: u64, into: &mut [u8]) -> Result<usize, Failed>
         ensures due { IsDue StationCall.Read (ahead self.old) → IsErr result }
         ensures ahead { ahead self.new ≡ called StationCall.Read (ahead self.old) }
-        ensures failed { OnErr result (failed StationCall.Read 0 self.old self.new) }
+        ensures failed { OnErr result (failed StationCall.Read 0 0 self.old self.new) }
         ensures worked { OnOk result (worked StationCall.Read self.old self.new) }
         ensures within { IfOk result (λ n. n ≤ length into.new) }
         ensures bytes { IfOk result (λ n. IfSome (view self.new).bytes (λ b.
@@ -62,7 +62,7 @@ pub trait Disk {
         requires fits { at + length from.now < 2 ^ 64 }
         ensures due { IsDue StationCall.Write (ahead self.old) → IsErr result }
         ensures ahead { ahead self.new ≡ called StationCall.Write (ahead self.old) }
-        ensures failed { OnErr result (failed StationCall.Write (at + length from.now) self.old self.new) }
+        ensures failed { OnErr result (failed StationCall.Write at (length from.now) self.old self.new) }
         ensures worked { OnOk result (worked StationCall.Write self.old self.new) }
         ensures bytes { OnOk result (Tells_bytes (view self.new) → (view self.new).bytes ≡ option_map (written at from.now) (view self.old).bytes) }
         ensures small { OnOk result (at + length from.now ≤ 2 ^ 62) }
@@ -76,7 +76,7 @@ pub trait Disk {
         requires { IfSome (view self.old).bytes (λ b. len ≤ length b) }
         ensures due { IsDue StationCall.Cut (ahead self.old) → IsErr result }
         ensures ahead { ahead self.new ≡ called StationCall.Cut (ahead self.old) }
-        ensures failed { OnErr result (failed StationCall.Cut 0 self.old self.new) }
+        ensures failed { OnErr result (failed StationCall.Cut 0 0 self.old self.new) }
         ensures worked { OnOk result (worked StationCall.Cut self.old self.new) }
         ensures bytes { OnOk result (Tells_bytes (view self.new) → (view self.new).bytes ≡ option_map (take len) (view self.old).bytes) }
         ensures writes { Writes (CutShort len) (view self.old) (view self.new) }
@@ -88,7 +88,7 @@ pub trait Disk {
     fn sync(&mut self) -> Result<(), Failed>
         ensures due { IsDue StationCall.Sync (ahead self.old) → IsErr result }
         ensures ahead { ahead self.new ≡ called StationCall.Sync (ahead self.old) }
-        ensures failed { OnErr result (failed StationCall.Sync 0 self.old self.new) }
+        ensures failed { OnErr result (failed StationCall.Sync 0 0 self.old self.new) }
         ensures worked { OnOk result (worked StationCall.Sync self.old self.new) }
         ensures bytes { Tells_bytes (view self.new) → (view self.new).bytes ≡ (view self.old).bytes }
         ensures durable { OnOk result (IfSome (view self.new).bytes (λ b. Only b (view self.new))) }
@@ -116,7 +116,7 @@ pub trait Station: Disk {
     fn join(&mut self, id: u32, address: &str) -> Result<(), Failed>
         ensures due { IsDue StationCall.Join (Self.ahead self.old) → IsErr result }
         ensures ahead { Self.ahead self.new ≡ called StationCall.Join (Self.ahead self.old) }
-        ensures failed { OnErr result (Self.failed StationCall.Join 0 self.old self.new) }
+        ensures failed { OnErr result (Self.failed StationCall.Join 0 (length address.now) self.old self.new) }
         ensures worked { OnOk result (Self.worked StationCall.Join self.old self.new) }
         ensures listens { Listens (Self.view self.old) (Self.view self.new) }
         ensures kept { (Self.view self.new).outside ≡ record (Self.view self.old).outside {
@@ -136,7 +136,7 @@ pub trait Station: Disk {
         ensures due { IsDue StationCall.Recv (Self.ahead self.old) → IsErr result }
         ensures received { OnOk result (Self.ahead self.new ≡ received (called StationCall.Recv (Self.ahead self.old))) }
         ensures not_received { OnErr result (Self.ahead self.new ≡ called StationCall.Recv (Self.ahead self.old)) }
-        ensures failed { OnErr result (Self.failed StationCall.Recv 0 self.old self.new) }
+        ensures failed { OnErr result (Self.failed StationCall.Recv 0 0 self.old self.new) }
         ensures worked { OnOk result (Self.worked StationCall.Recv self.old self.new) }
         ensures within { IfOk result (λ got. IfSome got (λ n. n ≤ length into.new)) }
         ensures finds { IfOk result (λ got. IfSome (Self.ahead self.old).frames (λ frames. option_map (λ n. take n into.new) got ≡ slice_get frames 0)) }
@@ -155,7 +155,7 @@ pub trait Station: Disk {
     fn send(&mut self, to: u32, frame: &[u8]) -> Result<(), Failed>
         ensures due { IsDue StationCall.Send (Self.ahead self.old) → IsErr result }
         ensures ahead { Self.ahead self.new ≡ called StationCall.Send (Self.ahead self.old) }
-        ensures failed { OnErr result (Self.failed StationCall.Send 0 self.old self.new) }
+        ensures failed { OnErr result (Self.failed StationCall.Send 0 (length frame.now) self.old self.new) }
         ensures worked { OnOk result (Self.worked StationCall.Send self.old self.new) }
         ensures tells { Tells (Self.view self.old) (Self.view self.new) }
         ensures kept { (Self.view self.new).outside ≡ record (Self.view self.old).outside {
@@ -172,7 +172,7 @@ pub trait Station: Disk {
     fn say(&mut self, text: &[u8]) -> Result<(), Failed>
         ensures due { IsDue StationCall.Say (Self.ahead self.old) → IsErr result }
         ensures ahead { Self.ahead self.new ≡ called StationCall.Say (Self.ahead self.old) }
-        ensures failed { OnErr result (Self.failed StationCall.Say (length text.now) self.old self.new) }
+        ensures failed { OnErr result (Self.failed StationCall.Say 0 (length text.now) self.old self.new) }
         ensures worked { OnOk result (Self.worked StationCall.Say self.old self.new) }
         ensures tells { Tells (Self.view self.old) (Self.view self.new) }
         ensures kept { (Self.view self.new).outside ≡ record (Self.view self.old).outside {

@@ -10,7 +10,7 @@ use Rattle.psb_bytes.specs.declared.ids.Ref.{Ref}
 use Rattle.skeleton.specs.declared.entry.Entry.{Entry}
 use Rattle.skeleton.specs.declared.entry.EntryKind.{EntryKind}
 use Rattle.skeleton.specs.declared.entry.EntryKind.TheVariants.{Folder, File}
-use Rattle.skeleton.specs.declared.faults.Refusal.{Refusal}
+use Rattle.skeleton.specs.declared.faults.FaultAt.{FaultAt}
 use Rattle.skeleton.specs.declared.faults.SkelFault.TheVariants.{BadPath, BadOrder, BadCount}
 use Rattle.skeleton.specs.declared.limits.TheConstants.{MOST_PATH_BYTES, MOST_CHUNK_BYTES, DIGEST_BYTES, FOLDER_KIND, FILE_KIND}
 use Rattle.std.specs.Str.{is_utf8}
@@ -156,13 +156,13 @@ u64_field = number_field 8 (2 ^ 64) u64_bytes u64_of u64_number
 
 -- ---- a number in bounds
 
-abbrev pub bounded_from : (Unread → Reading ℕ) → ℕ → (Unread → Refusal) → Unread → Reading ℕ
+abbrev pub bounded_from : (Unread → Reading ℕ) → ℕ → (Unread → FaultAt) → Unread → Reading ℕ
 bounded_from read most refusal u = read u >>= λ n. cond (within 1 most n.0) (Ok n) (Err (refusal u))
 
 within_most : (most n : ℕ) → within 1 most n ≡ true → n ≤ most
 within_most most n e = leb-true n most (and_parts (leb 1 n) (leb n most) e).1
 
-pub bounded_field : (bytes_of : ℕ → List ℕ) (limit most : ℕ) (read : Unread → Reading ℕ) (refusal : Unread → Refusal) → most < limit → IsField bytes_of always (λ n. n < limit) read → IsField bytes_of (λ n. within 1 most n ≡ true) (λ n. within 1 most n ≡ true) (bounded_from read most refusal)
+pub bounded_field : (bytes_of : ℕ → List ℕ) (limit most : ℕ) (read : Unread → Reading ℕ) (refusal : Unread → FaultAt) → most < limit → IsField bytes_of always (λ n. n < limit) read → IsField bytes_of (λ n. within 1 most n ≡ true) (λ n. within 1 most n ≡ true) (bounded_from read most refusal)
 bounded_field bytes_of limit most read refusal small h = record {
   fits = λ u n v e.
       let b = bind_ok (read u) (λ n. cond (within 1 most n.0) (Ok n) (Err (refusal u))) (n, v) e in

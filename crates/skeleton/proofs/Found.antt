@@ -2,25 +2,25 @@
 use Rattle.std.proofs.Common.{◌≡◌, ℕ, ◌+◌, ◌≤◌, Bool, true, false, cond, ltb, List, length, take, drop, Ok, Err, refl, ap}
 use Rattle.std.specs.Prelude.{Result}
 use Rattle.std.proofs.lemmas.Bool.{ltb-false}
-use Rattle.skeleton.specs.declared.faults.Refusal.{Refusal}
+use Rattle.skeleton.specs.declared.faults.FaultAt.{FaultAt}
 use Rattle.skeleton.specs.declared.faults.SkelFault.TheVariants.{Short}
 use Rattle.skeleton.specs.Reading.{◌>>=◌, Unread, bytes_at}
 
 -- the value of a step that found one
-pub bind_ok : {A B : Type 0} (r : Result A Refusal) (f : A → Result B Refusal) (y : B) → (r >>= f) ≡ Ok y → (x : A) × (r ≡ Ok x) × (f x ≡ Ok y)
+pub bind_ok : {A B : Type 0} (r : Result A FaultAt) (f : A → Result B FaultAt) (y : B) → (r >>= f) ≡ Ok y → (x : A) × (r ≡ Ok x) × (f x ≡ Ok y)
 bind_ok (Ok x) f y e = (x, refl, e)
 bind_ok (Err refusal) f y e = absurd cc
 
 -- a test that passed, and one that did not
-pub then_ok : {B : Type 0} (b : Bool) (r : Result B Refusal) (refusal : Refusal) (y : B) → cond b r (Err refusal) ≡ Ok y → (b ≡ true) × (r ≡ Ok y)
+pub then_ok : {B : Type 0} (b : Bool) (r : Result B FaultAt) (refusal : FaultAt) (y : B) → cond b r (Err refusal) ≡ Ok y → (b ≡ true) × (r ≡ Ok y)
 then_ok true r refusal y e = (refl, e)
 then_ok false r refusal y e = absurd cc
 
-pub else_ok : {B : Type 0} (b : Bool) (r : Result B Refusal) (refusal : Refusal) (y : B) → cond b (Err refusal) r ≡ Ok y → (b ≡ false) × (r ≡ Ok y)
+pub else_ok : {B : Type 0} (b : Bool) (r : Result B FaultAt) (refusal : FaultAt) (y : B) → cond b (Err refusal) r ≡ Ok y → (b ≡ false) × (r ≡ Ok y)
 else_ok true r refusal y e = absurd cc
 else_ok false r refusal y e = (refl, e)
 
-abbrev pub found : {A : Type 0} → A → Result A Refusal
+abbrev pub found : {A : Type 0} → A → Result A FaultAt
 found x = Ok x
 
 pub ok_is : {A : Type 0} (x y : A) → found x ≡ found y → x ≡ y

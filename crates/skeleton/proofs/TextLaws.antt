@@ -13,7 +13,7 @@ use Rattle.skeleton.specs.declared.entry.Entry.{Entry}
 use Rattle.skeleton.specs.declared.entry.EntryKind.{EntryKind}
 use Rattle.skeleton.specs.declared.entry.EntryKind.TheVariants.{Folder, File}
 use Rattle.skeleton.specs.declared.faults.SkelFault.TheVariants.{BadMark, TooLong, Trailing}
-use Rattle.skeleton.specs.declared.faults.Refusal.{Refusal}
+use Rattle.skeleton.specs.declared.faults.FaultAt.{FaultAt}
 use Rattle.skeleton.specs.declared.limits.TheConstants.{SKELETON_MARK, REFS_MARK, MARK_BYTES, MOST_TEXT_BYTES, MOST_PATH_BYTES, MOST_CHUNK_BYTES}
 use Rattle.std.specs.Str.{is_utf8}
 use Rattle.psb_bytes.specs.Names.{is_name, parts}
@@ -53,7 +53,7 @@ marked_again mark more len room =
 
 -- ---- a whole text
 
-abbrev pub whole_text : {A : Type 0} → List ℕ → (Unread → Reading A) → List ℕ → Result A Refusal
+abbrev pub whole_text : {A : Type 0} → List ℕ → (Unread → Reading A) → List ℕ → Result A FaultAt
 whole_text {A} mark read text = marked mark text >>= λ u. read u >>= λ x. ended x
 
 pub whole_takes : {A : Type 0} (mark : List ℕ) (spell : A → List ℕ) (fit can : A → Type 0) (read : Unread → Reading A) → IsField spell fit can read

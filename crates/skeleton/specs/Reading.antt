@@ -5,7 +5,7 @@ use Rattle.psb_bytes.specs.declared.ids.Ref.{Ref}
 use Rattle.skeleton.specs.declared.entry.Entry.{Entry}
 use Rattle.skeleton.specs.declared.entry.EntryKind.{EntryKind}
 use Rattle.skeleton.specs.declared.entry.EntryKind.TheVariants.{Folder, File}
-use Rattle.skeleton.specs.declared.faults.Refusal.{Refusal}
+use Rattle.skeleton.specs.declared.faults.FaultAt.{FaultAt}
 use Rattle.skeleton.specs.declared.faults.SkelFault.{SkelFault}
 use Rattle.skeleton.specs.declared.faults.SkelFault.TheVariants.{BadMark, BadOrder, BadPath, BadCount, Short, Trailing, TooLong}
 use Rattle.skeleton.specs.declared.limits.TheConstants.{SKELETON_MARK, REFS_MARK, MARK_BYTES, MOST_TEXT_BYTES, MOST_PATH_BYTES, MOST_CHUNK_BYTES, DIGEST_BYTES, FOLDER_KIND, FILE_KIND}
@@ -19,15 +19,15 @@ pub record Unread : Type 0 where
 
 -- what reading from some place on gives: a value and what is left, or the first fault
 abbrev pub Reading : Type 0 → Type 0
-Reading A = Result (A × Unread) Refusal
+Reading A = Result (A × Unread) FaultAt
 
 infixl 10 ◌>>=◌
-abbrev pub ◌>>=◌ : {A B : Type 0} → Result A Refusal → (A → Result B Refusal) → Result B Refusal
+abbrev pub ◌>>=◌ : {A B : Type 0} → Result A FaultAt → (A → Result B FaultAt) → Result B FaultAt
 (Ok x) >>= f = f x
 (Err refusal) >>= f = Err refusal
 
 -- the field that begins here has a fault
-abbrev pub refused : {A : Type 0} → SkelFault → Unread → Result A Refusal
+abbrev pub refused : {A : Type 0} → SkelFault → Unread → Result A FaultAt
 refused fault unread = Err (record { fault = fault; place = unread.place })
 
 -- ---- fields
@@ -131,7 +131,7 @@ entries_at unread = list_at entry_at unread
 -- ---- texts
 
 -- what stands behind the mark of a text that is not too long
-unfoldable pub marked : List ℕ → List ℕ → Result Unread Refusal
+unfoldable pub marked : List ℕ → List ℕ → Result Unread FaultAt
 marked mark text =
     if nat_lt MOST_TEXT_BYTES (length text) then refused TooLong (record { place = 0; bytes = text })
     else do
@@ -139,18 +139,18 @@ marked mark text =
       if bytes_eq front.0 mark then Ok front.1 else refused BadMark (record { place = 0; bytes = text })
 
 -- a value, where nothing is left
-abbrev pub ended : {A : Type 0} → A × Unread → Result A Refusal
+abbrev pub ended : {A : Type 0} → A × Unread → Result A FaultAt
 ended x = if length x.1.bytes == 0 then Ok x.0 else refused Trailing x.1
 
 -- the skeleton that a text spells
-unfoldable pub skeleton_of : List ℕ → Result (List Entry) Refusal
+unfoldable pub skeleton_of : List ℕ → Result (List Entry) FaultAt
 skeleton_of text = do
   unread ← marked SKELETON_MARK text
   entries ← entries_at unread
   ended entries
 
 -- the refs that a text spells
-unfoldable pub refs_of : List ℕ → Result (List Ref) Refusal
+unfoldable pub refs_of : List ℕ → Result (List Ref) FaultAt
 refs_of text = do
   unread ← marked REFS_MARK text
   refs ← refs_at unread

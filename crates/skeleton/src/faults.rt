@@ -44,10 +44,10 @@ impl SkelFault {
     }
 
     /// This fault, of the field that begins at a place.
-    pub(crate) fn at(self, place: u32) -> Refusal
+    pub(crate) fn at(self, place: u32) -> FaultAt
         ensures { result ≡ record { fault = self; place = place } }
     {
-        Refusal { fault: self, place }
+        FaultAt { fault: self, place }
     }
 }
 
@@ -65,15 +65,15 @@ pub enum SkelError {
 
 /// A field that is not in the grammar: its fault, and where it begins.
 #[derive(Clone, Copy, PartialEq, Eq, Debug)]
-pub struct Refusal {
+pub struct FaultAt {
     pub fault: SkelFault,
     pub place: u32,
 }
 
-impl From<Refusal> for SkelError {
+impl From<FaultAt> for SkelError {
     ghost from_gives = { λ r e. e ≡ skel.Bad r.fault r.place };
 
-    fn from(refusal: Refusal) -> SkelError {
+    fn from(refusal: FaultAt) -> SkelError {
         SkelError::Bad {
             fault: refusal.fault,
             place: refusal.place,

@@ -5,11 +5,11 @@ ghost use Rattle.skeleton.specs.Answers.{Reads};
 ghost use Rattle.skeleton.specs.declared.limits.TheConstants.{MOST_TEXT_BYTES};
 
 use crate::entry::EntryKind;
-use crate::faults::{Refusal, SkelFault};
+use crate::faults::{FaultAt, SkelFault};
 use crate::limits::{FILE_KIND, FOLDER_KIND, MOST_CHUNK_BYTES, MOST_PATH_BYTES, MOST_TEXT_BYTES};
 use crate::paths::valid_path;
 use crate::tree::Skeleton;
-use psb_bytes::{Digest, Ref};
+use psb_bytes::{Cursor, Digest, Ref, Short};
 use std::marker::Model;
 
 /// A text of at most the most bytes, from some place on. Contracts see it as what is not read yet.
@@ -18,7 +18,7 @@ use std::marker::Model;
 #[derive(Drop)]
 pub(crate) struct Reader<'a> {
     place: u32,
-    rest: &'a [u8],
+    fields: Cursor<'a>,
 }
 
 impl<'a> Model for Reader<'a> {
@@ -28,9 +28,9 @@ impl<'a> Model for Reader<'a> {
 
     ghost Value = { Unread };
 
-    ghost view = { λ r. record { place = r.place; bytes = r.rest.now } };
+    ghost view = { λ r. record { place = r.place; bytes = r.fields } };
 
-    ghost invariant = { λ r. r.place + length r.rest.now ≤ MOST_TEXT_BYTES };
+    ghost invariant = { λ r. r.place + length r.fields ≤ MOST_TEXT_BYTES };
 }
 
 impl<'a> Reader<'a> {
@@ -40,7 +40,7 @@ impl<'a> Reader<'a> {
     {
         Reader {
             place: 0,
-            rest: text,
+            fields: Cursor::new(text),
         }
     }
 
@@ -55,26 +55,26 @@ impl<'a> Reader<'a> {
     pub(crate) fn left(&self) -> usize
         ensures { result ≡ length self.now.bytes }
     {
-        self.rest.len()
+        self.fields.left()
     }
 
     /// The next `n` bytes, lent from the text.
     #[tactic(auto, unfolding(crate::specs::Reading::bytes_at))]
-    pub(crate) fn take(&mut self, n: usize) -> Result<&'a [u8], Refusal>
+    pub(crate) fn take(&mut self, n: usize) -> Result<&'a [u8], FaultAt>
         ensures exact { Reads (λ s. s.now) result self.new (bytes_at n self.old) }
         ensures len { IfOk result (λ s. length s.now ≡ n) }
     {
-        if self.rest.len() < n {
-            return Err(SkelFault::Short.at(self.place));
+        match self.fields.take_slice(n) {
+            Ok(front) => {
+                self.place += n as u32;
+                Ok(front)
+            }
+            Err(Short) => Err(SkelFault::Short.at(self.place)),
         }
-        let (front, rest) = self.rest.split_at(n);
-        self.rest = rest;
-        self.place += n as u32;
-        Ok(front)
     }
 
     /// The next `N` bytes.
-    pub(crate) fn take_array<const N: usize>(&mut self) -> Result<[u8; N], Refusal>
+    pub(crate) fn take_array<const N: usize>(&mut self) -> Result<[u8; N], FaultAt>
         ensures { Reads (λ a. a) result self.new (bytes_at N self.old) }
     {
         let mut array = [0; N];
@@ -82,37 +82,60 @@ impl<'a> Reader<'a> {
         Ok(array)
     }
 
-    #[tactic(auto, unfolding(crate::specs::Reading::u8_at))]
-    pub(crate) fn take_u8(&mut self) -> Result<u8, Refusal>
+    #[tactic(auto, unfolding(crate::specs::Reading::u8_at, crate::specs::Reading::bytes_at))]
+    pub(crate) fn take_u8(&mut self) -> Result<u8, FaultAt>
         ensures { Reads (λ n. n) result self.new (u8_at self.old) }
     {
-        let bytes: [u8; 1] = self.take_array()?;
-        Ok(bytes[0])
+        match self.fields.take_u8() {
+            Ok(number) => {
+                self.place += 1;
+                Ok(number)
+            }
+            Err(Short) => Err(SkelFault::Short.at(self.place)),
+        }
     }
 
-    #[tactic(auto, unfolding(crate::specs::Reading::u16_at))]
-    pub(crate) fn take_u16(&mut self) -> Result<u16, Refusal>
+    #[tactic(auto, unfolding(crate::specs::Reading::u16_at, crate::specs::Reading::bytes_at))]
+    pub(crate) fn take_u16(&mut self) -> Result<u16, FaultAt>
         ensures { Reads (λ n. n) result self.new (u16_at self.old) }
     {
-        Ok(u16::from_be_bytes(self.take_array()?))
+        match self.fields.take_u16() {
+            Ok(number) => {
+                self.place += 2;
+                Ok(number)
+            }
+            Err(Short) => Err(SkelFault::Short.at(self.place)),
+        }
     }
 
-    #[tactic(auto, unfolding(crate::specs::Reading::u32_at))]
-    pub(crate) fn take_u32(&mut self) -> Result<u32, Refusal>
+    #[tactic(auto, unfolding(crate::specs::Reading::u32_at, crate::specs::Reading::bytes_at))]
+    pub(crate) fn take_u32(&mut self) -> Result<u32, FaultAt>
         ensures { Reads (λ n. n) result self.new (u32_at self.old) }
     {
-        Ok(u32::from_be_bytes(self.take_array()?))
+        match self.fields.take_u32() {
+            Ok(number) => {
+                self.place += 4;
+                Ok(number)
+            }
+            Err(Short) => Err(SkelFault::Short.at(self.place)),
+        }
     }
 
-    #[tactic(auto, unfolding(crate::specs::Reading::u64_at))]
-    pub(crate) fn take_u64(&mut self) -> Result<u64, Refusal>
+    #[tactic(auto, unfolding(crate::specs::Reading::u64_at, crate::specs::Reading::bytes_at))]
+    pub(crate) fn take_u64(&mut self) -> Result<u64, FaultAt>
         ensures { Reads (λ n. n) result self.new (u64_at self.old) }
     {
-        Ok(u64::from_be_bytes(self.take_array()?))
+        match self.fields.take_u64() {
+            Ok(number) => {
+                self.place += 8;
+                Ok(number)
+            }
+            Err(Short) => Err(SkelFault::Short.at(self.place)),
+        }
     }
 
     #[tactic(auto, unfolding(crate::specs::Reading::kind_at))]
-    pub(crate) fn take_kind(&mut self) -> Result<EntryKind, Refusal>
+    pub(crate) fn take_kind(&mut self) -> Result<EntryKind, FaultAt>
         ensures { Reads (λ k. k) result self.new (kind_at self.old) }
     {
         let place = self.place;
@@ -124,7 +147,7 @@ impl<'a> Reader<'a> {
     }
 
     #[tactic(auto, unfolding(crate::specs::Reading::path_len_at))]
-    fn take_path_len(&mut self) -> Result<u16, Refusal>
+    fn take_path_len(&mut self) -> Result<u16, FaultAt>
         ensures { Reads (λ n. n) result self.new (path_len_at self.old) }
     {
         let place = self.place;
@@ -138,7 +161,7 @@ impl<'a> Reader<'a> {
 
     /// A path that may stand behind the entries of a skeleton.
     #[tactic(auto, unfolding(crate::specs::Reading::path_at))]
-    pub(crate) fn take_path(&mut self, before: &Skeleton) -> Result<&'a str, Refusal>
+    pub(crate) fn take_path(&mut self, before: &Skeleton) -> Result<&'a str, FaultAt>
         ensures { Reads (λ s. s.now) result self.new (path_at before.now self.old) }
     {
         let len = self.take_path_len()?;
@@ -154,7 +177,7 @@ impl<'a> Reader<'a> {
     }
 
     #[tactic(auto, unfolding(crate::specs::Reading::ref_len_at))]
-    fn take_ref_len(&mut self) -> Result<u32, Refusal>
+    fn take_ref_len(&mut self) -> Result<u32, FaultAt>
         ensures { Reads (λ n. n) result self.new (ref_len_at self.old) }
     {
         let place = self.place;
@@ -167,7 +190,7 @@ impl<'a> Reader<'a> {
     }
 
     #[tactic(auto, unfolding(crate::specs::Reading::ref_at))]
-    pub(crate) fn take_ref(&mut self) -> Result<Ref, Refusal>
+    pub(crate) fn take_ref(&mut self) -> Result<Ref, FaultAt>
         ensures { Reads (λ r. r) result self.new (ref_at self.old) }
     {
         let name = Digest(self.take_array()?);

@@ -8,7 +8,7 @@ ghost use Rattle.skeleton.specs.Answers.{ReadsOrLacks, IsRefusalOf};
 ghost use Rattle.skeleton.specs.declared.faults.SkelFault.TheVariants.{Trailing};
 
 use crate::entry::{Entry, EntryKind};
-use crate::faults::{Refusal, SkelError, SkelFault};
+use crate::faults::{FaultAt, SkelError, SkelFault};
 use crate::limits::{MARK_BYTES, MOST_TEXT_BYTES, REFS_MARK, SKELETON_MARK};
 use crate::reader::Reader;
 use crate::tree::{Skeleton, sums_to};
@@ -17,7 +17,7 @@ use std::alloc::Global;
 
 /// A reader that stands behind the mark of a text.
 #[tactic(auto, unfolding(crate::specs::Reading::marked))]
-fn behind_mark<'a>(text: &'a [u8], mark: [u8; MARK_BYTES]) -> Result<Reader<'a>, Refusal>
+fn behind_mark<'a>(text: &'a [u8], mark: [u8; MARK_BYTES]) -> Result<Reader<'a>, FaultAt>
     ensures { MatchResult result (λ r. marked mark text.now ≡ Ok r) (λ e. marked mark text.now ≡ Err e) }
 {
     if text.len() > MOST_TEXT_BYTES {
@@ -32,7 +32,7 @@ fn behind_mark<'a>(text: &'a [u8], mark: [u8; MARK_BYTES]) -> Result<Reader<'a>,
 }
 
 /// Refuses what is left, if anything is.
-fn end(reader: &Reader<'_>) -> Result<(), Refusal>
+fn end(reader: &Reader<'_>) -> Result<(), FaultAt>
     ensures { MatchResult result (λ _. length reader.now.bytes ≡ 0) (λ e. (length reader.now.bytes ≢ 0) × (e ≡ record { fault = Trailing; place = reader.now.place })) }
 {
     if reader.left() == 0 {

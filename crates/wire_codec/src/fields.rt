@@ -7,25 +7,28 @@ use crate::views::{
     ClaimsView, NamesView, PlacesView, SlotsView, claims_ascend, places_ascend, places_fit,
     slots_ascend,
 };
+use psb_bytes::Cursor;
 
 #[tactic(auto, unfolding(crate::specs::Fields::bytes_at))]
 pub(crate) fn take_bytes(bytes: &[u8], n: usize) -> Option<(&[u8], &[u8])>
     ensures len { IfSome result (λ x. length x.0.now ≡ n) }
     ensures exact { Gives (λ x. (x.0.now, x.1.now)) result (bytes_at n bytes.now) }
 {
-    if bytes.len() < n {
-        return None;
+    let mut fields = Cursor::new(bytes);
+    match fields.take_slice(n) {
+        Ok(front) => Some((front, fields.rest())),
+        Err(_) => None,
     }
-    Some(bytes.split_at(n))
 }
 
 #[tactic(auto, unfolding(crate::specs::Fields::u8_at))]
 pub(crate) fn take_u8(bytes: &[u8]) -> Option<(u8, &[u8])>
     ensures { Gives (λ x. (x.0, x.1.now)) result (u8_at bytes.now) }
 {
-    match bytes {
-        [] => None,
-        [first, rest @ ..] => Some((*first, rest)),
+    let mut fields = Cursor::new(bytes);
+    match fields.take_u8() {
+        Ok(number) => Some((number, fields.rest())),
+        Err(_) => None,
     }
 }
 
@@ -33,24 +36,33 @@ pub(crate) fn take_u8(bytes: &[u8]) -> Option<(u8, &[u8])>
 pub(crate) fn take_u16(bytes: &[u8]) -> Option<(u16, &[u8])>
     ensures { Gives (λ x. (x.0, x.1.now)) result (u16_at bytes.now) }
 {
-    let (front, rest) = bytes.split_first_chunk::<2>()?;
-    Some((u16::from_be_bytes(*front), rest))
+    let mut fields = Cursor::new(bytes);
+    match fields.take_u16() {
+        Ok(number) => Some((number, fields.rest())),
+        Err(_) => None,
+    }
 }
 
 #[tactic(auto, unfolding(crate::specs::Fields::u32_at, crate::specs::Fields::bytes_at))]
 pub(crate) fn take_u32(bytes: &[u8]) -> Option<(u32, &[u8])>
     ensures { Gives (λ x. (x.0, x.1.now)) result (u32_at bytes.now) }
 {
-    let (front, rest) = bytes.split_first_chunk::<4>()?;
-    Some((u32::from_be_bytes(*front), rest))
+    let mut fields = Cursor::new(bytes);
+    match fields.take_u32() {
+        Ok(number) => Some((number, fields.rest())),
+        Err(_) => None,
+    }
 }
 
 #[tactic(auto, unfolding(crate::specs::Fields::u64_at, crate::specs::Fields::bytes_at))]
 pub(crate) fn take_u64(bytes: &[u8]) -> Option<(u64, &[u8])>
     ensures { Gives (λ x. (x.0, x.1.now)) result (u64_at bytes.now) }
 {
-    let (front, rest) = bytes.split_first_chunk::<8>()?;
-    Some((u64::from_be_bytes(*front), rest))
+    let mut fields = Cursor::new(bytes);
+    match fields.take_u64() {
+        Ok(number) => Some((number, fields.rest())),
+        Err(_) => None,
+    }
 }
 
 #[tactic(auto, unfolding(crate::specs::Fields::count_at))]

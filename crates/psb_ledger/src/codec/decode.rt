@@ -1,13 +1,13 @@
 ghost use Rattle.std.specs.Prelude.{◌≡◌, ◌&&◌, Bool, List, ℕ, ◌∷◌, ◌++◌, [], nat_lt, true, false, if◌then◌else◌, IfOk, IfErr, OnErr, OnOk, Some, None, ◌↔◌, IsOk};
 ghost use Rattle.std.specs.Option.{option_map};
 ghost use Rattle.psb_model.specs.Heads.{head_of, flag};
-ghost use Rattle.psb_model.specs.Grammar.{fits, are_bytes, body_fits, is_chunk_len};
+ghost use Rattle.psb_model.specs.Grammar.{fits_widths, are_bytes, body_fits, is_chunk_len};
 ghost use Rattle.psb_model.specs.declared.change.Change.{Change};
 ghost use Rattle.psb_model.specs.declared.change.Change.TheVariants.{TookFresh, Refused};
 ghost use Rattle.psb_ledger.specs.declared.codec.decode.ChangeError.TheVariants.{BadHead, Memory as NoMemory};
 ghost use Rattle.psb_ledger.specs.Records.{IsRead, HasNoChange, NoneIsRead};
 
-use super::fields::{Refusal, Store};
+use super::fields::{FreshFields, RefusedFields};
 use psb_bytes::{Bytes, Cursor, LONGEST_CHUNK, Memory, PeerId, Short};
 use psb_model::Change;
 use std::alloc::Global;
@@ -114,7 +114,7 @@ fn is_chunk_len(len: u32) -> bool
 }
 
 /// How many bytes the body has: those of the chunk where they are new, else none.
-fn stored_len(x: &Store) -> u32
+fn stored_len(x: &FreshFields) -> u32
     ensures { result ≡ (if x.now.new then x.now.len else 0) }
 {
     if x.new { x.len } else { 0 }
@@ -143,14 +143,14 @@ fn copy_of(alloc: Global, bytes: &[u8]) -> Result<Bytes, Memory>
     Bytes::copy(alloc, bytes)
 }
 
-fn read_store(fields: &[u8]) -> Result<Store, ChangeError>
+fn read_store(fields: &[u8]) -> Result<FreshFields, ChangeError>
     ensures head { IfOk result (λ x. 5 ∷ fields.now ≡ head_of (TookFresh x.peer x.deal x.name x.first x.len x.new None)) }
-    ensures widths { IfOk result (λ x. fits (TookFresh x.peer x.deal x.name x.first x.len x.new None) ≡ true) }
+    ensures widths { IfOk result (λ x. fits_widths (TookFresh x.peer x.deal x.name x.first x.len x.new None) ≡ true) }
     ensures error { IfErr result (λ e. e ≡ BadHead) }
     ensures bad { OnErr result (HasNoChange (5 ∷ fields.now)) }
 {
     let mut rest = Cursor::new(fields);
-    let x = Store {
+    let x = FreshFields {
         peer: PeerId(rest.take_u32()?),
         deal: rest.take_u64()?,
         name: rest.take_digest()?,
@@ -162,14 +162,14 @@ fn read_store(fields: &[u8]) -> Result<Store, ChangeError>
     Ok(x)
 }
 
-fn read_refusal(fields: &[u8]) -> Result<Refusal, ChangeError>
+fn read_refusal(fields: &[u8]) -> Result<RefusedFields, ChangeError>
     ensures head { IfOk result (λ x. 10 ∷ fields.now ≡ head_of (Refused x.peer x.deal x.why x.detail)) }
-    ensures widths { IfOk result (λ x. fits (Refused x.peer x.deal x.why x.detail) ≡ true) }
+    ensures widths { IfOk result (λ x. fits_widths (Refused x.peer x.deal x.why x.detail) ≡ true) }
     ensures error { IfErr result (λ e. e ≡ BadHead) }
     ensures bad { OnErr result (HasNoChange (10 ∷ fields.now)) }
 {
     let mut rest = Cursor::new(fields);
-    let x = Refusal {
+    let x = RefusedFields {
         peer: PeerId(rest.take_u32()?),
         deal: rest.take_u64()?,
         why: rest.take_u8()?,

@@ -3,7 +3,7 @@ ghost use Rattle.psb_model.specs.Heads.{head_of};
 ghost use Rattle.psb_model.specs.declared.change.Change.TheVariants.{Begun, TookFresh, Refused};
 ghost use Rattle.psb_model.specs.History.{is_built};
 
-use super::fields::{Refusal, Store};
+use super::fields::{FreshFields, RefusedFields};
 use psb_bytes::{Memory, Page};
 use psb_model::Change;
 use std::alloc::Global;
@@ -25,7 +25,7 @@ pub fn encode_change(alloc: Global, c: &Change) -> Result<Vec<u8>, Memory>
             body: _,
         } => took_fresh(
             alloc,
-            Store {
+            FreshFields {
                 peer: *peer,
                 deal: *deal,
                 name: *name,
@@ -41,7 +41,7 @@ pub fn encode_change(alloc: Global, c: &Change) -> Result<Vec<u8>, Memory>
             detail,
         } => refused(
             alloc,
-            Refusal {
+            RefusedFields {
                 peer: *peer,
                 deal: *deal,
                 why: *why,
@@ -60,7 +60,7 @@ fn begun(alloc: Global) -> Result<Vec<u8>, Memory>
     Ok(page.done())
 }
 
-fn took_fresh(alloc: Global, x: Store) -> Result<Vec<u8>, Memory>
+fn took_fresh(alloc: Global, x: FreshFields) -> Result<Vec<u8>, Memory>
     ensures { IfOk result (λ v. v.items ≡ head_of (TookFresh x.peer x.deal x.name x.first x.len x.new None)) }
 {
     let mut page = Page::with_room(alloc, 54)?;
@@ -74,7 +74,7 @@ fn took_fresh(alloc: Global, x: Store) -> Result<Vec<u8>, Memory>
     Ok(page.done())
 }
 
-fn refused(alloc: Global, x: Refusal) -> Result<Vec<u8>, Memory>
+fn refused(alloc: Global, x: RefusedFields) -> Result<Vec<u8>, Memory>
     ensures { IfOk result (λ v. v.items ≡ head_of (Refused x.peer x.deal x.why x.detail)) }
 {
     let mut page = Page::with_room(alloc, 22)?;

@@ -2,7 +2,7 @@ use psb_bytes::{Digest, PeerId};
 
 /// A chunk that was stored for a peer against new slots there, as its change has it.
 #[derive(Clone, Copy)]
-pub struct Store {
+pub struct FreshFields {
     pub peer: PeerId,
     pub deal: u64,
     pub name: Digest,
@@ -13,7 +13,7 @@ pub struct Store {
 
 /// A deal that was refused, as its change has it.
 #[derive(Clone, Copy)]
-pub struct Refusal {
+pub struct RefusedFields {
     pub peer: PeerId,
     pub deal: u64,
     pub why: u8,

@@ -157,6 +157,7 @@ fn a_write_that_is_torn_puts_down_a_part_or_all(rt: HostRuntime) -> Result<(), F
     assert_eq!(rt; station.write_at(0, &[9, 8, 7, 6]), Err(Failed));
     assert_eq!(rt; station.image(), [9, 8, 3].as_slice());
     assert_eq!(rt; station.write_at(2, &[4]), Ok(()));
+    assert_eq!(rt; station.image(), [9, 8, 4].as_slice());
     assert_eq!(rt; station.write_at(1, &[5, 5, 5]), Err(Failed));
     assert_eq!(rt; station.image(), [9, 5, 5, 5].as_slice());
     let wants: [[&[u8]; 3]; 3] = [

@@ -1,10 +1,11 @@
 use Rattle.std.proofs.Common.{◌≡◌, List, [], ℕ, take, None, sym, ap, subst, rules}
 use Rattle.psb_station.specs.View.Heard.{Frame, Nothing, Fault}
 use Rattle.psb_machine.specs.Machine.{Datagram}
+use Rattle.node_core.proofs.Committing.{same_counted}
 use Rattle.node_serve.specs.Hears.{End}
 use Rattle.node_serve.specs.Spans.{Received}
 use Rattle.node_serve.specs.Turns.{Listened, turn_tally}
-use Rattle.node_serve.proofs.OneTurn.{written_back, received, idle, cut, received_fed, received_stopped}
+use Rattle.node_serve.proofs.OneTurn.{written_back, received, idle, ready_walked, cut, received_fed, received_stopped}
 use Rattle.node_serve.proofs.serving.receive.Goals as goal
 
 pub returns-in-Err-clause-ran : goal.returns-in-Err-clause-ran
@@ -14,8 +15,14 @@ returns-in-Err-clause-ran g c =
 
 pub returns-in-Ok-None-clause-ran : goal.returns-in-Ok-None-clause-ran
 returns-in-Ok-None-clause-ran g c =
-    idle g.L.Log.holds g.L.Log.stands g.L.Log.is_broken g.met.L.Log.holds_stands c.args.node.now (g.S.Disk.view c.args.station.now) (g.S.Disk.view c.recv.new.self)
+    idle g.L.Log.holds g.L.Log.stands g.L.Log.is_broken g.met.L.Log.holds_stands c.args.node.now c.walk_claims.new.self (g.S.Disk.view c.args.station.now) (g.S.Disk.view c.recv.new.self) c.walk_claims.ensures.same
     (received _ _ Nothing c.recv.ensures.listens c.recv.ensures.kept (rw c.in-Ok-None.field-0-is at c.in-Ok-None.ensures.nothing))
+
+pub returns-in-Ok-None-clause-ready : goal.returns-in-Ok-None-clause-ready
+returns-in-Ok-None-clause-ready g c = ready_walked g.L.Log.holds c.args.node.now c.walk_claims.new.self (g.S.Disk.view c.args.station.now) (g.S.Disk.view c.recv.new.self) c.walk_claims.ensures.same c.recv.ensures.listens.rests c.requires.ready
+
+pub returns-in-Ok-None-clause-counted : goal.returns-in-Ok-None-clause-counted
+returns-in-Ok-None-clause-counted g c = same_counted g.L.Log.size g.L.Log.keeps_body c.args.node.now c.walk_claims.new.self c.walk_claims.ensures.same c.requires.counted
 
 pub returns-in-Ok-clause-ran : goal.returns-in-Ok-clause-ran
 returns-in-Ok-clause-ran g c =

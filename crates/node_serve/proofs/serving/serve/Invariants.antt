@@ -1,5 +1,6 @@
 use Rattle.std.proofs.Common.{◌≡◌, ◌+◌, ◌≤◌, ◌*◌, Some, false}
 use Rattle.psb_station.specs.Span.{Tells_bytes}
+use Rattle.node_core.specs.Stored.{IsCounted}
 use Rattle.node_serve.specs.Hears.{Whole}
 use Rattle.node_serve.specs.Spans.{IsReady, Counts, RanTurns}
 use Rattle.node_serve.specs.Turns.{peers_in, total_tally}
@@ -15,7 +16,7 @@ invariant-loop-turn g l = record {
   disk : (g.S.Disk.view l.station).disk_faults ≡ (g.S.Disk.view l.fn.station).disk_faults;
   link : (g.S.Disk.view l.station).outside.link_faults ≡ (g.S.Disk.view l.fn.station).outside.link_faults;
   whole : g.L.Log.is_broken l.node.log ≡ false;
-  counted : l.node.ledger.state.changes ≡ g.L.Log.size l.node.log;
+  counted : IsCounted g.L.Log.size g.L.Log.keeps_body l.node;
   turns : l.total.turns ≡ l.turns;
   small : l.total.taken + l.total.dropped ≤ 130 * l._turn;
   few : l.total.lost ≤ 130 * l._turn;

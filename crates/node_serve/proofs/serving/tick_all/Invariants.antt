@@ -2,7 +2,7 @@ use Rattle.std.proofs.Common.{◌≡◌, ◌+◌, ◌≤◌, ◌*◌, take, Some
 use Rattle.psb_station.specs.Span.{Tells_bytes}
 use Rattle.psb_machine.specs.Machine.{Situation}
 use Rattle.psb_machine.specs.Commands.{ticks}
-use Rattle.node_core.specs.Stored.{Knows, Stored}
+use Rattle.node_core.specs.Stored.{Knows, Stored, IsCounted}
 use Rattle.node_serve.specs.Spans.{IsReady, Counts, Fed}
 use Rattle.node_serve.specs.Turns.{OnlySends, turn_tally}
 use Rattle.node_serve.proofs.serving.tick_all.Given as goal
@@ -17,7 +17,7 @@ invariant-loop-peer g l = record {
   counts : Counts (g.S.Disk.view l.fn.station) (g.S.Disk.view l.station);
   steady : (g.S.Disk.view l.station).disk_faults ≡ (g.S.Disk.view l.fn.station).disk_faults;
   whole : g.L.Log.is_broken l.node.log ≡ false;
-  counted : l.node.ledger.state.changes ≡ g.L.Log.size l.node.log;
+  counted : IsCounted g.L.Log.size g.L.Log.keeps_body l.node;
   small : l.sum.taken + l.sum.dropped ≤ 2 * l.peer-index;
   few : l.sum.lost ≤ 2 * l.peer-index;
 }

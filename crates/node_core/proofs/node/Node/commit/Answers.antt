@@ -1,4 +1,9 @@
-use Rattle.std.proofs.Common.{◌≡◌, [], refl, sym, ◌∙◌, rules}
+use Rattle.std.proofs.Common.{◌≡◌, ◌≤◌, ℕ, ◌+◌, true, [], refl, sym, ◌∙◌, ap, subst, arith, rules}
+use Rattle.std.proofs.lemmas.Bool.{and_parts}
+use Rattle.psb_model.specs.State.{State}
+use Rattle.psb_model.specs.Conditions.{allowed}
+use Rattle.node_core.specs.Names.{Enters}
+use Rattle.node_core.proofs.Entered.{names_same, is_new, there_same, there_grown}
 use Rattle.std.specs.Option.{unwrap_or}
 use Rattle.psb_station.proofs.Spans.{shows_wider}
 use Rattle.psb_model.specs.Effects.{after}
@@ -7,10 +12,24 @@ use Rattle.node_core.proofs.Committing.{knows_still, step_knows, step_stored, st
 use Rattle.node_core.proofs.Presence.{on_err}
 use Rattle.node_core.proofs.node.Node.commit.Goals as goal
 
-pub returns-in_err-note_body-clause-kept : goal.returns-in_err-note_body-clause-kept
-returns-in_err-note_body-clause-kept g c = on_err c.from_residual-in_err-note_body.result _ (λ whole. (
-  λ n k. knows_still c.args.self.now _ n c.in_ok-make_room.ensures.state c.in_err-note_body.ensures.err (record { own = refl; seed = refl; keys = refl }) k,
-  λ tells h s. stored_room g.L.Log.holds c.args.self.now _ h _ c.in_ok-make_room-2.ensures.holds s,
+pub enter-requires-clause-fresh : goal.enter-requires-clause-fresh
+enter-requires-clause-fresh g c =
+    let n = c.requires.known.0 in
+    let k = c.requires.known.1 in
+    let node = c.args.self.now in
+    is_new c.make_room-2.new.self n.history node.ledger.state c.args.change.now (names_same node.names c.make_room-2.new.self n.history (record { owners = c.make_room-2.ensures.owners; records = c.make_room-2.ensures.records }) k.names) k.ledger c.requires.may.read
+    (and_parts _ (allowed node.ledger.state c.args.change.now) c.requires.may.may).1
+
+pub returns-in_err-make_room-2-clause-kept : goal.returns-in_err-make_room-2-clause-kept
+returns-in_err-make_room-2-clause-kept g c = on_err c.from_residual-in_err-make_room-2.result _ (λ whole. (
+  λ n k. knows_still c.args.self.now _ n c.in_ok-make_room.ensures.state (record { owners = c.make_room-2.ensures.owners; records = c.make_room-2.ensures.records }) (record { peers = refl; seed = refl; issued = omega arith }) k,
+  λ tells h s. stored_room g.L.Log.holds c.args.self.now _ h _ (λ es i held. held) s,
+))
+
+pub returns-in_err-make_room-3-clause-kept : goal.returns-in_err-make_room-3-clause-kept
+returns-in_err-make_room-3-clause-kept g c = on_err c.from_residual-in_err-make_room-3.result _ (λ whole. (
+  λ n k. knows_still c.args.self.now _ n c.in_ok-make_room.ensures.state (record { owners = c.make_room-2.ensures.owners; records = c.make_room-2.ensures.records }) (record { peers = refl; seed = refl; issued = omega arith }) k,
+  λ tells h s. stored_room g.L.Log.holds c.args.self.now _ h _ c.make_room-3.ensures.holds s,
 ))
 
 pub returns-in_err-number-clause-any_moment : goal.returns-in_err-number-clause-any_moment
@@ -18,24 +37,40 @@ returns-in_err-number-clause-any_moment g c = λ tells n m valid step s.
     let head_is : c.deref.result.now ≡ head_of c.args.change.now = search rules in
     let body_is : c.unwrap_or-body.result.now ≡ unwrap_or (body_of c.args.change.now) [] = search rules in
     step_leaves g.L.Log.holds g.L.Log.stands c.args.self.now n m c.args.change.now c.deref.result.now c.unwrap_or-body.result.now _ _ _ _ c.requires.may valid step head_is body_is s
-    (c.in_err-number.ensures.any_moment (c.in_ok-make_room-2.ensures.broken ∙ c.requires.whole) tells s.records (shows_wider (g.L.Log.holds c.args.self.now.log s.records) (g.L.Log.holds c.make_room-2.new.self s.records) _ (λ i held. c.in_ok-make_room-2.ensures.holds s.records i held) s.shows))
+    (c.in_err-number.ensures.any_moment (c.in_ok-make_room-3.ensures.broken ∙ c.requires.whole) tells s.records (shows_wider (g.L.Log.holds c.args.self.now.log s.records) (g.L.Log.holds c.make_room-3.new.self s.records) _ (λ i held. c.in_ok-make_room-3.ensures.holds s.records i held) s.shows))
 
 pub returns-clause-step : goal.returns-clause-step
 returns-clause-step g c = λ n m k step.
     let grown : c.apply.new.self.state ≡ after c.args.self.now.ledger.state c.args.change.now = search rules in
-    step_knows c.args.self.now _ n m c.args.change.now c.count.result c.requires.may k step grown c.in_ok-note_body.ensures.noted
-    (c.requires.counted ∙ sym c.in_ok-make_room-2.ensures.size ∙ sym c.count.ensures.value) (record { own = refl; seed = refl; keys = refl })
+    let issued : c.apply.new.self.state.issued ≤ c.issue_to.new.claims.issued = omega (arith, c.issued.ensures, c.issue_to.ensures.issued) in
+    step_knows c.args.self.now _ n m c.args.change.now c.make_room-2.new.self c.in_ok-number.number c.requires.may k step grown (record { owners = c.make_room-2.ensures.owners; records = c.make_room-2.ensures.records }) c.enter.ensures
+    (c.requires.counted.changes ∙ sym c.in_ok-make_room-3.ensures.size ∙ sym c.in_ok-number.ensures.number) (record { peers = refl; seed = c.issue_to.ensures.seed; issued = c.issue_to.ensures.stay }) issued
+
+pub returns-clause-counted : goal.returns-clause-counted
+returns-clause-counted g c =
+    let node = c.args.self.now in
+    let grown : c.apply.new.self.state ≡ after node.ledger.state c.args.change.now = search rules in
+    let long : g.L.Log.size c.append.new.self ≡ g.L.Log.size node.log + 1 = c.in_ok-number.ensures.size ∙ ap (λ (i : ℕ). i + 1) c.in_ok-make_room-3.ensures.size in
+    let here : c.in_ok-number.number ≡ g.L.Log.size node.log = c.in_ok-number.ensures.number ∙ c.in_ok-make_room-3.ensures.size in
+    record {
+      changes = omega (arith, ap (λ (s : State). s.changes) grown, c.requires.counted.changes, long);
+      bodies = there_grown c.make_room-2.new.self c.enter.new.names c.args.change.now (g.L.Log.size node.log) (g.L.Log.size c.append.new.self) (g.L.Log.keeps_body node.log) (g.L.Log.keeps_body c.append.new.self) c.requires.may.read long
+          (λ i lt. c.in_ok-number.ensures.bodies i (omega (arith, lt, c.in_ok-make_room-3.ensures.size)) ∙ c.in_ok-make_room-3.ensures.bodies i)
+          (subst (λ (i : ℕ). g.L.Log.keeps_body c.append.new.self i ≡ true) c.in_ok-make_room-3.ensures.size c.in_ok-number.ensures.there)
+          (there_same node.names c.make_room-2.new.self (g.L.Log.size node.log) (g.L.Log.keeps_body node.log) (record { owners = c.make_room-2.ensures.owners; records = c.make_room-2.ensures.records }) c.requires.counted.bodies)
+          (subst (λ (i : ℕ). Enters c.make_room-2.new.self c.enter.new.names c.args.change.now i) here c.enter.ensures);
+    }
 
 pub returns-clause-disk : goal.returns-clause-disk
 returns-clause-disk g c = λ tells n m step s.
     let head_is : c.deref.result.now ≡ head_of c.args.change.now = search rules in
     let body_is : c.unwrap_or-body.result.now ≡ unwrap_or (body_of c.args.change.now) [] = search rules in
     step_stored g.L.Log.holds c.args.self.now _ n m c.args.change.now c.deref.result.now c.unwrap_or-body.result.now _ _ c.requires.may step head_is body_is s
-    (c.in_ok-number.ensures.added tells s.records (shows_wider (g.L.Log.holds c.args.self.now.log s.records) (g.L.Log.holds c.make_room-2.new.self s.records) _ (λ i held. c.in_ok-make_room-2.ensures.holds s.records i held) s.shows))
+    (c.in_ok-number.ensures.added tells s.records (shows_wider (g.L.Log.holds c.args.self.now.log s.records) (g.L.Log.holds c.make_room-3.new.self s.records) _ (λ i held. c.in_ok-make_room-3.ensures.holds s.records i held) s.shows))
 
 pub returns-clause-any_moment : goal.returns-clause-any_moment
 returns-clause-any_moment g c = λ tells n m valid step s.
     let head_is : c.deref.result.now ≡ head_of c.args.change.now = search rules in
     let body_is : c.unwrap_or-body.result.now ≡ unwrap_or (body_of c.args.change.now) [] = search rules in
     step_leaves g.L.Log.holds g.L.Log.stands c.args.self.now n m c.args.change.now c.deref.result.now c.unwrap_or-body.result.now _ _ _ _ c.requires.may valid step head_is body_is s
-    (c.in_ok-number.ensures.any_moment (c.in_ok-make_room-2.ensures.broken ∙ c.requires.whole) tells s.records (shows_wider (g.L.Log.holds c.args.self.now.log s.records) (g.L.Log.holds c.make_room-2.new.self s.records) _ (λ i held. c.in_ok-make_room-2.ensures.holds s.records i held) s.shows))
+    (c.in_ok-number.ensures.any_moment (c.in_ok-make_room-3.ensures.broken ∙ c.requires.whole) tells s.records (shows_wider (g.L.Log.holds c.args.self.now.log s.records) (g.L.Log.holds c.make_room-3.new.self s.records) _ (λ i held. c.in_ok-make_room-3.ensures.holds s.records i held) s.shows))

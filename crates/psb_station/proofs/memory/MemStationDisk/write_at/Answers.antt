@@ -1,7 +1,6 @@
-use Rattle.std.proofs.Common.{◌≡◌, ◌+◌, ◌≤◌, ◌++◌, [], ◌∷◌, List, ℕ, length, refl, sym, ap, subst, arith, length-take}
-use Rattle.psb_station.specs.Past.{ToldBy}
-use Rattle.psb_station.specs.declared.past.Past.{Past}
-use Rattle.psb_station.specs.declared.past.Call.TheVariants.{Write}
+use Rattle.std.proofs.Common.{◌≡◌, ◌+◌, ◌≤◌, ◌++◌, [], ◌∷◌, List, ℕ, length, take, refl, sym, ap, subst, arith, length-take}
+use Rattle.psb_station.specs.Past.{Write, Past, ToldBy}
+use Rattle.psb_station.specs.MemDisk.{past_in}
 use Rattle.psb_station.specs.Replay.{torn_longer}
 use Rattle.psb_station.proofs.Kept.{torn_same, same_time, kept_images, kept_else, kept_keeps, kept_moment, refused_images, refused_since, pushed_ordered}
 use Rattle.psb_station.proofs.memory.MemStationDisk.write_at.Goals as goal
@@ -24,7 +23,7 @@ pub returns-in-Err-clause-writes : goal.returns-in-Err-clause-writes
 returns-in-Err-clause-writes c =
     let d = c.args.self.now.disk in
     let e = c.write.new.self in
-    let is : e.past.items ≡ d.past.items = c.in-Err.ensures.err in
+    let is : past_in e ≡ past_in d = c.in-Err.ensures.err in
     record {
       images = λ i left. (i, refused_images d e c.in-Err.ensures.start is i left, torn_same c.args.at (length c.args.from.now) i);
       time = same_time _ _ (ap (λ (l : List Past). length l + c.args.self.now.told) is)
@@ -38,18 +37,20 @@ returns-in-Err-clause-writes c =
 
 pub invariant_of-self-in-None-clause-ordered : goal.invariant_of-self-in-None-clause-ordered
 invariant_of-self-in-None-clause-ordered c =
-    let r : Past = record { call = Write c.args.at c.in-Ok.ensures.ok.0; number = c.is_due.new.calls; told = c.args.self.now.told } in
-    pushed_ordered c.args.self.now.told c.args.self.now.disk.past.items c.write.new.self.past.items r c.in-Ok.ensures.ok.2 refl c.args.self.now.ordered
+    let from : List ℕ = take c.part_of-part.result c.args.from.now in
+    let r : Past = record { call = Write c.args.at from; number = c.is_due.new.calls; told = c.args.self.now.told } in
+    pushed_ordered c.args.self.now.told (past_in c.args.self.now.disk) (past_in c.write.new.self) r c.in-Ok.ensures.ok refl c.args.self.now.ordered
 
 pub returns-in-None-clause-writes : goal.returns-in-None-clause-writes
 returns-in-None-clause-writes c =
     let d = c.args.self.now.disk in
     let e = c.write.new.self in
-    let r : Past = record { call = Write c.args.at c.in-Ok.ensures.ok.0; number = c.is_due.new.calls; told = c.args.self.now.told } in
-    let is : e.past.items ≡ d.past.items ++ r ∷ [] = c.in-Ok.ensures.ok.2 in
-    let part : length c.in-Ok.ensures.ok.0.items ≤ length c.args.from.now = omega (arith, ap (λ (l : List ℕ). length l) c.in-Ok.ensures.ok.1, length-take c.part_of-part.result c.args.from.now) in
+    let from : List ℕ = take c.part_of-part.result c.args.from.now in
+    let r : Past = record { call = Write c.args.at from; number = c.is_due.new.calls; told = c.args.self.now.told } in
+    let is : past_in e ≡ past_in d ++ r ∷ [] = c.in-Ok.ensures.ok in
+    let part : length from ≤ length c.args.from.now = omega (arith, length-take c.part_of-part.result c.args.from.now) in
     record {
-      images = λ i left. let from = kept_images d e r c.in-Ok.ensures.start is i left in (from.0, from.1, torn_longer c.args.at (length c.in-Ok.ensures.ok.0.items) (length c.args.from.now) from.0 i part from.2);
+      images = λ i left. let was = kept_images d e r c.in-Ok.ensures.start is i left in (was.0, was.1, torn_longer c.args.at (length from) (length c.args.from.now) was.0 i part was.2);
       time = record {
         later = kept_moment d e r c.args.self.now.told is;
         nothing_else = λ t i k le left. kept_else d e r t i k c.in-Ok.ensures.start is left;
@@ -64,18 +65,20 @@ returns-in-None-clause-writes c =
 
 pub invariant_of-self-in-Some-clause-ordered : goal.invariant_of-self-in-Some-clause-ordered
 invariant_of-self-in-Some-clause-ordered c =
-    let r : Past = record { call = Write c.args.at c.in-Ok.ensures.ok.0; number = c.is_due.new.calls; told = c.args.self.now.told } in
-    pushed_ordered c.args.self.now.told c.args.self.now.disk.past.items c.write.new.self.past.items r c.in-Ok.ensures.ok.2 refl c.args.self.now.ordered
+    let from : List ℕ = take c.part_of-part.result c.args.from.now in
+    let r : Past = record { call = Write c.args.at from; number = c.is_due.new.calls; told = c.args.self.now.told } in
+    pushed_ordered c.args.self.now.told (past_in c.args.self.now.disk) (past_in c.write.new.self) r c.in-Ok.ensures.ok refl c.args.self.now.ordered
 
 pub returns-in-Some-clause-writes : goal.returns-in-Some-clause-writes
 returns-in-Some-clause-writes c =
     let d = c.args.self.now.disk in
     let e = c.write.new.self in
-    let r : Past = record { call = Write c.args.at c.in-Ok.ensures.ok.0; number = c.is_due.new.calls; told = c.args.self.now.told } in
-    let is : e.past.items ≡ d.past.items ++ r ∷ [] = c.in-Ok.ensures.ok.2 in
-    let part : length c.in-Ok.ensures.ok.0.items ≤ length c.args.from.now = omega (arith, ap (λ (l : List ℕ). length l) c.in-Ok.ensures.ok.1, length-take c.part_of-part.result c.args.from.now) in
+    let from : List ℕ = take c.part_of-part.result c.args.from.now in
+    let r : Past = record { call = Write c.args.at from; number = c.is_due.new.calls; told = c.args.self.now.told } in
+    let is : past_in e ≡ past_in d ++ r ∷ [] = c.in-Ok.ensures.ok in
+    let part : length from ≤ length c.args.from.now = omega (arith, length-take c.part_of-part.result c.args.from.now) in
     record {
-      images = λ i left. let from = kept_images d e r c.in-Ok.ensures.start is i left in (from.0, from.1, torn_longer c.args.at (length c.in-Ok.ensures.ok.0.items) (length c.args.from.now) from.0 i part from.2);
+      images = λ i left. let was = kept_images d e r c.in-Ok.ensures.start is i left in (was.0, was.1, torn_longer c.args.at (length from) (length c.args.from.now) was.0 i part was.2);
       time = record {
         later = kept_moment d e r c.args.self.now.told is;
         nothing_else = λ t i k le left. kept_else d e r t i k c.in-Ok.ensures.start is left;

@@ -1,0 +1,188 @@
+//! The ledger: the state that a history gives, and what it says of each peer.
+
+ghost use Rattle.std.specs.Prelude.{◌≡◌, ◌+◌, ◌<◌, ◌^◌, ◌&&◌, ◌↔◌, IsTrue, OnOk, OnErr, IsOk, true};
+ghost use Rattle.std.specs.Option.{option_copied};
+ghost use Rattle.psb_model.specs.Words.{has};
+ghost use Rattle.psb_model.specs.State.{row, used, is_held, in_key, held_units, back_units, debt_units, nothing_yet};
+ghost use Rattle.psb_model.specs.Grammar.{in_grammar};
+ghost use Rattle.psb_model.specs.Conditions.{allowed};
+ghost use Rattle.psb_model.specs.Effects.{after};
+ghost use Rattle.psb_model.specs.History.{is_built};
+ghost use Rattle.psb_ledger.specs.View.{HasRoom};
+
+use crate::book::{Balance, Book, NotNow};
+use psb_bytes::{Digest, Memory, Object, PeerId};
+use psb_model::{Change, DebtEntry, InEntry, LastDeal, OutEntry};
+use psb_settings::Settings;
+use std::alloc::Global;
+use std::marker::Model;
+
+/// The state that a history of changes gives, with running sums. What it answers of a peer is
+/// zeros, empty lists or false for an id that is no peer of the settings.
+#[derive(Drop)]
+pub struct Ledger {
+    book: Book,
+}
+
+impl Model for Ledger {
+    ghost use Rattle.std.specs.Prelude.{◌≡◌, true};
+    ghost use Rattle.psb_ledger.specs.View.{LedgerView};
+
+    ghost Value = { LedgerView };
+
+    ghost view = { λ l. l.book };
+
+    ghost invariant = { λ l. l.book.in_blocks ≡ true };
+}
+
+impl Ledger {
+    /// The ledger of the empty history. Takes no memory; what `make_room` takes comes from `alloc`.
+    pub fn new(alloc: Global) -> Ledger
+        ensures { result.state ≡ nothing_yet }
+    {
+        Ledger {
+            book: Book::new(alloc, true),
+        }
+    }
+
+    /// The ledger of a book whose accounts are in blocks.
+    pub(crate) fn of(book: Book) -> Ledger
+        requires { book.in_blocks ≡ true }
+        ensures { result ≡ book }
+    {
+        Ledger { book }
+    }
+
+    /// How many changes were applied.
+    pub fn changes(&self) -> u64
+        ensures { result ≡ self.now.state.changes }
+    {
+        self.book.changes()
+    }
+
+    /// The present settings, None exactly for the empty history.
+    pub fn settings(&self) -> Option<&Settings>
+        ensures { option_copied result ≡ self.now.state.settings }
+    {
+        self.book.settings()
+    }
+
+    /// How many claim numbers were drawn.
+    pub fn issued(&self) -> u32
+        ensures { result ≡ self.now.state.issued }
+    {
+        self.book.issued()
+    }
+
+    /// What the node answers for to all peers, in units of 512 bytes.
+    pub fn used(&self) -> u32
+        ensures { result ≡ used self.now.state }
+    {
+        self.book.used()
+    }
+
+    /// The three numbers of a peer.
+    pub fn balance(&self, peer: PeerId) -> Balance
+        ensures held { result.held ≡ held_units (row self.now.state peer) }
+        ensures back { result.back ≡ back_units (row self.now.state peer) }
+        ensures debt { result.debt ≡ debt_units (row self.now.state peer) }
+        ensures law { result.held ≡ result.back + result.debt }
+    {
+        self.book.balance(peer)
+    }
+
+    /// What the peer lost, in order of booking.
+    pub fn explain(&self, peer: PeerId) -> &[DebtEntry]
+        ensures { result.now ≡ (row self.now.state peer).debts }
+    {
+        match self.book.account(peer) {
+            None => &[],
+            Some(account) => account.debts(),
+        }
+    }
+
+    /// What the node answers for to the peer, in object order.
+    pub fn held_of(&self, peer: PeerId) -> &[InEntry]
+        ensures { result.now ≡ (row self.now.state peer).ins }
+    {
+        match self.book.account(peer) {
+            None => &[],
+            Some(account) => account.ins(),
+        }
+    }
+
+    /// What the node has on the peer, in object order.
+    pub fn out_of(&self, peer: PeerId) -> &[OutEntry]
+        ensures { result.now ≡ (row self.now.state peer).outs }
+    {
+        match self.book.account(peer) {
+            None => &[],
+            Some(account) => account.outs(),
+        }
+    }
+
+    /// The peer's last deal that was taken or refused, and its change; both 0 where there is none.
+    pub fn last(&self, peer: PeerId) -> LastDeal
+        ensures { result ≡ (row self.now.state peer).last }
+    {
+        match self.book.account(peer) {
+            None => LastDeal {
+                number: 0,
+                change: 0,
+            },
+            Some(account) => account.last(),
+        }
+    }
+
+    /// The units of the peer's debt.
+    pub fn debt_units(&self, peer: PeerId) -> u32
+        ensures { result ≡ debt_units (row self.now.state peer) }
+    {
+        match self.book.account(peer) {
+            None => 0,
+            Some(account) => account.debt(),
+        }
+    }
+
+    /// Whether the node answers for the object to the peer.
+    pub fn has_held(&self, peer: PeerId, object: &Object) -> bool
+        ensures { result ≡ has in_key (row self.now.state peer).ins object.now }
+    {
+        match self.book.account(peer) {
+            None => false,
+            Some(account) => account.has(object),
+        }
+    }
+
+    /// Whether a body is held under the name.
+    pub fn is_held(&self, name: &Digest) -> bool
+        ensures { result ≡ is_held self.now.state name.now }
+    {
+        self.book.is_held(name)
+    }
+
+    /// Takes all memory that `apply` of an equal change needs. For a Begun it reads the settings
+    /// text, and keeps what it says, or that it is none.
+    pub fn make_room(&mut self, c: &Change) -> Result<(), Memory>
+        ensures state { self.new.state ≡ self.old.state }
+        ensures room { OnOk result (HasRoom self.new c.now) }
+    {
+        self.book.make_room(c)
+    }
+
+    /// Applies a change. NotNow comes exactly where its kind is not built or its condition does not
+    /// hold, and then nothing changes. Takes no memory.
+    pub fn apply(&mut self, c: &Change) -> Result<(), NotNow>
+        requires grammar { IsTrue (in_grammar c.now) }
+        requires room { HasRoom self.old c.now }
+        requires few { self.old.state.changes < 2 ^ 62 }
+        ensures when { IsTrue (is_built c.now && allowed self.old.state c.now) ↔ IsOk result }
+        ensures ok { OnOk result (self.new.state ≡ after self.old.state c.now) }
+        ensures err { OnErr result (self.new ≡ self.old) }
+    {
+        self.book.apply(c)
+    }
+}
+
+#[cfg(test)]
+mod tests;

@@ -1,0 +1,76 @@
+//! A ledger that is being read up from a history.
+
+ghost use Rattle.std.specs.Prelude.{◌≡◌, ◌<◌, ◌^◌, ◌&&◌, ◌↔◌, IsTrue, OnOk, OnErr, IsOk, IfOk, false};
+ghost use Rattle.psb_model.specs.State.{nothing_yet};
+ghost use Rattle.psb_model.specs.Grammar.{in_grammar};
+ghost use Rattle.psb_model.specs.Conditions.{allowed};
+ghost use Rattle.psb_model.specs.Effects.{after};
+ghost use Rattle.psb_model.specs.History.{is_built};
+ghost use Rattle.psb_ledger.specs.View.{HasRoom};
+
+use crate::book::{Book, NotNow};
+use crate::ledger::Ledger;
+use psb_bytes::Memory;
+use psb_model::Change;
+use std::alloc::Global;
+use std::marker::Model;
+
+/// A ledger that is being read up: it takes changes as a `Ledger` does, each in steps that grow
+/// with the logarithm of what it has, and at the end becomes one.
+#[derive(Drop)]
+pub struct Opening {
+    book: Book,
+}
+
+impl Model for Opening {
+    ghost use Rattle.psb_ledger.specs.View.{LedgerView};
+
+    ghost Value = { LedgerView };
+
+    ghost view = { λ o. o.book };
+}
+
+impl Opening {
+    /// The empty history. Takes no memory; what `make_room` and `finish` take comes from `alloc`.
+    pub fn new(alloc: Global) -> Opening
+        ensures { result.state ≡ nothing_yet }
+    {
+        Opening {
+            book: Book::new(alloc, false),
+        }
+    }
+
+    /// How many changes were applied.
+    pub fn changes(&self) -> u64
+        ensures { result ≡ self.now.state.changes }
+    {
+        self.book.changes()
+    }
+
+    /// As `Ledger::make_room`.
+    pub fn make_room(&mut self, c: &Change) -> Result<(), Memory>
+        ensures state { self.new.state ≡ self.old.state }
+        ensures room { OnOk result (HasRoom self.new c.now) }
+    {
+        self.book.make_room(c)
+    }
+
+    /// As `Ledger::apply`.
+    pub fn apply(&mut self, c: &Change) -> Result<(), NotNow>
+        requires grammar { IsTrue (in_grammar c.now) }
+        requires room { HasRoom self.old c.now }
+        requires few { self.old.state.changes < 2 ^ 62 }
+        ensures when { IsTrue (is_built c.now && allowed self.old.state c.now) ↔ IsOk result }
+        ensures ok { OnOk result (self.new.state ≡ after self.old.state c.now) }
+        ensures err { OnErr result (self.new ≡ self.old) }
+    {
+        self.book.apply(c)
+    }
+
+    /// The ledger of the same history. Each entry is moved once.
+    pub fn finish(self) -> Result<Ledger, Memory>
+        ensures { IfOk result (λ l. l.state ≡ self.state) }
+    {
+        Ok(Ledger::of(self.book.into_blocks()?))
+    }
+}

@@ -1,0 +1,130 @@
+#!/usr/bin/env python3
+"""Times a node that has long histories: how it opens them, and how many Stores it answers. Not a part of the gate.
+
+    tests/bench/node.py [PROGRAM]     times crates/psb/out/psb, or the program that is named
+
+Writes the images by the formats of docs/FORMATS.md in memory (/dev/shm), opens each by `ledger`, and then
+serves peers that send Stores one after another, each when the one before it was answered.
+"""
+
+import hashlib
+import hmac
+import os
+import socket
+import struct
+import subprocess
+import sys
+import tempfile
+import time
+
+TOP = os.path.dirname(os.path.dirname(os.path.dirname(os.path.abspath(__file__))))
+PROGRAM = os.path.join(TOP, "crates", "psb", "out", "psb")
+MEMORY = "/dev/shm"
+NODE, STORE, ACCEPTED, TOOK_FRESH = 1, 1, 4, 5
+
+
+def sha(data):
+    return hashlib.sha256(data).digest()
+
+
+def key(peer):
+    return sha(b"bench key %d" % peer)
+
+
+def chunk(number, size):
+    """Bytes of which no two numbers have the same."""
+    return struct.pack(">Q", number) + bytes(size - 8)
+
+
+def settings(port, peers):
+    text = f'id = {NODE}\naddress = "127.0.0.1:{port}"\nseed = "{bytes(range(32)).hex()}"\ncapacity = 2147483648\n'
+    for peer, at in peers:
+        text += f'[[peer]]\nid = {peer}\naddress = "127.0.0.1:{at}"\nkey = "{key(peer).hex()}"\n'
+    return text.encode()
+
+
+def record(head, body):
+    return b"\x01" + struct.pack(">II", len(head), len(body)) + head + body
+
+
+def took(peer, deal, slot, body):
+    return record(struct.pack(">BIQ", TOOK_FRESH, peer, deal) + sha(body) + struct.pack(">IIB", slot, len(body), 1), body)
+
+
+def write_image(path, text, changes, peers):
+    """A node that took so many chunks of one unit, in turn of each peer."""
+    with open(path, "wb") as disk:
+        disk.write(b"PSBLOG01" + bytes(8) + record(b"\x01", text))
+        for number in range(changes):
+            disk.write(took(peers[number % len(peers)], number // len(peers) + 1, number, chunk(number, 512)))
+        disk.write(b"\x00")
+
+
+def store(peer, deal, body):
+    text = sha(body) + struct.pack(">HI", 0, len(body)) + body
+    head = struct.pack(">4sB3xIIQI", b"PSB1", STORE, peer, NODE, deal, len(text))
+    return head + text + hmac.new(key(peer), head + text, hashlib.sha256).digest()
+
+
+def opened(program, path):
+    """Seconds that `ledger` takes, and its memory at most."""
+    began = time.monotonic()
+    child = subprocess.Popen([program, path, "ledger"], stdout=subprocess.DEVNULL)
+    _, status, used = os.wait4(child.pid, 0)
+    if status:
+        raise SystemExit(f"ledger ended with {status}")
+    return time.monotonic() - began, used.ru_maxrss / 1024
+
+
+def answered(program, path, port, link, first, count, size):
+    """Seconds from the first Store to the last answer, and for the first one alone."""
+    serving = subprocess.Popen([program, path, "serve", str(count + 40)], stdout=subprocess.DEVNULL)
+    try:
+        link.settimeout(0.25)
+        frames = [store(2, first + i, chunk(10**12 + 10**6 * size + first + i, size)) for i in range(count)]
+        began = time.monotonic()
+        alone = None
+        for frame in frames:
+            while True:
+                link.sendto(frame, ("127.0.0.1", port))
+                try:
+                    answer = link.recv(65536)
+                    break
+                except (TimeoutError, ConnectionRefusedError):
+                    continue
+            if answer[4] != ACCEPTED:
+                raise SystemExit(f"a Store was answered by kind {answer[4]}")
+            alone = alone or time.monotonic() - began
+        return time.monotonic() - began, alone
+    finally:
+        serving.kill()
+        serving.wait()
+
+
+def free_port():
+    with socket.socket(socket.AF_INET, socket.SOCK_DGRAM) as it:
+        it.bind(("127.0.0.1", 0))
+        return it.getsockname()[1]
+
+
+def main():
+    program = sys.argv[1] if len(sys.argv) > 1 else PROGRAM
+    with tempfile.TemporaryDirectory(dir=MEMORY) as folder, socket.socket(socket.AF_INET, socket.SOCK_DGRAM) as link:
+        link.bind(("127.0.0.1", 0))
+        port, there = free_port(), link.getsockname()[1]
+        path = os.path.join(folder, "node.img")
+        ten = [(peer, 40000 + peer) for peer in range(2, 12)]
+        for changes, peers in ((100_000, [(2, there)]), (200_000, [(2, there)]), (300_000, [(2, there)]), (300_000, ten)):
+            write_image(path, settings(port, peers), changes, [peer for peer, _ in peers])
+            seconds, memory = opened(program, path)
+            print(f"opened {changes} changes of {len(peers)} peer(s): {seconds:.2f} s, {memory:.0f} MiB", flush=True)
+        for changes in (0, 3_000, 30_000, 300_000):
+            for size, count in ((512, 2_000), (32_768, 400)):
+                write_image(path, settings(port, [(2, there)]), changes, [2])
+                seconds, alone = answered(program, path, port, link, changes + 1, count, size)
+                rate = (count - 1) / (seconds - alone)
+                print(f"behind {changes} units, Stores of {size} bytes: {rate:.0f} a second; the first after {alone:.2f} s", flush=True)
+
+
+if __name__ == "__main__":
+    main()
