@@ -76,22 +76,29 @@ def opened(program, path):
     return time.monotonic() - began, used.ru_maxrss / 1024
 
 
+def answer_to(link, port, frame, deal):
+    """The answer to a Store, which is sent again until it comes. Answers to earlier ones are passed over."""
+    link.sendto(frame, ("127.0.0.1", port))
+    while True:
+        try:
+            answer = link.recv(65536)
+        except TimeoutError:
+            link.sendto(frame, ("127.0.0.1", port))
+            continue
+        if struct.unpack(">Q", answer[16:24])[0] == deal:
+            return answer
+
+
 def answered(program, path, port, link, first, count, size):
     """Seconds from the first Store to the last answer, and for the first one alone."""
-    serving = subprocess.Popen([program, path, "serve", str(count + 40)], stdout=subprocess.DEVNULL)
+    serving = subprocess.Popen([program, path, "serve", str(count + 10_000)], stdout=subprocess.DEVNULL)
     try:
         link.settimeout(0.25)
         frames = [store(2, first + i, chunk(10**12 + 10**6 * size + first + i, size)) for i in range(count)]
         began = time.monotonic()
         alone = None
-        for frame in frames:
-            while True:
-                link.sendto(frame, ("127.0.0.1", port))
-                try:
-                    answer = link.recv(65536)
-                    break
-                except (TimeoutError, ConnectionRefusedError):
-                    continue
+        for deal, frame in enumerate(frames, first):
+            answer = answer_to(link, port, frame, deal)
             if answer[4] != ACCEPTED:
                 raise SystemExit(f"a Store was answered by kind {answer[4]}")
             alone = alone or time.monotonic() - began
