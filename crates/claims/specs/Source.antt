@@ -9,6 +9,12 @@ pub record Source : Type 0 where
   pub issued : ℕ
   pub walked : ℕ
 
+-- claims of a seed in turn: the number of the next one, and the first number that was not issued
+pub record Run : Type 0 where
+  pub seed : List ℕ
+  pub number : ℕ
+  pub end : ℕ
+
 -- no number in from..end has a claim with this body
 abbrev pub HasNone : List ℕ → List ℕ → ℕ → ℕ → Type 0
 HasNone seed body from end = (j : ℕ) → from ≤ j → j < end → claim seed j ≢ body

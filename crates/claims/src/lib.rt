@@ -4,9 +4,11 @@
 
 mod chain;
 mod index;
+mod run;
 mod source;
 mod walk;
 
+pub use run::ClaimRun;
 pub use source::{ClaimSource, IssueError};
 
 #[cfg(test)]

@@ -2,6 +2,7 @@ ghost use Rattle.std.specs.Prelude.{◌≡◌, ◌↔◌, ◌+◌, ◌-◌, ◌<
 ghost use Rattle.psb_digest.specs.Claims.{claim};
 ghost use Rattle.claims.specs.Source.{HasNone, IsHome};
 
+use crate::run::ClaimRun;
 use crate::walk::Walk;
 use psb_bytes::{Digest, Memory};
 use std::alloc::Global;
@@ -75,6 +76,15 @@ impl ClaimSource {
         ensures { result ≡ claim self.now.seed i }
     {
         self.walk.claim(i)
+    }
+
+    /// The claims from the one of this number on, in turn. The first costs what one claim does, each
+    /// further one 16 hashes. Takes no memory.
+    pub fn run_from(&self, i: u32) -> ClaimRun<'_>
+        requires { i ≤ self.now.issued }
+        ensures { result ≡ record { seed = self.now.seed; number = i; end = self.now.issued } }
+    {
+        self.walk.run_from(i, self.issued)
     }
 
     /// The least number that was issued whose claim is the body. Takes no memory. Of the walked

@@ -24,6 +24,17 @@ fn hash_of(source: &ClaimSource, i: u32) -> Option<Digest> {
     }
 }
 
+// Whether two claims from a number on have the bytes that each has by itself.
+fn run_agrees(source: &ClaimSource, i: u32) -> bool {
+    if source.issued() < 2 || i > source.issued() - 2 {
+        return false;
+    }
+    let mut run = source.run_from(i);
+    let first = run.next_claim();
+    let second = run.next_claim();
+    first == source.claim(i) && second == source.claim(i + 1)
+}
+
 #[test]
 fn claims_are_those_of_the_seed(rt: HostRuntime) -> Result<(), Fail> {
     let mut source = new_source(rt.alloc())?;
@@ -46,6 +57,9 @@ fn claims_are_those_of_the_seed(rt: HostRuntime) -> Result<(), Fail> {
         source.walk(budget)?;
         for (i, want) in rows {
             assert_eq!(rt; hash_of(&source, i), Some(digest(want)?), "claim {i}");
+        }
+        for i in [0, 15, 16, 298] {
+            assert!(rt; run_agrees(&source, i), "claims {i} and behind it");
         }
     }
     assert_eq!(rt; source.walk(1)?, 0);

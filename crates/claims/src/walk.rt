@@ -8,6 +8,7 @@ ghost use Rattle.claims.specs.Source.{HasNone, IsHome};
 
 use crate::chain::Chain;
 use crate::index::Index;
+use crate::run::ClaimRun;
 use psb_bytes::{Digest, Memory};
 use std::alloc::Global;
 use std::marker::Model;
@@ -62,6 +63,14 @@ impl Walk {
         ensures { result ≡ self.now.count }
     {
         self.count
+    }
+
+    /// The claims from number i on, by the last known link in front of it.
+    pub(crate) fn run_from(&self, i: u32, end: u32) -> ClaimRun<'_>
+        ensures { result ≡ record { seed = self.now.seed; number = i; end = end } }
+    {
+        let (from, link) = self.known_before(i);
+        ClaimRun::new(&self.chain, i, end, self.chain.skip(link, i - from))
     }
 
     /// Claim i, from the last known link in front of it on.

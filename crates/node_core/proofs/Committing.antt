@@ -110,6 +110,15 @@ same_counted size keeps old new same c = record {
   bodies = λ q k here. subst (λ l. (k < size l) × (keeps l k ≡ true)) (sym same.log) (c.bodies q k (sym (ap (λ (s : Store). record_of s q) same.names) ∙ here));
 }
 
+-- and where the log has as many records, and keeps the same bodies
+pub counted_still : {L : Type 0} (size : L → ℕ) (keeps : L → ℕ → Bool) (old new : Node L) → new.ledger.state ≡ old.ledger.state → SameNames old.names new.names → size new.log ≡ size old.log → ((i : ℕ) → keeps new.log i ≡ keeps old.log i) → IsCounted size keeps old → IsCounted size keeps new
+counted_still size keeps old new same names sized kept c = record {
+  changes = ap (λ (s : State). s.changes) same ∙ c.changes ∙ sym sized;
+  bodies = λ q k here.
+      let there = c.bodies q k (sym (names.records q) ∙ here) in
+      (subst (λ (i : ℕ). k < i) (sym sized) there.0, kept k ∙ there.1);
+}
+
 -- ---- what the disk holds after it
 
 -- with one change more it is the history with that change, less the same bodies

@@ -88,7 +88,7 @@ impl Peers {
         &self.own
     }
 
-    /// How many peers there are, 1 to 64.
+    /// How many peers there are, one at least.
     pub fn count(&self) -> usize
         ensures { result ≡ length self.now.rows }
     {

@@ -1,6 +1,7 @@
-ghost use Rattle.std.specs.Prelude.{◌≡◌, ℕ, ◌⊎◌, ◌+◌, ◌≤◌, [], ◌∷◌, Some, true, false, if◌then◌else◌, is_some, is_ok, IfOk, IsOk, OnOk, OnErr, length};
+ghost use Rattle.std.specs.Prelude.{◌≡◌, ℕ, ◌⊎◌, ◌+◌, ◌*◌, ◌≤◌, [], ◌∷◌, Some, true, false, if◌then◌else◌, is_some, is_ok, IfOk, IsOk, OnOk, OnErr, length};
 ghost use Rattle.psb_station.specs.Calls.{Rose};
 ghost use Rattle.psb_station.specs.Span.{Tells_bytes};
+ghost use Rattle.psb_settings.specs.Settings.{most_peers};
 ghost use Rattle.psb_machine.specs.Machine.{Situation};
 ghost use Rattle.psb_machine.specs.Course.{Absorb, datagrams};
 ghost use Rattle.psb_machine.specs.Commands.{ticks};
@@ -168,7 +169,7 @@ fn tick_all<L: Log, S: Station>(
     requires ready { IsReady L.holds node.old (S.view station.old) }
     requires whole { L.is_broken node.old.log ≡ false }
     requires counted { IsCounted L.size L.keeps_body node.old }
-    requires few { length peers.now ≤ 64 }
+    requires few { length peers.now ≤ most_peers }
     ensures tells { Tells_bytes (S.view station.new) → Tells_bytes (S.view station.old) }
     ensures fed { Tells_bytes (S.view station.new) → (n : Situation) → Knows node.old n → Stored L.holds node.old n.history (S.view station.old)
         → Fed L.holds L.stands L.is_broken node.old node.new (S.view station.old) (S.view station.new) n (ticks peers.now) (turned_counts result) (is_ok result) }
@@ -178,7 +179,7 @@ fn tick_all<L: Log, S: Station>(
     ensures whole { OnOk result (L.is_broken node.new.log ≡ false) }
     ensures unbroken { result ≡ Err ServeFault.Memory → L.is_broken node.new.log ≡ false }
     ensures counted { OnOk result (IsCounted L.size L.keeps_body node.new) }
-    ensures small { IfOk result (λ t. (t.taken + t.dropped ≤ 128) × (t.lost ≤ 128)) }
+    ensures small { IfOk result (λ t. (t.taken + t.dropped ≤ 2 * most_peers) × (t.lost ≤ 2 * most_peers)) }
     ensures disk_cause { result ≡ Err (ServeFault.Node fault.DiskFault) → Rose (S.view station.old).disk_faults (S.view station.new).disk_faults }
     ensures steady { (result ≡ Err (ServeFault.Node fault.DiskFault)) ⊎ ((S.view station.new).disk_faults ≡ (S.view station.old).disk_faults) }
     ensures stops { OnErr result (end_of result ≡ Stopped) }
@@ -213,7 +214,7 @@ pub fn turn<L: Log, S: Station>(
     requires ready { IsReady L.holds node.old (S.view station.old) }
     requires whole { L.is_broken node.old.log ≡ false }
     requires counted { IsCounted L.size L.keeps_body node.old }
-    requires few { length peers.now ≤ 64 }
+    requires few { length peers.now ≤ most_peers }
     ensures tells { Tells_bytes (S.view station.new) → Tells_bytes (S.view station.old) }
 
     // It receives once and asks the clock once, whatever the disk is, and absorbs what comes of it.

@@ -11,12 +11,14 @@
 //! - `file PATH HEX`, `folder PATH`
 //! - `run WORD ..`
 //! - `left N OUTCOME`, where OUTCOME is 0, 1 or 2
+//! - `body NAME`, where NAME is 64 digits
 //! - `tree`
 use crate::stop::Stop;
 use crate::words::{
     Outcome, read_folder_call, read_hex, read_ordinal, read_outcome, read_station_call,
 };
 use backup_cli::read_number;
+use psb_bytes::{Digest, read_digest};
 use psb_station::{CallKind, Planned, StationCall};
 use std::alloc::Global;
 
@@ -43,6 +45,8 @@ pub enum Command<'a> {
     Run(Vec<String>),
     /// The image becomes what a crash at this change of the disk in the last run leaves.
     Left(u64, Outcome),
+    /// The body that the image's node holds under a name is read twice, and what came of it is printed.
+    Body(Digest),
     /// What the folder holds is printed.
     Tree,
 }
@@ -71,6 +75,7 @@ fn read_short<'a>(alloc: Global, first: &str, rest: &[&'a str]) -> Result<Comman
         ("file", [path, bytes]) => Ok(Command::File(path, read_hex(alloc, bytes)?)),
         ("folder", [path]) => Ok(Command::Folder(path)),
         ("left", [number, outcome]) => read_left(number, outcome),
+        ("body", [name]) => Ok(Command::Body(read_digest(name).ok_or(Stop::Outside)?)),
         ("tree", []) => Ok(Command::Tree),
         _ => Err(Stop::Outside),
     }

@@ -3,14 +3,17 @@
 //! line's number, and ends with status 1.
 #![tactic(auto)]
 
+mod bodies;
 mod command;
 mod report;
 mod stop;
 mod words;
 mod world;
 
+use bodies::{failing_disk, find_twice};
 use command::{Command, read_command};
-use report::{print_left, print_run, print_tree};
+use psb_bytes::Digest;
+use report::{print_found, print_left, print_run, print_tree};
 use std::alloc::Global;
 use std::io;
 use std::io::{BufRead, BufReader, BufWriter, Write};
@@ -40,6 +43,7 @@ fn obey<W: Write>(
         Command::Folder(path) => world.put_folder(path)?,
         Command::Run(words) => run(alloc, world, out, &words)?,
         Command::Left(change, outcome) => leave(alloc, world, out, change, outcome)?,
+        Command::Body(name) => find(alloc, world, out, &name)?,
         Command::Tree => print_tree(alloc, out, &world.folder)?,
     }
     Ok(())
@@ -70,6 +74,16 @@ fn leave<W: Write>(
         writeln!(out, "left none")?;
         Ok(())
     }
+}
+
+/// Reads a body from a disk that fails, and then from the image, and prints what came of each.
+fn find<W: Write>(alloc: Global, world: &World, out: &mut W, name: &Digest) -> Result<(), Stop> {
+    let mut failing = failing_disk(alloc)?;
+    let mut disk = world.disk()?;
+    let mut body = Vec::new(alloc);
+    let [first, second] = find_twice(alloc, &mut disk, &mut failing, name, &mut body)?;
+    print_found(alloc, out, first, &body)?;
+    print_found(alloc, out, second, &body)
 }
 
 /// Reads a line, and does what it asks for.

@@ -6,9 +6,13 @@
 //! - `joined ID ADDRESS` for each node that the link was told of, in order
 //! - `image LENGTH SHA256`, what the disk reads
 //!
+//! After `body` two lines, of a disk all of whose calls fail, and of the image: `body LENGTH SHA256`,
+//! `body none` where none is held under the name, or `body fault`.
+//!
 //! After `left` the line `left LENGTH SHA256`, or `left none` where the last run made fewer calls that
 //! write. For `tree` a line `tree PATH folder` or `tree PATH LENGTH SHA256` for each entry below the
 //! root, paths ascending by their bytes.
+use crate::bodies::Found;
 use crate::stop::Stop;
 use backup_cli::Status;
 use psb_bytes::digest_text;
@@ -81,6 +85,22 @@ pub fn print_run<W: Write>(
 pub fn print_left<W: Write>(alloc: Global, out: &mut W, image: &[u8]) -> Result<(), Stop> {
     write!(out, "left")?;
     print_bytes(alloc, out, image)
+}
+
+/// What came of reading a body.
+pub fn print_found<W: Write>(
+    alloc: Global,
+    out: &mut W,
+    found: Found,
+    body: &[u8],
+) -> Result<(), Stop> {
+    write!(out, "body")?;
+    match found {
+        Found::Body => print_bytes(alloc, out, body)?,
+        Found::Nothing => writeln!(out, " none")?,
+        Found::Fault => writeln!(out, " fault")?,
+    }
+    Ok(())
 }
 
 /// What the folder holds.

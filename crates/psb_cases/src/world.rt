@@ -79,6 +79,14 @@ impl World {
         station
     }
 
+    /// A disk of the image alone, on which nothing fails.
+    pub fn disk(&self) -> Result<MemStation, Memory> {
+        let alloc = self.alloc;
+        let image = Vec::from_slice(alloc, &self.image)?;
+        let clock = Vec::new(alloc);
+        Ok(MemStation::new(alloc, image, Vec::new(alloc), clock, Vec::new(alloc)))
+    }
+
     /// Runs the program with these words, and keeps the station that it was run over.
     pub fn run(&mut self, words: &[String]) -> Result<(Status, &MemStation), Memory> {
         let mut station = self.take_station();

@@ -17,11 +17,11 @@ pub fn claims_from(
     ensures { IfOk result (λ l. l ≡ claims_from source.now.seed first count) }
 {
     let mut list = Vec::with_capacity(alloc, count as usize)?;
+    let mut run = source.run_from(first);
     for i in 0..count {
-        let slot = first + i;
         list.push(SlotClaim {
-            slot,
-            bytes: source.claim(slot),
+            slot: first + i,
+            bytes: run.next_claim(),
         })?;
     }
     Ok(Items::from_vec(list))

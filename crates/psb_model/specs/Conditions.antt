@@ -20,7 +20,7 @@ use Rattle.psb_model.specs.declared.entries.InState.TheVariants as at
 use Rattle.psb_model.specs.declared.change.Change.{Change}
 use Rattle.psb_model.specs.declared.change.Change.TheVariants.{Begun, Kept, Snapped, Forgot, TookFresh, TookSwap, LetGo, LetGoBack, Replaced, Refused, Proposed, Settled, Turned, Asked, Passed, Failed, Declined, Discarded, Chose}
 use Rattle.psb_settings.specs.Settings.{settings_of}
-use Rattle.psb_model.specs.Words.{units, object_eq, all_of, name_listed, has, has_so, units_at}
+use Rattle.psb_model.specs.Words.{units, object_eq, all_of, has, has_so, units_at}
 use Rattle.psb_model.specs.State.{Row, State, row, is_peer, in_key, in_size, out_key, out_size, debt_key, debt_units, own_has, own_marked, own_len, is_held, is_wanted, is_barred, snaps_made, tied_in, tied_out, used}
 use Rattle.psb_model.specs.Discards.{discards}
 use Rattle.psb_model.specs.Candidates.{in_select_order, distinct_peers}

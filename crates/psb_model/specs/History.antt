@@ -1,14 +1,13 @@
 -- What a history gives, which histories obey the table, and what is proved of all of them.
-use Rattle.std.specs.Prelude.{◌≡◌, ◌≤◌, ℕ, ◌+◌, Bool, true, false, not, ◌&&◌, ◌==◌, List, [], ◌∷◌, ◌++◌, length, Option, Some, None}
+use Rattle.std.specs.Prelude.{◌≡◌, ◌≤◌, ℕ, ◌+◌, Bool, true, false, not, ◌&&◌, ◌==◌, List, [], ◌∷◌, ◌++◌, length}
 use Rattle.psb_bytes.specs.declared.ids.Object.{Object}
 use Rattle.psb_model.specs.declared.entries.DebtEntry.{DebtEntry}
 use Rattle.psb_model.specs.declared.change.Change.{Change}
 use Rattle.psb_model.specs.declared.change.Change.TheVariants.{Begun, TookFresh, Refused, Passed, Failed, Declined}
-use Rattle.psb_settings.specs.declared.settings.Settings.{Settings}
 use Rattle.psb_model.specs.Words.{listed, has, units_at, has_so, occurs, In}
 use Rattle.psb_model.specs.State.{State, nothing_yet, row, held_units, back_units, debt_units, out_key, out_size, debt_key}
 use Rattle.psb_model.specs.Grammar.{in_grammar}
-use Rattle.psb_model.specs.Conditions.{allowed, settings_of_body, declined_objects}
+use Rattle.psb_model.specs.Conditions.{allowed, declined_objects}
 use Rattle.psb_model.specs.Effects.{after, is_whole_listed}
 
 -- the state after some changes more

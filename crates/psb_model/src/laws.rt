@@ -16,7 +16,7 @@ pub fn explanation_law()
 {}
 
 /// After every lawful history and for every peer: each of the three numbers is the sum of what the
-/// changes after_move, by a table of its own.
+/// changes moved, by a table of its own.
 pub fn sums_law()
     ensures { AllAreSums }
 {}

@@ -14,7 +14,7 @@ use Rattle.psb_bytes.specs.Hex.{digest_of_text}
 use Rattle.std.specs.Str.{is_utf8}
 use Rattle.psb_settings.specs.declared.settings.PeerRow.{PeerRow}
 use Rattle.psb_settings.specs.declared.settings.Settings.{Settings}
-use Rattle.psb_settings.specs.Settings.{◌>>=◌, number_within, is_address_byte, is_address, address_of, digest_of, required, optional, or_default, id_in, address_in, has_only_keys, peer_keys, peer_in, peer_of, peers_in, peers_of, settings_keys, are_apart, has_id, have_distinct_ids, settings_in, settings_of, IsAddress, IsDigest, IsPeerRow, IsSettings}
+use Rattle.psb_settings.specs.Settings.{◌>>=◌, number_within, is_address_byte, is_address, address_of, digest_of, required, optional, or_default, id_in, address_in, has_only_keys, peer_keys, peer_in, peer_of, peers_in, peers_of, most_peers, settings_keys, are_apart, has_id, have_distinct_ids, settings_in, settings_of, IsAddress, IsDigest, IsPeerRow, IsSettings}
 use Rattle.psb_settings.proofs.Peers.{key_in, hops_in}
 use Rattle.psb_settings.proofs.Tables.{seed_in, capacity_in, buddies_in, forward_in, peers_at}
 
@@ -130,7 +130,7 @@ peers_in-are (item d ds) ps e =
 -- the peers of a table
 record ArePeers (ps : List PeerRow) : Type 0 where
   some : 1 ≤ length ps
-  few : length ps ≤ 64
+  few : length ps ≤ most_peers
   each : All IsPeerRow ps
 
 peers_of-are : (d : Data) (ps : List PeerRow) → peers_of d ≡ Some ps → ArePeers ps
@@ -138,9 +138,9 @@ peers_of-are d ps e =
     after ArePeers (as_array d) _ ps e
     (λ ds is_array e1. after ArePeers (peers_in ds) _ ps e1
     (λ read are e2.
-    let (sized, same) = cond_some (nat_le 1 (length read) && nat_le (length read) 64) read ps e2 in
-    let (some, few) = and_parts (nat_le 1 (length read)) (nat_le (length read) 64) sized in
-    subst ArePeers same (record { some = leb-true 1 (length read) some; few = leb-true (length read) 64 few; each = peers_in-are ds read are })))
+    let (sized, same) = cond_some (nat_le 1 (length read) && nat_le (length read) most_peers) read ps e2 in
+    let (some, few) = and_parts (nat_le 1 (length read)) (nat_le (length read) most_peers) sized in
+    subst ArePeers same (record { some = leb-true 1 (length read) some; few = leb-true (length read) most_peers few; each = peers_in-are ds read are })))
 
 peers_at-are : (t : Members) (ps : List PeerRow) → peers_at t ≡ Some ps → ArePeers ps
 peers_at-are t ps e = after ArePeers (get_member (codes "peer") t) peers_of ps e (λ d _. peers_of-are d ps)
@@ -163,7 +163,7 @@ settings_in-are t s e =
     let (others, distinct) = and_parts (not (has_id id peers)) (have_distinct_ids peers) apart in
     let range = required-bounds (codes "id") 1 4294967295 t id read_id in
     let room = required-bounds (codes "capacity") 0 2147483648 t capacity read_capacity in
-    let pals = optional-bounds (codes "buddies") 1 64 2 t buddies (omega arith) (omega arith) read_buddies in
+    let pals = optional-bounds (codes "buddies") 1 most_peers 2 t buddies (omega arith) (omega arith) read_buddies in
     let known = peers_at-are t peers read_peers in
     subst IsSettings same (record {
       from_one = range.0;

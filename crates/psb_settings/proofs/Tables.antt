@@ -4,7 +4,7 @@ use Rattle.std.proofs.lemmas.Bool.{and_right}
 use Rattle.toml.specs.Data.{Members, as_bool}
 use Rattle.psb_settings.specs.declared.settings.PeerRow.{PeerRow}
 use Rattle.psb_settings.specs.declared.settings.Settings.{Settings}
-use Rattle.psb_settings.specs.Settings.{required, optional, number_within, digest_of, id_in, address_in, has_only_keys, settings_keys, are_apart, peers_of, settings_in}
+use Rattle.psb_settings.specs.Settings.{required, optional, number_within, digest_of, id_in, address_in, has_only_keys, settings_keys, most_peers, are_apart, peers_of, settings_in}
 use Rattle.psb_settings.proofs.Peers.{to_none}
 
 -- the fields of the table
@@ -15,7 +15,7 @@ abbrev pub capacity_in : Members → Option ℕ
 capacity_in t = required (codes "capacity") (number_within 0 2147483648) t
 
 abbrev pub buddies_in : Members → Option ℕ
-buddies_in t = optional (codes "buddies") (number_within 1 64) 2 t
+buddies_in t = optional (codes "buddies") (number_within 1 most_peers) 2 t
 
 abbrev pub forward_in : Members → Option Bool
 forward_in t = optional (codes "forward") as_bool true t

@@ -86,12 +86,16 @@ peers_in (item d rest) = do
   peers ← peers_in rest
   Some (peer ∷ peers)
 
--- 1 to 64 peers
+-- the most peers that a node has
+abbrev pub most_peers : ℕ
+most_peers = 64
+
+-- one peer at least, and no more than that
 abbrev pub peers_of : Data → Option (List PeerRow)
 peers_of d = do
   array ← as_array d
   peers ← peers_in array
-  if nat_le 1 (length peers) && nat_le (length peers) 64 then Some peers else None
+  if nat_le 1 (length peers) && nat_le (length peers) most_peers then Some peers else None
 
 -- ---- the whole text
 
@@ -117,7 +121,7 @@ settings_in table = do
   address ← address_in table
   seed ← required (codes "seed") digest_of table
   capacity ← required (codes "capacity") (number_within 0 2147483648) table
-  buddies ← optional (codes "buddies") (number_within 1 64) 2 table
+  buddies ← optional (codes "buddies") (number_within 1 most_peers) 2 table
   forward ← optional (codes "forward") as_bool true table
   peers ← required (codes "peer") peers_of table
   if has_only_keys settings_keys table && are_apart id peers
@@ -155,9 +159,9 @@ pub record IsSettings (s : Settings) : Type 0 where
   pub seed : IsDigest s.seed
   pub capacity : s.capacity ≤ 2147483648
   pub some_buddies : 1 ≤ s.buddies
-  pub few_buddies : s.buddies ≤ 64
+  pub few_buddies : s.buddies ≤ most_peers
   pub some_peers : 1 ≤ length s.peers
-  pub few_peers : length s.peers ≤ 64
+  pub few_peers : length s.peers ≤ most_peers
   pub peers : All IsPeerRow s.peers
   pub not_own : has_id s.id s.peers ≡ false
   pub distinct : have_distinct_ids s.peers ≡ true

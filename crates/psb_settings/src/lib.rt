@@ -7,5 +7,5 @@ mod read;
 mod settings;
 
 pub use error::SettingsError;
-pub use read::read_settings;
+pub use read::{MOST_PEERS, read_settings};
 pub use settings::{PeerList, PeerRow, Settings};

@@ -22,7 +22,8 @@ const PEER_KEYS: [&str; 4] = ["id", "address", "key", "hops"];
 
 const MAX_CAPACITY: u32 = 2_147_483_648;
 
-const MAX_PEERS: usize = 64;
+/// The most peers that a node has, and the most buddies.
+pub const MOST_PEERS: u32 = 64;
 
 /// The settings that a text says.
 ///
@@ -32,9 +33,9 @@ const MAX_PEERS: usize = 64;
 /// - `address`: 1 to 253 bytes, each 0x21 to 0x7e;
 /// - `seed`: 64 hexadecimal digits;
 /// - `capacity`: 0 to 2,147,483,648 units of 512 bytes;
-/// - `buddies`: 1 to 64, by default 2;
+/// - `buddies`: 1 to `MOST_PEERS`, by default 2;
 /// - `forward`: a truth value, by default true;
-/// - `peer`: an array of 1 to 64 tables, each with `id` and `address` as above, `key`, 64
+/// - `peer`: an array of 1 to `MOST_PEERS` tables, each with `id` and `address` as above, `key`, 64
 ///   hexadecimal digits, and `hops`, 0 to 255, by default 0, and no other key.
 ///
 /// No two ids are the same, the node's own included.
@@ -64,7 +65,7 @@ fn read_table(alloc: Global, table: &Table) -> Result<Settings, SettingsError>
     let address = read_address(alloc, table)?;
     let seed = digest_at(table, "seed").ok_or(SettingsError::Bad)?;
     let capacity = number_at(table, "capacity", 0, MAX_CAPACITY).ok_or(SettingsError::Bad)?;
-    let buddies = number_or(table, "buddies", 1, 64, 2).ok_or(SettingsError::Bad)?;
+    let buddies = number_or(table, "buddies", 1, MOST_PEERS, 2).ok_or(SettingsError::Bad)?;
     let forward = flag_or(table, "forward", true).ok_or(SettingsError::Bad)?;
     let peers = read_peers(alloc, table)?;
     if !are_apart(id, peers.as_slice()) {
@@ -107,7 +108,7 @@ fn read_array(alloc: Global, value: &Value) -> Result<PeerList, SettingsError>
         return Err(SettingsError::Bad);
     };
     let peers = read_rows(alloc, array)?;
-    if peers.is_empty() || peers.len() > MAX_PEERS {
+    if peers.is_empty() || peers.len() > MOST_PEERS as usize {
         return Err(SettingsError::Bad);
     }
     Ok(PeerList::from_vec(peers))

@@ -8,7 +8,7 @@ use Rattle.std.specs.Option.{unwrap_or}
 use Rattle.psb_station.proofs.Spans.{shows_wider}
 use Rattle.psb_model.specs.Effects.{after}
 use Rattle.psb_model.specs.Heads.{head_of, body_of}
-use Rattle.node_core.proofs.Committing.{knows_still, step_knows, step_stored, step_leaves, stored_room}
+use Rattle.node_core.proofs.Committing.{knows_still, counted_still, step_knows, step_stored, step_leaves, stored_room}
 use Rattle.node_core.proofs.Presence.{on_err}
 use Rattle.node_core.proofs.node.Node.commit.Goals as goal
 
@@ -31,6 +31,15 @@ returns-in_err-make_room-3-clause-kept g c = on_err c.from_residual-in_err-make_
   λ n k. knows_still c.args.self.now _ n c.in_ok-make_room.ensures.state (record { owners = c.make_room-2.ensures.owners; records = c.make_room-2.ensures.records }) (record { peers = refl; seed = refl; issued = omega arith }) k,
   λ tells h s. stored_room g.L.Log.holds c.args.self.now _ h _ c.make_room-3.ensures.holds s,
 ))
+
+pub returns-in_err-make_room-clause-again : goal.returns-in_err-make_room-clause-again
+returns-in_err-make_room-clause-again g c = on_err c.from_residual-in_err-make_room.result _ (λ whole. counted_still g.L.Log.size g.L.Log.keeps_body c.args.self.now _ c.make_room.ensures.state (record { owners = λ o q. refl; records = λ q. refl }) refl (λ i. refl) c.requires.counted)
+
+pub returns-in_err-make_room-2-clause-again : goal.returns-in_err-make_room-2-clause-again
+returns-in_err-make_room-2-clause-again g c = on_err c.from_residual-in_err-make_room-2.result _ (λ whole. counted_still g.L.Log.size g.L.Log.keeps_body c.args.self.now _ c.in_ok-make_room.ensures.state (record { owners = c.make_room-2.ensures.owners; records = c.make_room-2.ensures.records }) refl (λ i. refl) c.requires.counted)
+
+pub returns-in_err-make_room-3-clause-again : goal.returns-in_err-make_room-3-clause-again
+returns-in_err-make_room-3-clause-again g c = on_err c.from_residual-in_err-make_room-3.result _ (λ whole. counted_still g.L.Log.size g.L.Log.keeps_body c.args.self.now _ c.in_ok-make_room.ensures.state (record { owners = c.make_room-2.ensures.owners; records = c.make_room-2.ensures.records }) c.make_room-3.ensures.size c.make_room-3.ensures.bodies c.requires.counted)
 
 pub returns-in_err-number-clause-any_moment : goal.returns-in_err-number-clause-any_moment
 returns-in_err-number-clause-any_moment g c = λ tells n m valid step s.
