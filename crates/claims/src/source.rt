@@ -101,6 +101,24 @@ impl ClaimSource {
         }
     }
 
+    /// How many claims were walked.
+    pub fn walked(&self) -> u32
+        ensures { result ≡ self.now.walked }
+    {
+        self.walk.count()
+    }
+
+    /// Walks on over the next claim, and answers its bytes: 16 hashes. Where memory runs out, nothing
+    /// changes.
+    pub fn walk_next(&mut self) -> Result<[u8; 512], Memory>
+        requires { self.old.walked < self.old.issued }
+        ensures claim { IfOk result (λ bytes. bytes ≡ claim self.old.seed self.old.walked) }
+        ensures walked { OnOk result (self.new ≡ record self.old { walked = self.old.walked + 1 }) }
+        ensures memory { OnErr result (self.new ≡ self.old) }
+    {
+        self.walk.step()
+    }
+
     /// Walks on over at most so many claims that were issued, by 16 hashes each, and answers how
     /// many. Takes memory for what makes them fast to make and to find; where it runs out, what was
     /// walked stays.

@@ -1,6 +1,6 @@
 //! The claims that were walked, and what makes them fast to make and to find.
 
-ghost use Rattle.std.specs.Prelude.{◌≡◌, ◌+◌, ◌*◌, ◌<◌, ◌≤◌, ◌^◌, ℕ, List, IfSome, IfNone, OnOk, OnErr, find};
+ghost use Rattle.std.specs.Prelude.{◌≡◌, ◌+◌, ◌*◌, ◌<◌, ◌≤◌, ◌^◌, ℕ, List, IfSome, IfNone, IfOk, OnOk, OnErr, find};
 ghost use Rattle.psb_digest.specs.Claims.{claim};
 ghost use Rattle.claims.specs.Chain.{first_link, AreCheckpoints};
 ghost use Rattle.claims.specs.Firsts.{first_bytes, least_below, is_claim};
@@ -146,9 +146,10 @@ impl Walk {
         Ok(())
     }
 
-    // Walks over one claim.
-    fn step(&mut self) -> Result<(), Memory>
+    /// Walks over one claim, and answers its bytes.
+    pub(crate) fn step(&mut self) -> Result<[u8; 512], Memory>
         requires { self.old.count + 1 < 2 ^ 32 }
+        ensures claim { IfOk result (λ bytes. bytes ≡ claim self.old.seed self.old.count) }
         ensures walked { OnOk result (self.new ≡ record self.old { count = self.old.count + 1 }) }
         ensures same { OnErr result (self.new ≡ self.old) }
     {
@@ -158,7 +159,7 @@ impl Walk {
         self.index.note(first_bytes(&bytes), self.count)?;
         self.count += 1;
         self.next = next;
-        Ok(())
+        Ok(bytes)
     }
 }
 

@@ -1,12 +1,15 @@
-ghost use Rattle.std.specs.Prelude.{◌≡◌, ◌-◌, [], OnOk, OnErr, length, take, drop, min, Some, None, true};
+ghost use Rattle.std.specs.Prelude.{◌≡◌, ◌≢◌, ◌⊎◌, ◌-◌, [], OnOk, OnErr, length, take, drop, min, Some, None, true};
 ghost use Rattle.std.specs.FinMap.{get, insert};
 ghost use Rattle.psb_station.specs.Folder.{plain, parent, Folder, File};
-ghost use Rattle.psb_station.specs.MemTree.{stored_of, held, bytes_in, takes_folder, takes_file, with_put};
+ghost use Rattle.psb_station.specs.Node.{stored_of, bytes_in};
+ghost use Rattle.psb_station.specs.Entries.{IsTooFullFor};
+ghost use Rattle.psb_station.specs.MemTree.{held, takes_folder, takes_file, with_put};
 ghost use Rattle.std.specs.Option.{option_map};
 
 use crate::call_log::{CallKind, CallLog};
 use crate::count::fault;
-use crate::mem_tree::{Node, Tree};
+use crate::mem_tree::Tree;
+use crate::node::Node;
 use crate::paths::{parent, plain};
 use crate::plan::Planned;
 use crate::{Failed, Folder, FolderError, Item, Kind};
@@ -44,6 +47,7 @@ fn make(tree: &mut Tree, path: &str, node: Node) -> Result<(), Failed>
     ensures new { OnOk result (get (held tree.old) path.now ≡ None) }
     ensures made { OnOk result (held tree.new ≡ insert (held tree.old) path.now (stored_of node)) }
     ensures err { OnErr result (held tree.new ≡ held tree.old) }
+    ensures cause { OnErr result (((get (held tree.old) (parent path.now) ≢ Some Folder) ⊎ (get (held tree.old) path.now ≢ None)) ⊎ IsTooFullFor (length path.now) tree.old.entries) }
 {
     let Some(Kind::Folder) = tree.kind(parent(path)) else {
         return Err(Failed);
@@ -133,13 +137,15 @@ impl MemFolder {
 }
 
 impl Folder for MemFolder {
-    ghost use Rattle.psb_station.specs.MemFolder.{view_of, dues_of, Fails, Works};
+    ghost use Rattle.psb_station.specs.MemFolder.{view_of, dues_of, Fails, Lacks, Works};
 
     ghost view = { view_of };
 
     ghost dues = { dues_of };
 
     ghost failed = { Fails };
+
+    ghost lacked = { Lacks };
 
     ghost worked = { Works };
 

@@ -1,4 +1,4 @@
-ghost use Rattle.std.specs.Prelude.{◌≡◌, ◌≤◌, ◌+◌, ◌<◌, length, IfOk, IfSome, All, Some, slice_get};
+ghost use Rattle.std.specs.Prelude.{◌≡◌, ◌≤◌, ◌+◌, ◌<◌, length, [], IfOk, IfSome, All, Some, slice_get};
 ghost use Rattle.std.proofs.Props.{props};
 ghost use Rattle.std.specs.Coded.{le_prop};
 ghost use Rattle.psb_station.specs.Past.{past_of, ToldBy, ToldBy-prop};
@@ -61,7 +61,7 @@ pub struct MemStation {
 }
 
 impl MemStation {
-    ghost use Rattle.psb_station.specs.Memory.{view_of, IsFresh, IsGiven, Plans, planned_of, Same_tears, Same_syncs, Tears_writes, Settles_until_a_fault, change_of, calls_made, left_image, may_leave_at};
+    ghost use Rattle.psb_station.specs.Memory.{view_of, IsFresh, IsGiven, Plans, planned_of, Same_tears, Same_syncs, Tears_writes, Settles_until_a_fault, change_of, calls_made, began_with, changes_of, left_image, may_leave_at};
 
     /// A station whose disk reads `image`, whose link has these arrivals, each of at most 65,507 bytes,
     /// and whose clock gives these numbers, the last one again at the end, and 0 where there is none.
@@ -76,6 +76,8 @@ impl MemStation {
         requires { All (λ a. length a.items ≤ 65507) arrivals.items }
         ensures fresh { IsFresh image.items (view_of result) }
         ensures given { IsGiven arrivals.items clock.items faults.items result }
+        ensures began { began_with result ≡ image.items }
+        ensures no_change { changes_of result ≡ [] }
     {
         MemStation {
             disk: MemDisk::new(alloc, image),
@@ -226,7 +228,7 @@ impl MemStation {
 }
 
 impl Disk for MemStation {
-    ghost use Rattle.psb_station.specs.Memory.{view_of, ahead_of, Fails, Works};
+    ghost use Rattle.psb_station.specs.Memory.{view_of, ahead_of, Fails, Works, Changed};
     ghost use Rattle.psb_station.specs.MemDisk.{start, past_in};
     ghost use Rattle.psb_station.specs.Past.{leaves};
     ghost use Rattle.psb_station.specs.Replay.{now_counts, now_only, seen_left};
@@ -240,6 +242,8 @@ impl Disk for MemStation {
     ghost failed = { Fails };
 
     ghost worked = { Works };
+
+    ghost changed = { Changed };
 
     ghost counts_now = { λ m t c le left. now_counts (λ c. c ≡ start m.disk) (start m.disk) 0 0 (past_in m.disk) m.told t c m.ordered (Prim.omega arith) (Prim.omega arith) left };
 

@@ -3,6 +3,7 @@ ghost use Rattle.std.specs.Option.{option_map};
 ghost use Rattle.psb_station.specs.View.{View, Outside, Heard};
 ghost use Rattle.psb_station.specs.View.Heard.{Frame, Nothing, Clock, Joined, Fault};
 ghost use Rattle.psb_station.specs.Span.{Tells_bytes};
+ghost use Rattle.psb_station.specs.Past.{Call, Write, Cut, Sync};
 ghost use Rattle.psb_station.specs.Ahead.{Ahead, IsDue, called, received, ticked, nothing_known};
 ghost use Rattle.psb_station.specs.declared.memory.calls.StationCall.{StationCall};
 ghost use Rattle.psb_station.specs.Calls.{Rose, Looks, Writes, Listens, Tells, Torn, CutShort, Same, Only, Grows, written};
@@ -30,6 +31,9 @@ pub trait Disk {
 
     /// What is known of a call that answers Ok: its kind, and the disk before and after it.
     ghost worked: { StationCall → Self → Self → Type 0 } = { λ _ _ _. ⊤ };
+
+    /// What is known of a change that answers Ok: the change, and the disk before and after it.
+    ghost changed: { Call → Self → Self → Type 0 } = { λ _ _ _. ⊤ };
 
     /// The length.
     fn len(&mut self) -> Result<u64, Failed>
@@ -64,6 +68,7 @@ pub trait Disk {
         ensures ahead { ahead self.new ≡ called StationCall.Write (ahead self.old) }
         ensures failed { OnErr result (failed StationCall.Write at (length from.now) self.old self.new) }
         ensures worked { OnOk result (worked StationCall.Write self.old self.new) }
+        ensures changed { OnOk result (changed (Write at from.now) self.old self.new) }
         ensures bytes { OnOk result (Tells_bytes (view self.new) → (view self.new).bytes ≡ option_map (written at from.now) (view self.old).bytes) }
         ensures small { OnOk result (at + length from.now ≤ 2 ^ 62) }
         ensures writes { Writes (Torn at (length from.now)) (view self.old) (view self.new) }
@@ -78,6 +83,7 @@ pub trait Disk {
         ensures ahead { ahead self.new ≡ called StationCall.Cut (ahead self.old) }
         ensures failed { OnErr result (failed StationCall.Cut 0 0 self.old self.new) }
         ensures worked { OnOk result (worked StationCall.Cut self.old self.new) }
+        ensures changed { OnOk result (changed (Cut len) self.old self.new) }
         ensures bytes { OnOk result (Tells_bytes (view self.new) → (view self.new).bytes ≡ option_map (take len) (view self.old).bytes) }
         ensures writes { Writes (CutShort len) (view self.old) (view self.new) }
         ensures cause { OnErr result (Rose (view self.old).disk_faults (view self.new).disk_faults) }
@@ -90,6 +96,7 @@ pub trait Disk {
         ensures ahead { ahead self.new ≡ called StationCall.Sync (ahead self.old) }
         ensures failed { OnErr result (failed StationCall.Sync 0 0 self.old self.new) }
         ensures worked { OnOk result (worked StationCall.Sync self.old self.new) }
+        ensures changed { OnOk result (changed Sync self.old self.new) }
         ensures bytes { Tells_bytes (view self.new) → (view self.new).bytes ≡ (view self.old).bytes }
         ensures durable { OnOk result (IfSome (view self.new).bytes (λ b. Only b (view self.new))) }
         ensures writes { Writes Same (view self.old) (view self.new) }

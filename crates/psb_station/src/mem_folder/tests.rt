@@ -269,3 +269,31 @@ fn the_paths_ascend(rt: HostRuntime) -> Result<(), Memory> {
     assert_eq!(rt; folder.file("a/c"), None);
     Ok(())
 }
+
+#[test]
+fn what_is_made_is_found_in_whatever_order_it_came(rt: HostRuntime) -> Result<(), Memory> {
+    let alloc = rt.alloc();
+    let mut folder = MemFolder::new(alloc, Vec::new(alloc));
+    for path in ["m", "c", "x", "a", "p", "cc", "b"] {
+        assert_eq!(rt; folder.make_file(path), Ok(()), "make {path}");
+        assert_eq!(rt;
+            folder.append(path, path.as_bytes()),
+            Ok(()),
+            "append {path}"
+        );
+        assert_eq!(rt; folder.make_file(path), Err(Failed), "make {path} again");
+    }
+    for path in ["a", "b", "c", "cc", "m", "p", "x"] {
+        assert!(rt; holds(&mut folder, path, path.as_bytes()), "read {path}");
+    }
+    let paths = folder.paths()?;
+    let wants = ["a", "b", "c", "cc", "m", "p", "x"];
+    assert_eq!(rt; paths.len(), 7);
+    assert!(rt;
+        paths
+            .iter()
+            .zip(&wants)
+            .all(|(path, want)| path.as_str() == *want)
+    );
+    Ok(())
+}

@@ -197,3 +197,25 @@ fn a_sync_after_a_failed_one_settles_or_fails_too(rt: HostRuntime) -> Result<(),
     assert_eq!(rt; loses.left(4, 0)?.as_slice(), [1, 2, 3].as_slice());
     Ok(())
 }
+
+#[test]
+fn a_disk_is_what_it_began_with_until_its_first_change(rt: HostRuntime) -> Result<(), Fail> {
+    let alloc = rt.alloc();
+    let mut station = station(alloc, Vec::new(alloc))?;
+    assert_eq!(rt; station.len(), Ok(3));
+    assert_eq!(rt; station.sync(), Ok(()));
+    assert_eq!(rt; station.write_at(0, &[9]), Ok(()));
+    assert_eq!(rt; station.call_count(), 3);
+    let wants: [[&[u8]; 3]; 3] = [
+        [&[1, 2, 3], &[1, 2, 3], &[1, 2, 3]],
+        [&[1, 2, 3], &[1, 2, 3], &[1, 2, 3]],
+        [&[1, 2, 3], &[9, 2, 3], &[255, 2, 3]],
+    ];
+    for (i, want) in wants.iter().enumerate() {
+        let [nothing, all, filled] = leaves(&station, i as u64 + 1)?;
+        assert_eq!(rt; nothing.as_slice(), want[0], "nothing at {i}");
+        assert_eq!(rt; all.as_slice(), want[1], "all at {i}");
+        assert_eq!(rt; filled.as_slice(), want[2], "filled at {i}");
+    }
+    Ok(())
+}

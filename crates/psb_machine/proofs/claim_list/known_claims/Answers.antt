@@ -4,7 +4,7 @@ use Rattle.psb_bytes.specs.declared.lists.SlotClaim.{SlotClaim}
 use Rattle.psb_digest.specs.Claims.{claim}
 use Rattle.psb_machine.specs.Replies.{claims_from}
 use Rattle.psb_machine.proofs.ClaimRuns.{one_claim_more}
-use Rattle.psb_machine.proofs.claim_list.claims_from.Goals as goal
+use Rattle.psb_machine.proofs.claim_list.known_claims.Goals as goal
 
 pub next_claim-requires : goal.next_claim-requires
 next_claim-requires c =

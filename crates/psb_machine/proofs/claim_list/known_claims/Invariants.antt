@@ -1,6 +1,6 @@
 use Rattle.std.proofs.Common.{◌≡◌, ◌+◌}
 use Rattle.psb_machine.specs.Replies.{claims_from}
-use Rattle.psb_machine.proofs.claim_list.claims_from.Given as goal
+use Rattle.psb_machine.proofs.claim_list.known_claims.Given as goal
 
 abbrev pub invariant-loop-i : goal.invariant-loop-i
 invariant-loop-i l = record {
