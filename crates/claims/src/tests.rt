@@ -72,12 +72,25 @@ fn issues_ahead_of_the_walk(rt: HostRuntime) -> Result<(), Fail> {
     assert_eq!(rt; source.issue(65536)?, 0);
     assert_eq!(rt; source.issued(), 65536);
     let last = source.claim(65535);
-    assert_eq!(rt; source.claim(65535), last);
     assert_eq!(rt; source.walk(70000)?, 65536);
-    for _again in 0..3 {
+    for _again in 1..4096 {
         assert_eq!(rt; source.claim(65535), last);
     }
     assert_eq!(rt; source.home_of(&last), Some(65535));
+    Ok(())
+}
+
+#[test]
+fn walks_as_far_as_numbers_were_issued(rt: HostRuntime) -> Result<(), Fail> {
+    let mut source = new_source(rt.alloc())?;
+    assert_eq!(rt; source.issue(20)?, 0);
+    assert_eq!(rt; source.walk(0)?, 0);
+    assert_eq!(rt; source.walk(16)?, 16);
+    assert_eq!(rt; source.walk(3)?, 3);
+    let last = source.claim(19);
+    assert_eq!(rt; source.walk_next()?, last);
+    assert_eq!(rt; source.walked(), 20);
+    assert_eq!(rt; source.walk(5)?, 0);
     Ok(())
 }
 
@@ -102,6 +115,11 @@ fn finds_walked_claims_and_others(rt: HostRuntime) -> Result<(), Fail> {
 
 #[test]
 fn numbers_are_spent_at_the_bound(rt: HostRuntime) -> Result<(), Fail> {
+    let mut source = new_source(rt.alloc())?;
+    assert_eq!(rt; source.issue(1)?, 0);
+    assert_eq!(rt; source.issue(4_294_967_295), Err(IssueError::Spent));
+    assert_eq!(rt; source.issued(), 1);
+    assert_eq!(rt; source.issue(1)?, 1);
     let mut source = new_source(rt.alloc())?;
     assert_eq!(rt; source.issue(4_294_967_294)?, 0);
     assert_eq!(rt; source.issue(2), Err(IssueError::Spent));

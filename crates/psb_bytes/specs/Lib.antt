@@ -5,3 +5,4 @@ pub mod Pages
 pub mod Hex
 pub mod Tickets
 pub mod Names
+pub mod Paths

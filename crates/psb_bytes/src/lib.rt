@@ -6,6 +6,7 @@ mod ids;
 mod lists;
 mod names;
 mod numbers;
+mod paths;
 mod reading;
 mod units;
 mod writing;
@@ -18,6 +19,7 @@ pub use lists::{
 };
 pub use names::{has_names, is_name};
 pub use numbers::numbers_have_one_spelling;
+pub use paths::folder_of;
 pub use reading::Cursor;
 pub use units::{LONGEST_CHUNK, UNIT, units_of};
 pub use writing::Page;

@@ -1,6 +1,6 @@
 use crate::{
-    Bytes, Cursor, Digest, Memory, Page, Ref, Short, Text, Ticket, digest_text, hex_text,
-    read_digest, units_of,
+    Bytes, Cursor, Digest, Memory, Page, Ref, Short, Text, Ticket, digest_text, folder_of,
+    hex_text, read_digest, units_of,
 };
 use std::test::Fail;
 
@@ -120,5 +120,21 @@ fn a_ticket_is_read_exactly_within_its_bounds(rt: HostRuntime) {
         let ticket = ticket(len, levels);
         let want = within.then_some(ticket);
         assert_eq!(rt; Ticket::read(&ticket.bytes()), want, "{len}, {levels}");
+    }
+}
+
+#[test]
+fn a_folder_is_what_stands_before_the_last_slash(rt: HostRuntime) {
+    let rows = [
+        ("", None),
+        ("a", None),
+        ("/a", Some("")),
+        ("a/", Some("a")),
+        ("a/b", Some("a")),
+        ("a/b/c", Some("a/b")),
+        ("a//c", Some("a/")),
+    ];
+    for (path, folder) in rows {
+        assert_eq!(rt; folder_of(path), folder, "{path}");
     }
 }

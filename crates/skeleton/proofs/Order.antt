@@ -1,6 +1,6 @@
 -- The order of paths, and the folders that a path lies in.
-use Rattle.std.proofs.Common.{◌≡◌, ℕ, ◌+◌, ◌<◌, ◌≤◌, Bool, true, false, ◌&&◌, List, [], ◌∷◌, ◌++◌, length, take, drop, get_or, refl, sym, ◌∙◌, ap, subst, inl, inr, arith, append_assoc, get_or-take, length-take, append-nil, Some}
-use Rattle.std.specs.Prelude.{◌-◌, not, bytes_eq}
+use Rattle.std.proofs.Common.{◌≡◌, ℕ, ◌+◌, ◌<◌, ◌≤◌, Bool, true, false, ◌&&◌, List, [], ◌∷◌, ◌++◌, length, take, drop, get_or, refl, sym, ◌∙◌, ap, subst, inl, inr, arith, get_or-take, length-take, Some}
+use Rattle.std.specs.Prelude.{◌-◌, bytes_eq}
 use Rattle.std.specs.List.{list_all, list_any, slice_get}
 use Rattle.std.specs.Ordering.{nat_cmp, is_lt, is_eq, ordering_index, ordering_reverse}
 use Rattle.std.specs.declared.cmp.Ordering.{Ordering}
@@ -8,17 +8,15 @@ use Rattle.std.specs.declared.cmp.Ordering.TheVariants.{Less, Equal, Greater}
 use Rattle.std.specs.Cmp.Lexicographic.{slice_cmp}
 use Rattle.std.proofs.lemmas.Cmp.{nat_list_cmp_total, alike_right}
 use Rattle.std.proofs.lemmas.Map.Text.{is_eq-slice_cmp}
-use Rattle.std.proofs.lemmas.Bool.{and_parts, and_from, and_right, or_left, not-true, cases_lt}
+use Rattle.std.proofs.lemmas.Bool.{and_parts, and_from, and_right, or_left, cases_lt}
 use Rattle.std.proofs.lemmas.List.{take-append-drop, drop_more, get_or_default}
 use Rattle.std.proofs.lemmas.List.Folds.{list_all_at, list_all-append, list_any-append, Any-from_list_any}
 use Rattle.std.proofs.lemmas.Option.{get_or_from_slice_get}
 use Rattle.std.proofs.lemmas.Slice.Eq.{bytes_eq-Decides}
 use Rattle.std.specs.List.Sorted.{IsNonDecreasingBy, IsPartitionPoint}
 use Rattle.skeleton.specs.declared.entry.Entry.{Entry}
-use Rattle.psb_bytes.specs.Names.{is_slash}
-use Rattle.skeleton.specs.Paths.{is_path, is_below, parents, parents_behind, has_no_slash, IsParent}
+use Rattle.skeleton.specs.Paths.{is_path, is_below, parents}
 use Rattle.skeleton.specs.Entries.{IsSkeleton, fits_behind, in_order, has_folder, counts_agree, is_folder}
-use Rattle.skeleton.specs.declared.limits.TheConstants.{SLASH}
 use Rattle.skeleton.proofs.Lists.{by_cases, all_at, all_from, all_imply, any_none, any_only, push_parts}
 
 abbrev pub cmp : List ℕ → List ℕ → Ordering
@@ -140,29 +138,7 @@ found entries h path i d lt equal =
           other_bytes (get_or entries k f).path path Greater (nat_list_cmp_total.antisymm (get_or entries k f).path path ∙ ap ordering_reverse below) refl
     ]))
 
--- ---- the parents of a path
-
-none_behind : (front path : List ℕ) → has_no_slash path ≡ true → parents_behind front path ≡ []
-none_behind front [] h = refl
-none_behind front (b ∷ path) h =
-    let t = and_parts (not (is_slash b)) (has_no_slash path) h in
-    rw (not-true (is_slash b) t.0) (none_behind (front ++ b ∷ []) path t.1)
-
-pub no_parents : (path : List ℕ) → has_no_slash path ≡ true → parents path ≡ []
-no_parents path h = none_behind [] path h
-
-joined : (front path more : List ℕ) → parents_behind front (path ++ more) ≡ parents_behind front path ++ parents_behind (front ++ path) more
-joined front [] more = rw (append-nil front) refl
-joined front (b ∷ path) more =
-    let others = joined (front ++ b ∷ []) path more in
-    let next : (front ++ b ∷ []) ++ path ≡ front ++ (b ∷ path) = append_assoc front (b ∷ []) path in
-    let others' = rw next at others in
-    by_cases (is_slash b) (λ e. rw e (ap (λ (xs : List (List ℕ)). front ∷ xs) others')) (λ e. rw e others')
-
-pub parents_of : (path folder : List ℕ) → IsParent path folder → parents path ≡ parents folder ++ folder ∷ []
-parents_of path folder h =
-    let whole = ap parents h.whole ∙ joined [] folder (SLASH ∷ h.name) in
-    whole ∙ ap (λ (xs : List (List ℕ)). parents folder ++ folder ∷ xs) (none_behind (folder ++ SLASH ∷ []) h.name h.last)
+-- ---- the folders that a path lies in
 
 -- a folder that is there lies in folders that are there
 has_more : (entries : List Entry) (k : ℕ) (path : List ℕ) → has_folder (take k entries) path ≡ true → has_folder entries path ≡ true
@@ -182,10 +158,10 @@ above_folder entries h folder there =
     all_imply (λ parent. has_folder (take k entries) parent) (λ parent. has_folder entries parent) (parents folder) (λ parent. has_more entries k parent) before'
 
 -- the nearest parent decides
-pub nearest_decides : (entries : List Entry) → IsSkeleton entries → (path folder : List ℕ) → IsParent path folder → has_folder entries folder ≡ list_all (λ parent. has_folder entries parent) (parents path)
-nearest_decides entries h path folder parent =
+pub nearest_decides : (entries : List Entry) → IsSkeleton entries → (path folder : List ℕ) → parents path ≡ parents folder ++ folder ∷ [] → has_folder entries folder ≡ list_all (λ parent. has_folder entries parent) (parents path)
+nearest_decides entries h path folder above =
     let all : List (List ℕ) → Bool = λ ps. list_all (λ p. has_folder entries p) ps in
-    let split : all (parents path) ≡ (all (parents folder) && (has_folder entries folder && true)) = ap all (parents_of path folder parent) ∙ list_all-append (λ p. has_folder entries p) (parents folder) (folder ∷ []) in
+    let split : all (parents path) ≡ (all (parents folder) && (has_folder entries folder && true)) = ap all above ∙ list_all-append (λ p. has_folder entries p) (parents folder) (folder ∷ []) in
     by_cases (has_folder entries folder)
     (λ e. e ∙ sym (split ∙ and_from (all (parents folder)) (has_folder entries folder && true) (above_folder entries h folder e) (rw e refl)))
     (λ e. e ∙ sym (split ∙ and_right (all (parents folder)) (has_folder entries folder && true) (rw e refl)))

@@ -23,9 +23,6 @@ pub const MOST_CHUNK_BYTES: u32 = LONGEST_CHUNK;
 /// The bytes of a name and of a handle.
 pub const DIGEST_BYTES: usize = 32;
 
-/// What joins the parts of a path.
-pub const SLASH: u8 = b'/';
-
 /// The byte that stands for a folder.
 pub const FOLDER_KIND: u8 = 0;
 

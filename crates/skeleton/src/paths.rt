@@ -1,9 +1,9 @@
-//! Paths: which are valid, and what lies above them.
+//! Paths: which are valid, and their order.
 ghost use Rattle.std.specs.Prelude.{◌≡◌, MatchOption, true, false};
-ghost use Rattle.skeleton.specs.Paths.{within, is_path, is_below, has_no_slash, IsParent};
+ghost use Rattle.skeleton.specs.Paths.{within, is_path, is_below};
 ghost use Rattle.skeleton.specs.declared.limits.TheConstants.{MOST_PATH_BYTES};
 
-use crate::limits::{MOST_PATH_BYTES, SLASH};
+use crate::limits::MOST_PATH_BYTES;
 use psb_bytes::has_names;
 use std::cmp::Ordering;
 use std::str::from_utf8;
@@ -39,18 +39,4 @@ pub(crate) fn comes_before(a: &[u8], b: &[u8]) -> bool
     ensures { result ≡ is_below a.now b.now }
 {
     a.cmp(b) == Ordering::Less
-}
-
-/// What stands before the last slash, where there is one.
-pub(crate) fn parent(path: &[u8]) -> Option<&[u8]>
-    ensures { MatchOption result (has_no_slash path.now ≡ true) (λ p. IsParent path.now p.now) }
-{
-    let mut end = path.len();
-    while end > 0 {
-        end -= 1;
-        if path[end] == SLASH {
-            return Some(&path[..end]);
-        }
-    }
-    None
 }

@@ -8,9 +8,9 @@ ghost use Rattle.skeleton.specs.Entries.{IsSkeleton, has_folder, in_order, fits_
 use crate::entry::{Entry, EntryKind};
 use crate::faults::PushError;
 use crate::limits::{DIGEST_BYTES, MOST_CHUNK_BYTES};
-use crate::paths::{comes_before, is_valid_path, parent};
+use crate::paths::{comes_before, is_valid_path};
 use crate::writing::digest_bytes;
-use psb_bytes::Ref;
+use psb_bytes::{Ref, folder_of};
 use std::alloc::{AllocFailed, Global};
 use std::cmp::Ordering;
 use std::marker::Model;
@@ -79,7 +79,7 @@ impl Skeleton {
     pub(crate) fn is_next(&self, path: &str) -> bool
         ensures { result ≡ in_order self.now path.now }
     {
-        ascends(&self.entries, path.as_bytes()) && lies_in_folders(&self.entries, path.as_bytes())
+        ascends(&self.entries, path.as_bytes()) && lies_in_folders(&self.entries, path)
     }
 
     /// Adds an entry that may stand behind the others.
@@ -123,13 +123,13 @@ fn is_folder_among(entries: &[Entry], path: &[u8]) -> bool
 
 /// Whether each proper parent of a path is a folder among the entries: for the nearest, those
 /// above it were found when it was added.
-fn lies_in_folders(entries: &[Entry], path: &[u8]) -> bool
+fn lies_in_folders(entries: &[Entry], path: &str) -> bool
     requires { IsSkeleton entries.now }
     ensures { result ≡ list_all (λ parent. has_folder entries.now parent) (parents path.now) }
 {
-    match parent(path) {
+    match folder_of(path) {
         None => true,
-        Some(folder) => is_folder_among(entries, folder),
+        Some(folder) => is_folder_among(entries, folder.as_bytes()),
     }
 }
 

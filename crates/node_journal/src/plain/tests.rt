@@ -1,9 +1,9 @@
-ghost use Rattle.std.specs.Prelude.{◌≡◌, ◌≤◌, ◌+◌, false, length, All};
+ghost use Rattle.std.specs.Prelude.{◌≡◌, ◌≤◌, ◌+◌, [], false, length, All};
 ghost use Rattle.psb_station.specs.Memory.{view_of, IsFresh};
 ghost use Rattle.node_journal.specs.Fits.{Fits};
 
 use super::*;
-use psb_station::MemStation;
+use psb_station::{MemStation, Planned, StationCall, TornWrite};
 use std::test::Fail;
 
 const TWO_RECORDS: [u8; 39] = [
@@ -182,28 +182,77 @@ fn bytes_behind_the_closed_gate_are_no_part_of_the_log(rt: HostRuntime) -> Resul
     Ok(())
 }
 
+/// Has the call of a kind and a number fail, counted from here.
+fn fail_call(
+    alloc: Global,
+    disk: &mut MemStation,
+    kind: StationCall,
+    number: u64,
+) -> Result<(), Fail>
+    ensures { IsFresh [] (view_of disk.old) → IsFresh [] (view_of disk.new) }
+{
+    disk.plan(vec![in alloc; Planned { kind, number }]?);
+    Ok(())
+}
+
+/// How a disk fails. A log that is made writes twice and syncs twice, and so does each append.
+#[derive(Clone, Copy, Debug)]
+enum Failing {
+    /// The write of this number does nothing.
+    Write(u64),
+    /// The write of this number puts down at most so many bytes.
+    Torn(u64, u64),
+    /// The sync of this number.
+    Sync(u64),
+    /// The sync of this number, and each after it.
+    Forgets(u64),
+}
+
+/// Has the disk fail so from here on.
+fn fail_next(alloc: Global, disk: &mut MemStation, failing: Failing) -> Result<(), Fail>
+    ensures { IsFresh [] (view_of disk.old) → IsFresh [] (view_of disk.new) }
+{
+    match failing {
+        Failing::Write(number) => fail_call(alloc, disk, StationCall::Write, number),
+        Failing::Torn(number, put) => {
+            disk.tear(vec![in alloc; TornWrite { number, put }]?);
+            Ok(())
+        }
+        Failing::Sync(number) => fail_call(alloc, disk, StationCall::Sync, number),
+        Failing::Forgets(number) => {
+            disk.settle_until_a_fault();
+            fail_call(alloc, disk, StationCall::Sync, number)
+        }
+    }
+}
+
 #[test]
 fn a_fault_in_an_append_breaks_the_log(rt: HostRuntime) -> Result<(), Fail> {
     let alloc = rt.alloc();
-    // the calls of `create` are 1 to 4; then how many records the disk has after a fault in that call
-    for (call, count) in [(5, 1), (6, 1), (7, 1), (8, 2)] {
-        let mut faults = Vec::new(alloc);
-        faults.push(call)?;
-        let mut disk = disk_with(alloc, Vec::new(alloc), faults);
+    // what an opening finds after it
+    let rows = [
+        (Failing::Write(3), Ok(1)),
+        (Failing::Write(4), Ok(1)),
+        (Failing::Torn(3, 5), Ok(1)),
+        (Failing::Torn(3, 100), Ok(1)),
+        (Failing::Torn(4, 0), Ok(1)),
+        (Failing::Torn(4, 1), Ok(2)),
+        (Failing::Sync(3), Ok(1)),
+        (Failing::Sync(4), Ok(2)),
+        (Failing::Forgets(3), Err(LogError::DiskFault)),
+        (Failing::Forgets(4), Err(LogError::DiskFault)),
+    ];
+    for (failing, found) in rows {
+        let mut disk = disk_with(alloc, Vec::new(alloc), Vec::new(alloc));
+        fail_next(alloc, &mut disk, failing)?;
         let mut log = PlainLog::create(alloc, &mut disk, &[1], b"ab").expect(&rt, "a new log");
-        assert_eq!(rt;
-            add(&mut log, &mut disk, &[2], &[]),
-            Err(LogError::DiskFault),
-            "at {call}"
-        );
-        assert!(rt; log.broken());
-        assert_eq!(rt;
-            add(&mut log, &mut disk, &[2], &[]),
-            Err(LogError::Broken),
-            "at {call}"
-        );
-        let log = PlainLog::open(alloc, &mut disk).expect(&rt, "the log again");
-        assert_eq!(rt; log.count(), count, "at {call}");
+        let added = add(&mut log, &mut disk, &[2], &[]);
+        assert_eq!(rt; added, Err(LogError::DiskFault), "{failing:?}");
+        assert!(rt; log.broken(), "{failing:?}");
+        let added = add(&mut log, &mut disk, &[2], &[]);
+        assert_eq!(rt; added, Err(LogError::Broken), "{failing:?}");
+        let again = PlainLog::open(alloc, &mut disk).map(|log| log.count());
+        assert_eq!(rt; again, found, "{failing:?}");
     }
     Ok(())
 }

@@ -106,7 +106,7 @@ fn decode_refused(fields: &[u8], body: Option<&[u8]>) -> Result<Change, ChangeEr
     })
 }
 
-/// The sealed bytes of a chunk are 1 to 32,768.
+/// A chunk has 1 to `LONGEST_CHUNK` sealed bytes.
 fn is_chunk_len(len: u32) -> bool
     ensures { result ≡ is_chunk_len len }
 {
