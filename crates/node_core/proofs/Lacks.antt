@@ -10,7 +10,7 @@ use Rattle.psb_model.specs.Words.{name_eq}
 use Rattle.psb_model.specs.Conditions.{allowed, tests, is_begun, peer_of}
 use Rattle.psb_model.specs.Effects.{after}
 use Rattle.psb_model.specs.History.{state, lawful_from, is_built}
-use Rattle.psb_model.specs.Needed.{brings, brings_name, slots_given, needs_name, needs_slot, is_needed_by, is_body, body_is_right, bodies_right}
+use Rattle.psb_model.specs.Needed.{brings, brings_name, slots_given, needs_name, needs_slot, is_needed_by, is_body, body_is_right, bodies_right, last_bringing}
 use Rattle.psb_model.specs.declared.change.Change.{Change}
 use Rattle.psb_model.specs.declared.change.Change.TheVariants.{Begun, TookFresh, Refused}
 use Rattle.psb_model.proofs.ByObject.{by_cases}
@@ -18,7 +18,6 @@ use Rattle.psb_model.proofs.Own.{name_same, name_refl}
 use Rattle.psb_model.proofs.Steps.{parts}
 use Rattle.psb_model.proofs.Built.{allows}
 use Rattle.psb_model.proofs.Prefixes.{lawful_cons}
-use Rattle.psb_machine.specs.Deals.{last_bringing}
 use Rattle.chunk_store.specs.declared.store.Store.{Store}
 use Rattle.chunk_store.specs.Store.{record_of}
 use Rattle.node_core.specs.Names.{KnowsNames}

@@ -10,12 +10,12 @@ use Rattle.psb_model.specs.Heads.{head_of, body_of}
 use Rattle.psb_model.specs.Conditions.{peer_of, is_begun, is_direct, allowed}
 use Rattle.psb_model.specs.Effects.{after}
 use Rattle.psb_model.specs.History.{state, state_from}
-use Rattle.psb_model.specs.Needed.{brings, slots_given, brings_name, gives_slot, needs_name, needs_slot, is_needed_by, body_is_right, is_body, bodies_right, IsValid}
+use Rattle.psb_model.specs.Needed.{brings, slots_given, brings_name, gives_slot, needs_name, needs_slot, is_needed_by, body_is_right, is_body, bodies_right, IsValid, last_bringing, last_brought}
 use Rattle.psb_model.specs.declared.change.Change.{Change}
 use Rattle.psb_model.specs.declared.change.Change.TheVariants.{Kept, TookFresh, TookSwap, LetGoBack, Replaced, Settled}
 use Rattle.psb_model.proofs.ByObject.{by_cases}
 use Rattle.psb_model.proofs.Built.{valid_snoc}
-use Rattle.psb_machine.specs.Deals.{last_bringing, last_brought, are_others, meets_others}
+use Rattle.psb_machine.specs.Deals.{are_others, meets_others}
 use Rattle.chunk_store.specs.declared.store.Store.{Store}
 use Rattle.chunk_store.specs.Store.{record_of}
 use Rattle.node_core.specs.Names.{owns, brought_from, KnowsNames}

@@ -1,13 +1,20 @@
 -- What a node makes of an input is what the machine makes of it.
-use Rattle.std.proofs.Common.{◌≡◌, ℕ, Bool, false, ◌≤◌, List, [], ◌∷◌, ◌++◌, option_map, option_to_list, slice_get, length, is_some, IfSome, Option, Some, arith, sym, ◌∙◌, ap, subst}
+use Rattle.std.proofs.Common.{◌≡◌, ℕ, Bool, false, ◌&&◌, ◌≤◌, List, [], ◌∷◌, ◌++◌, option_map, option_to_list, slice_get, length, is_some, IfSome, Option, Some, None, refl, arith, sym, ◌∙◌, ap, subst}
+use Rattle.std.proofs.lemmas.Bool.{true≢false}
+use Rattle.chunk_store.specs.declared.store.Store.{Store}
+use Rattle.chunk_store.specs.Store.{record_of}
+use Rattle.psb_machine.specs.Deals.{Deal, StoreFresh, is_compared, are_others, clashes as deal_clashes}
+use Rattle.node_core.specs.Less.{IsLess}
+use Rattle.node_core.specs.Names.{KnowsNames, HasNone}
+use Rattle.node_core.specs.Offers.{deal_in}
 use Rattle.psb_station.specs.View.{View}
 use Rattle.psb_station.specs.Span.{Shows}
 use Rattle.psb_station.proofs.Spans.{same_some}
 use Rattle.node_journal.specs.Entry.{Entry}
 use Rattle.psb_settings.specs.declared.settings.Settings.{Settings}
-use Rattle.psb_model.specs.State.{State, row, is_held}
+use Rattle.psb_model.specs.State.{State, row}
 use Rattle.psb_model.specs.History.{state}
-use Rattle.psb_model.specs.Needed.{IsValid}
+use Rattle.psb_model.specs.Needed.{last_brought, IsValid}
 use Rattle.psb_model.specs.declared.change.Change.{Change}
 use Rattle.wire_codec.specs.Frames.{datagram}
 use Rattle.wire_codec.specs.declared.frame.Frame.{Frame}
@@ -32,13 +39,25 @@ use Rattle.node_core.proofs.Less.{state_less, meets_less}
 
 -- ---- an offer that makes a change
 
+-- whether other bytes are held is told by what the disk holds
+clashes_less : (h less : List Change) (deal : Deal) → IsLess h less → IsValid less → deal_clashes less deal ≡ deal_clashes h deal
+clashes_less h less (StoreFresh name bytes) is v = meets_less h less name bytes is v
+
+-- nothing is compared where the history holds nothing under the name
+pub none_compared : (store : Store) (h : List Change) (deal : Deal) → KnowsNames store h → is_compared (state h) deal ≡ false → HasNone store deal
+none_compared store h (StoreFresh name bytes) knows free = none_of (record_of store name) (knows.held name ∙ free)
+  where
+    none_of : (o : Option ℕ) → is_some o ≡ false → o ≡ None
+    none_of None is = refl
+    none_of (Some k) is = absurd (true≢false is)
+
 -- why it is refused by what the disk holds is why it is by the history
 pub refused_less : {L : Type 0} (holds : L → List Entry → List ℕ → Type 0) (node : Node L) (h : List Change) (v : View) (o : Offer) (refusal : Option Refusal) → (s : Stored holds node h v)
     → refusal ≡ why_refused (state s.less) o (clashes s.less o) → refusal ≡ why_refused (state h) o (clashes h o)
 refused_less holds node h v o refusal s is =
     is
     ∙ ap (λ (t : State). why_refused t o (clashes s.less o)) (state_less h s.less s.is_less)
-    ∙ ap (λ (b : Bool). why_refused (state h) o b) (meets_less h s.less o.name o.bytes.now s.is_less s.valid)
+    ∙ ap (λ (b : Bool). why_refused (state h) o b) (clashes_less h s.less (deal_in o.asked) s.is_less s.valid)
 
 -- the change that is made is the machine's
 pub makes_in : {L : Type 0} (r : Reaction) (node : Node L) (h : List Change) (o : Offer) (refusal : Option Refusal) → node.ledger.state ≡ state h → refusal ≡ why_refused (state h) o (clashes h o)
@@ -78,9 +97,21 @@ made_may_come r node x o clash can m makes =
       λ n k. subst (λ (s : State). IsValid (n.history ++ made_of s o (why_refused s o clash) ∷ [])) (sym k.ledger) ((m n k).valid clash),
     )
 
--- where no record is read for the input, none is held under the name
-pub unread_unheld : (n : Situation) (i : Input) (x : List ℕ) (o : Offer) → i ≡ Datagram x → MakesChange n x o → IsUnread n i → is_held (state n.history) o.name ≡ false
+-- where no record is read for the input, nothing is compared
+pub unread_unheld : (n : Situation) (i : Input) (x : List ℕ) (o : Offer) → i ≡ Datagram x → MakesChange n x o → IsUnread n i → is_compared (state n.history) (deal_in o.asked) ≡ false
 unread_unheld n i x o is m u = m.unread (subst (λ (j : Input). IsUnread n j) is u)
+
+-- where nothing is compared, no other bytes are held
+none_clash : (h : List Change) (deal : Deal) → is_compared (state h) deal ≡ false → deal_clashes h deal ≡ false
+none_clash h (StoreFresh name bytes) free = ap (λ (b : Bool). b && are_others (last_brought name h) bytes) free
+
+-- so it is refused by the history as by what no record told
+pub refused_unheld : {L : Type 0} (node : Node L) (n : Situation) (o : Offer) (refusal : Option Refusal) → Knows node n → is_compared (state n.history) (deal_in o.asked) ≡ false
+    → refusal ≡ why_refused node.ledger.state o false → refusal ≡ why_refused (state n.history) o (clashes n.history o)
+refused_unheld node n o refusal k free is =
+    is
+    ∙ ap (λ (s : State). why_refused s o false) k.ledger
+    ∙ ap (λ (b : Bool). why_refused (state n.history) o b) (sym (none_clash n.history (deal_in o.asked) free))
 
 -- ---- a deal that comes again
 

@@ -3,9 +3,8 @@ use Rattle.std.specs.Prelude.{◌≡◌, ℕ, Bool, false, not, if◌then◌else
 use Rattle.std.specs.Ordering.{nat_cmp}
 use Rattle.std.specs.Cmp.Lexicographic.{slice_cmp}
 use Rattle.std.specs.BTreeSet.{contains}
-use Rattle.psb_model.specs.Needed.{brings_name, body_is_right}
+use Rattle.psb_model.specs.Needed.{brings_name, body_is_right, last_bringing}
 use Rattle.psb_model.specs.declared.change.Change.{Change}
-use Rattle.psb_machine.specs.Deals.{last_bringing}
 use Rattle.node_core.specs.declared.lacking.Lacking.{Lacking}
 
 -- a change that brings bytes does not have them

@@ -1,6 +1,6 @@
 -- The names that a node's store has: those under which bodies are held, each with the record that brought
 -- its bytes last, and with its owners.
-use Rattle.std.specs.Prelude.{◌≡◌, ℕ, ◌+◌, ◌<◌, Bool, true, false, ◌||◌, ◌&&◌, if◌then◌else◌, List, [], ◌∷◌, Option, Some, None, is_some}
+use Rattle.std.specs.Prelude.{◌≡◌, ℕ, ◌<◌, Bool, true, false, ◌||◌, ◌&&◌, if◌then◌else◌, List, Option, Some, None, is_some}
 use Rattle.psb_bytes.specs.declared.ids.Object.TheVariants.{Chunk}
 use Rattle.chunk_store.specs.declared.owner.Owner.{Owner}
 use Rattle.chunk_store.specs.declared.owner.Owner.TheVariants.{Own, Peer}
@@ -11,8 +11,9 @@ use Rattle.chunk_store.specs.Store.{record_of, is_owner}
 use Rattle.psb_model.specs.Words.{name_eq, has}
 use Rattle.psb_model.specs.State.{State, row, own_has, in_key, is_held}
 use Rattle.psb_model.specs.History.{state}
-use Rattle.psb_model.specs.Needed.{brings_name}
+use Rattle.psb_model.specs.Needed.{brings_name, last_place}
 use Rattle.psb_model.specs.declared.change.Change.{Change}
+use Rattle.psb_machine.specs.Deals.{Deal, StoreFresh}
 use Rattle.psb_model.specs.declared.change.Change.TheVariants.{TookFresh}
 
 -- whether a body is held under the name for this owner
@@ -22,8 +23,7 @@ owns s (Peer p) name = has in_key (row s p).ins (Chunk name)
 
 -- the number of the last of these changes that brings the bytes of a name; the first has number n
 abbrev pub brought_from : ℕ → List ℕ → List Change → Option ℕ
-brought_from n name [] = None
-brought_from n name (c ∷ cs) = elim (brought_from (n + 1) name cs) [ Some k ↦ Some k | None ↦ if brings_name name c then Some n else None ]
+brought_from n name h = last_place n (brings_name name) h
 
 -- the store has the names that are held after the history
 pub record KnowsNames (store : Store) (h : List Change) : Type 0 where
@@ -54,3 +54,7 @@ Enters old new _ number = SameNames old new
 abbrev pub IsNew : Store → Change → Type 0
 IsNew store (TookFresh p deal name first len brings body) = is_owner store (Peer p) name ≡ false
 IsNew store _ = Unit {0}
+
+-- a store has no record of the bytes that the deal would be compared with
+abbrev pub HasNone : Store → Deal → Type 0
+HasNone store (StoreFresh name bytes) = record_of store name ≡ None

@@ -1,15 +1,17 @@
 -- What a node makes of an input, and what making a change does to it.
 use Rattle.std.specs.Prelude.{◌≡◌, ◌≤◌, ◌<◌, ℕ, Bool, false, ◌==◌, List, [], ◌∷◌, ◌++◌, length, Some, None, Option, slice_get, option_map, option_to_list, is_some}
-use Rattle.psb_bytes.specs.Units.{longest_chunk}
 use Rattle.psb_settings.specs.declared.settings.Settings.{Settings}
-use Rattle.psb_model.specs.State.{State, row, is_held}
+use Rattle.psb_model.specs.State.{State, row}
 use Rattle.psb_model.specs.History.{state}
 use Rattle.psb_model.specs.Needed.{IsValid}
 use Rattle.psb_model.specs.declared.change.Change.{Change}
 use Rattle.wire_codec.specs.Frames.{datagram}
+use Rattle.psb_machine.specs.Deals.{is_compared}
+use Rattle.psb_machine.specs.Stores.{IsShort}
 use Rattle.psb_machine.specs.Replies.{reply_of, reply}
 use Rattle.psb_machine.specs.Machine.{Situation, Datagram, Reaction as MachineReaction, react, settled, quiet, drops, makes, tells_again}
 use Rattle.node_core.specs.Letters.{letters_of}
+use Rattle.node_core.specs.Offers.{deal_in}
 use Rattle.node_core.specs.Making.{CanMake, MayMake, made_of, made_in, why_refused}
 use Rattle.node_core.specs.Unread.{IsUnread, NeedsRecord}
 use Rattle.node_core.specs.declared.decision.Decision.{Decision}
@@ -27,8 +29,8 @@ pub record MakesChange (n : Situation) (x : List ℕ) (o : Offer) : Type 0 where
   pub reaction : react n (Datagram x) ≡ makes (made_in n.history o) (reply settings o.key o.peer o.number (made_in n.history o)) n.volatile
   -- whether or not other bytes are held under the name, what the offer makes is valid
   pub valid : (clash : Bool) → IsValid (n.history ++ made_of (state n.history) o (why_refused (state n.history) o clash) ∷ [])
-  -- an offer for which no record is read has a name under which nothing is held
-  pub unread : IsUnread n (Datagram x) → is_held (state n.history) o.name ≡ false
+  -- an offer for which no record is read is compared with nothing
+  pub unread : IsUnread n (Datagram x) → is_compared (state n.history) (deal_in o.asked) ≡ false
 
 -- the machine tells again of the change of the peer's last deal
 pub record TellsAgain (n : Situation) (x : List ℕ) (o : Offer) (change : ℕ) : Type 0 where
@@ -51,7 +53,7 @@ Decides (Again o change) n x = TellsAgain n x o change
 abbrev pub CanDo : Decision → State → Type 0
 CanDo (Drop why) s = Unit {0}
 CanDo Pass s = Unit {0}
-CanDo (Make o) s = CanMake s o × (length o.bytes.now ≤ longest_chunk)
+CanDo (Make o) s = CanMake s o × IsShort (deal_in o.asked)
 CanDo (Again o change) s = change < s.changes
 
 -- ---- what is made of it

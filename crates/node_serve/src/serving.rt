@@ -225,7 +225,7 @@ pub fn turn<L: Log, S: Station>(
     ensures whole { OnOk result (L.is_broken node.new.log ≡ false) }
     ensures unbroken { (result ≡ Err ServeFault.Memory) ⊎ (result ≡ Err ServeFault.Link) → L.is_broken node.new.log ≡ false }
     ensures counted { OnOk result (IsCounted L.size L.keeps_body node.new) }
-    ensures small { IfOk result (λ t. (t.taken + t.dropped ≤ 130) × (t.lost ≤ 130)) }
+    ensures small { IfOk result (λ t. (t.taken + t.dropped ≤ 2 * most_peers + 2) × (t.lost ≤ 2 * most_peers + 2)) }
     ensures disk_cause { result ≡ Err (ServeFault.Node fault.DiskFault) → Rose (S.view station.old).disk_faults (S.view station.new).disk_faults }
     ensures steady { (result ≡ Err (ServeFault.Node fault.DiskFault)) ⊎ ((S.view station.new).disk_faults ≡ (S.view station.old).disk_faults) }
     ensures link_cause { result ≡ Err ServeFault.Link → Rose (S.view station.old).outside.link_faults (S.view station.new).outside.link_faults }

@@ -1,19 +1,21 @@
 -- The machine on one datagram.
-use Rattle.std.proofs.Common.{◌≡◌, ℕ, List, Option, Some, Result, Ok, ◌∙◌, ap}
+use Rattle.std.proofs.Common.{◌≡◌, ℕ, List, Option, Some, None, Result, Ok, ◌∙◌, ap}
 use Rattle.psb_settings.specs.declared.settings.Settings.{Settings}
 use Rattle.psb_model.specs.History.{state}
 use Rattle.wire_codec.specs.Frames.{Incoming, read_frame, key_in}
 use Rattle.wire_codec.specs.declared.frame.Dropped.{Dropped}
-use Rattle.psb_machine.specs.Deals.{StoreFresh}
-use Rattle.psb_machine.specs.Stores.{incoming_store}
-use Rattle.psb_machine.specs.Machine.{Situation, Datagram, keys_of, on_deal, on_keyed, on_read, on_datagram, react}
+use Rattle.psb_machine.specs.Deals.{Deal, deal_of}
+use Rattle.wire_codec.specs.declared.frame.Frame.{Frame}
+use Rattle.psb_machine.specs.Machine.{Situation, Datagram, keys_of, quiet, on_deal, on_keyed, on_read, on_datagram, react}
 
 -- with its settings the machine reads the datagram
 pub react-read : (n : Situation) (x : List ℕ) (settings : Settings) → (state n.history).settings ≡ Some settings → react n (Datagram x) ≡ on_read settings n (read_frame settings.id (keys_of settings) x)
 react-read n x settings present = ap (λ (o : Option Settings). on_datagram o n x) present
 
-pub on_read-store : (settings : Settings) (n : Situation) (r : Result Incoming Dropped) (p number : ℕ) (key name bytes : List ℕ) → r ≡ Ok (incoming_store p number name bytes) → key_in (keys_of settings) p ≡ Some key
-    → on_read settings n r ≡ on_deal settings n p number key (StoreFresh name bytes)
-on_read-store settings n r p number key name bytes read keyed =
+-- a deal of a peer that has a key
+pub on_read-deal : (settings : Settings) (n : Situation) (r : Result Incoming Dropped) (p number : ℕ) (key : List ℕ) (frame : Frame) (deal : Deal) → r ≡ Ok (record { from = p; number = number; frame = frame }) → deal_of frame ≡ Some deal → key_in (keys_of settings) p ≡ Some key
+    → on_read settings n r ≡ on_deal settings n p number key deal
+on_read-deal settings n r p number key frame deal read asks keyed =
     ap (λ (q : Result Incoming Dropped). on_read settings n q) read
-    ∙ ap (λ (o : Option (List ℕ)). on_keyed settings n (incoming_store p number name bytes) o) keyed
+    ∙ ap (λ (o : Option (List ℕ)). on_keyed settings n (record { from = p; number = number; frame = frame }) o) keyed
+    ∙ ap (λ (o : Option Deal). elim o [ None ↦ quiet n.volatile | Some d ↦ on_deal settings n p number key d ]) asks

@@ -30,7 +30,7 @@ use Rattle.psb_machine.specs.declared.deals.Standing.TheVariants.{Fresh, Repeat,
 use Rattle.psb_machine.specs.declared.deals.Reason.{Reason}
 use Rattle.psb_machine.specs.declared.deals.Reason.TheVariants.{Busy, BadName, Already, Clash, NotThere, Unequal, Indebted, Full, Spent}
 use Rattle.psb_machine.specs.declared.deals.Refusal.{Refusal}
-use Rattle.psb_machine.specs.Stores.{StoreFits, store_reasons, took_fresh, judged_store}
+use Rattle.psb_machine.specs.Stores.{StoreFits, DealFits, store_reasons, took_fresh, judged_store, judged_with}
 use Rattle.psb_machine.proofs.Standings.{fresh_is_next, none_holds, detail_fits, first_fits}
 use Rattle.psb_machine.proofs.Lasts.{drawn}
 use Rattle.psb_machine.proofs.Peers.{keyed_is_peer}
@@ -182,6 +182,10 @@ judged_valid settings h p number name bytes clash v present peer f next_deal = b
     by_refusal : (o : Option Refusal) → first_that_holds (store_reasons settings (state h) p name bytes clash) ≡ o → IsValid (h ++ judged p number (took_fresh (state h) p number name bytes) o ∷ [])
     by_refusal None is = taken_valid settings h p number name bytes v present peer f (is_taken settings (state h) p number name bytes clash next_deal is)
     by_refusal (Some r) is = refused_valid h p number r v peer f.peer f.number_fits next_deal (first_fits (store_reasons settings (state h) p name bytes clash) r (details_fit settings h p name bytes clash v) is)
+
+pub judged_deal_valid : (settings : Settings) (h : List Change) (p number : ℕ) (deal : Deal) (clash : Bool) → IsValid h → (state h).settings ≡ Some settings → is_peer (state h) p ≡ true
+    → DealFits p number deal → is_next_deal (state h) p number ≡ true → IsValid (h ++ judged_with settings (state h) p number deal clash ∷ [])
+judged_deal_valid settings h p number (StoreFresh name bytes) clash v present peer f next_deal = judged_valid settings h p number name bytes clash v present peer f next_deal
 
 deal_valid : (settings : Settings) (n : Situation) (p number : ℕ) (key : List ℕ) (deal : Deal) → IsValid n.history → (is_next_deal (state n.history) p number ≡ true → IsValid (n.history ++ judged_at settings n.history p number deal ∷ [])) → IsValid (n.history ++ changes_of (on_deal settings n p number key deal))
 deal_valid settings n p number key deal v made = by_how (standing (row (state n.history) p).last.number number) refl

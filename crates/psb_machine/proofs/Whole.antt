@@ -16,7 +16,7 @@ use Rattle.psb_machine.specs.Replies.{reply}
 use Rattle.psb_machine.specs.Machine.{Situation, Volatile, Input, Datagram, Tick, Keep, Snap, Forget, Reaction, quiet, tells_again, settled, ticked, react, keys_of, by_standing, on_deal, on_frame, on_keyed, on_read, on_datagram}
 use Rattle.psb_machine.specs.declared.deals.Standing.{Standing}
 use Rattle.psb_machine.specs.declared.deals.Standing.TheVariants.{Fresh, Repeat, Stale, Gap}
-use Rattle.psb_machine.specs.Laws.{KeepsValid, TellsOfItsChange}
+use Rattle.psb_machine.specs.Laws.{KeepsValid, AllTellLittle}
 use Rattle.psb_machine.proofs.Valid.{FrameFits, unchanged, datagram_valid}
 
 pub frame_read_fits : (own : ℕ) (keys : List (ℕ × List ℕ)) (x : List ℕ) (i : Incoming) → AreBytes x → read_frame own keys x ≡ Ok i → FrameFits i.from i.number i.frame
@@ -83,5 +83,5 @@ little n (Keep name bytes) = quiet_little n n.volatile
 little n (Snap note) = quiet_little n n.volatile
 little n (Forget number) = quiet_little n n.volatile
 
-pub tells_little : TellsOfItsChange
+pub tells_little : AllTellLittle
 tells_little n x = let o = little n x in record { most = o.most; dropped = λ is. record { letters = o.letters is; same = o.same is } }

@@ -26,5 +26,5 @@ pub record TellsLittle (n : Situation) (x : Input) : Type 0 where
   pub most : length (react n x).letters ≤ 2
   pub dropped : is_some (react n x).dropped ≡ true → Drops n x
 
-abbrev pub TellsOfItsChange : Type 0
-TellsOfItsChange = (n : Situation) (x : Input) → TellsLittle n x
+abbrev pub AllTellLittle : Type 0
+AllTellLittle = (n : Situation) (x : Input) → TellsLittle n x

@@ -1,6 +1,6 @@
 -- Worked deals: what answers a peer's chunk where the node's claims come to their end, which no short
 -- history reaches.
-use Rattle.std.specs.Prelude.{◌≡◌, ℕ, true, false, List, length, Some}
+use Rattle.std.specs.Prelude.{◌≡◌, ℕ, true, false, List, length, Some, None}
 use Rattle.psb_model.specs.State.{nothing_yet}
 use Rattle.psb_model.specs.declared.change.Change.{Change}
 use Rattle.psb_model.specs.declared.change.Change.TheVariants.{TookFresh, Refused}
@@ -8,7 +8,7 @@ use Rattle.psb_machine.specs.Deals.{Facts, StoreFresh, judge}
 
 -- a chunk of right bytes that nobody holds, where so many claims were issued and so much may be held
 abbrev pub facts_near : ℕ → ℕ → Facts
-facts_near issued capacity = record { name_fits = true; clash = false; new_body = true; issued = issued; capacity = capacity }
+facts_near issued capacity = record { name_fits = true; clash = false; new_body = true; home = None; issued = issued; capacity = capacity }
 
 -- the change that it makes, as the first deal of a peer for whom nothing is held
 abbrev pub made_near : ℕ → ℕ → List ℕ → List ℕ → Change

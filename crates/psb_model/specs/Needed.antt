@@ -1,5 +1,5 @@
 -- The bodies that a history needs, and the histories that a node's log may stand for.
-use Rattle.std.specs.Prelude.{◌≡◌, ℕ, ◌≤◌, Bool, true, false, not, ◌||◌, ◌&&◌, ◌==◌, if◌then◌else◌, List, [], ◌∷◌, length, Option, Some, None}
+use Rattle.std.specs.Prelude.{◌≡◌, ℕ, ◌+◌, ◌≤◌, Bool, true, false, not, ◌||◌, ◌&&◌, ◌==◌, if◌then◌else◌, List, [], ◌∷◌, length, take, drop, option_map, Option, Some, None}
 use Rattle.std.specs.List.{list_any, list_all}
 use Rattle.psb_digest.specs.Hashes.{sha}
 use Rattle.psb_bytes.specs.declared.ids.Object.TheVariants.{Slot}
@@ -33,6 +33,34 @@ brings_name name c = elim (brings c) [ None ↦ false | Some n ↦ name_eq n nam
 -- the change carries the bytes of this slot of p
 abbrev pub gives_slot : ℕ → ℕ → Change → Bool
 gives_slot p n c = elim (peer_of c) [ None ↦ false | Some q ↦ q == p && list_any (λ m. m == n) (slots_given c) ]
+
+-- the last of these changes that passes the test; and where it stands, the first having number n
+abbrev pub last_that : (Change → Bool) → List Change → Option Change
+last_that test [] = None
+last_that test (c ∷ cs) = elim (last_that test cs) [ Some d ↦ Some d | None ↦ if test c then Some c else None ]
+
+abbrev pub last_place : ℕ → (Change → Bool) → List Change → Option ℕ
+last_place n test [] = None
+last_place n test (c ∷ cs) = elim (last_place (n + 1) test cs) [ Some k ↦ Some k | None ↦ if test c then Some n else None ]
+
+-- The bytes of a name: those that the last change which carries some brought.
+abbrev pub last_bringing : List ℕ → List Change → Option Change
+last_bringing name h = last_that (brings_name name) h
+
+abbrev pub last_brought : List ℕ → List Change → Option (List ℕ)
+last_brought name h = elim (last_bringing name h) [ Some c ↦ body_of c | None ↦ None ]
+
+-- The bytes of a slot of p: those that the last change which carries some gave. A body has 512 bytes for
+-- each of its slots, in their order.
+abbrev pub piece_of : ℕ → List ℕ → List ℕ → List ℕ
+piece_of n [] body = []
+piece_of n (m ∷ ms) body = if m == n then take 512 body else piece_of n ms (drop 512 body)
+
+abbrev pub given_by : ℕ → Change → Option (List ℕ)
+given_by n c = option_map (piece_of n (slots_given c)) (body_of c)
+
+abbrev pub slot_bytes : ℕ → ℕ → List Change → Option (List ℕ)
+slot_bytes p n h = elim (last_that (gives_slot p n) h) [ Some c ↦ given_by n c | None ↦ None ]
 
 -- the bytes of the name are held, and no later change brings them again
 abbrev pub needs_name : State → Option (List ℕ) → List Change → Bool

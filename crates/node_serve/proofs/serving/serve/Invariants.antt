@@ -1,4 +1,5 @@
 use Rattle.std.proofs.Common.{◌≡◌, ◌+◌, ◌≤◌, ◌*◌, Some, false}
+use Rattle.psb_settings.specs.Settings.{most_peers}
 use Rattle.psb_station.specs.Span.{Tells_bytes}
 use Rattle.node_core.specs.Stored.{IsCounted}
 use Rattle.node_serve.specs.Hears.{Whole}
@@ -18,6 +19,6 @@ invariant-loop-turn g l = record {
   whole : g.L.Log.is_broken l.node.log ≡ false;
   counted : IsCounted g.L.Log.size g.L.Log.keeps_body l.node;
   turns : l.total.turns ≡ l.turns;
-  small : l.total.taken + l.total.dropped ≤ 130 * l._turn;
-  few : l.total.lost ≤ 130 * l._turn;
+  small : l.total.taken + l.total.dropped ≤ (2 * most_peers + 2) * l._turn;
+  few : l.total.lost ≤ (2 * most_peers + 2) * l._turn;
 }

@@ -1,0 +1,172 @@
+//! What a node makes of an input. Nothing is written here.
+
+ghost use Rattle.std.specs.Prelude.{◌≡◌, ◌⊎◌, ◌≤◌, ◌<◌, ◌^◌, List, Bool, ℕ, true, false, length, Some, None, is_some, IfSome, IfOk, OnErr};
+ghost use Rattle.psb_model.specs.State.{is_held};
+ghost use Rattle.psb_model.specs.History.{state};
+ghost use Rattle.psb_model.specs.declared.change.Change.{Change};
+ghost use Rattle.psb_station.specs.Span.{Tells_bytes, Looked};
+ghost use Rattle.psb_machine.specs.Machine.{Situation, react};
+ghost use Rattle.psb_machine.specs.Deals.{is_compared};
+ghost use Rattle.psb_machine.specs.Stores.{IsShort};
+
+use super::{Input, Node};
+use crate::Fault;
+use crate::decision::Decision;
+use crate::offer::{Offer, Reading};
+use crate::reaction::{Reaction, one_letter, quiet};
+use crate::refusal::refusal_of;
+use crate::replies::{brings_new, judged, letter_with, reply_again, reply_to};
+use node_journal::Log;
+use psb_machine::{Refusal, Standing};
+use psb_station::Disk;
+
+impl<L: Log> Node<L> {
+    ghost use Rattle.chunk_store.specs.Store.{record_of};
+    ghost use Rattle.node_core.specs.Letters.{letters_of, input_of};
+    ghost use Rattle.node_core.specs.Offers.{deal_in};
+    ghost use Rattle.node_core.specs.Making.{CanMake, CanTell, made_of, made_in, why_refused};
+    ghost use Rattle.node_core.specs.Stored.{Knows, Stored, IsCounted};
+    ghost use Rattle.node_core.specs.Unread.{IsUnread};
+    ghost use Rattle.node_core.specs.Reacting.{Decides, CanDo, Makes, MakesNone, IsToldAgain, Reacts, ReactsSo, MayCome, IsSame};
+
+    /// What the machine makes of an input. Nothing is written.
+    pub(super) fn react<D: Disk>(
+        &mut self,
+        disk: &mut D,
+        input: &Input<'_>,
+    ) -> Result<Reaction, Fault>
+        requires whole { L.is_broken self.old.log ≡ false }
+        requires known { (n : Situation) × Knows self.old n }
+        requires counted { IsCounted L.size L.keeps_body self.old }
+
+        // Where the disk tells its bytes, and on every disk where no record is read for the input.
+        ensures exact { IfOk result (λ r. Tells_bytes (D.view disk.new) → (n : Situation) → Knows self.old n → Stored L.holds self.old n.history (D.view disk.old)
+            → Reacts r (react n (input_of input.now))) }
+        ensures unread { IfOk result (λ r. (n : Situation) → Knows self.old n → IsUnread n (input_of input.now) → Reacts r (react n (input_of input.now))) }
+        ensures so { IfOk result (λ r. (n : Situation) → Knows self.old n → ReactsSo r (react n (input_of input.now))) }
+        ensures may { IfOk result (λ r. IfSome r.change (MayCome Knows self.old)) }
+        ensures few { IfOk result (λ r. length r.out ≤ 2) }
+        ensures rests { (n : Situation) → Knows self.old n → IsUnread n (input_of input.now) → (react n (input_of input.now)).grown ≡ None → disk.new ≡ disk.old }
+        ensures same { IsSame self.old self.new }
+        ensures looked { Looked (result ≡ Err Fault.DiskFault) (D.view disk.old) (D.view disk.new) }
+        ensures reads { (D.view disk.new).write_faults ≡ (D.view disk.old).write_faults }
+        ensures only { OnErr result ((result ≡ Err Fault.DiskFault) ⊎ (result ≡ Err Fault.Memory)) }
+    {
+        let datagram = match input {
+            Input::Frame(datagram) => datagram,
+            Input::Tick(_) => return Ok(quiet(self.alloc, None)),
+        };
+        match self.decide(datagram) {
+            Decision::Drop(why) => Ok(quiet(self.alloc, Some(why))),
+            Decision::Pass => Ok(quiet(self.alloc, None)),
+            Decision::Make(offer) => self.judge(disk, &offer),
+            Decision::Again(offer, change) => self.tell_again(disk, &offer, change),
+        }
+    }
+
+    /// What is to be done with a datagram.
+    fn decide<'a>(&self, datagram: &'a [u8]) -> Decision<'a>
+        requires known { (n : Situation) × Knows self.now n }
+        requires few { self.now.ledger.state.changes < 2 ^ 62 }
+        ensures decides { (n : Situation) → Knows self.now n → Decides result n datagram.now }
+        ensures can { CanDo result self.now.ledger.state }
+    {
+        let offer = match self.peers.read(datagram) {
+            Reading::Fails(why) => return Decision::Drop(why),
+            Reading::Other => return Decision::Pass,
+            Reading::Offer(offer) => offer,
+        };
+        let last = self.ledger.last(offer.peer);
+        match Standing::of(last.number, offer.number) {
+            Standing::Fresh => Decision::Make(offer),
+            Standing::Repeat => Decision::Again(offer, last.change),
+            Standing::Stale | Standing::Gap => Decision::Pass,
+        }
+    }
+
+    /// Looks at why a fresh offer is refused, and so at what it makes.
+    fn judge<D: Disk>(&mut self, disk: &mut D, offer: &Offer<'_>) -> Result<Reaction, Fault>
+        requires whole { L.is_broken self.old.log ≡ false }
+        requires known { (n : Situation) × Knows self.old n }
+        requires counted { IsCounted L.size L.keeps_body self.old }
+        requires short { IsShort (deal_in offer.now.asked) }
+        requires can { CanMake self.old.ledger.state offer.now }
+
+        // On each disk as if other bytes were held under its name, or as if none were; where the disk tells
+        // its bytes, or none are held, as the machine does.
+        ensures somehow { IfOk result (λ r. (clash : Bool) × Makes r self.old offer.now (made_of self.old.ledger.state offer.now (why_refused self.old.ledger.state offer.now clash))) }
+        ensures exact { IfOk result (λ r. Tells_bytes (D.view disk.new) → (n : Situation) → Knows self.old n → Stored L.holds self.old n.history (D.view disk.old)
+            → Makes r self.old offer.now (made_in n.history offer.now)) }
+        ensures unheld { IfOk result (λ r. (n : Situation) → Knows self.old n → is_compared (state n.history) (deal_in offer.now.asked) ≡ false
+            → Makes r self.old offer.now (made_in n.history offer.now)) }
+        ensures same { IsSame self.old self.new }
+        ensures looked { Looked (result ≡ Err Fault.DiskFault) (D.view disk.old) (D.view disk.new) }
+        ensures reads { (D.view disk.new).write_faults ≡ (D.view disk.old).write_faults }
+        ensures only { OnErr result ((result ≡ Err Fault.DiskFault) ⊎ (result ≡ Err Fault.Memory)) }
+    {
+        let refusal = refusal_of(
+            self.alloc,
+            &mut self.log,
+            disk,
+            &self.ledger,
+            &self.names,
+            offer,
+        )?;
+        self.answer(offer, refusal)
+    }
+
+    /// The change of a fresh offer, and the letter that tells of it.
+    fn answer(&mut self, offer: &Offer<'_>, refusal: Option<Refusal>) -> Result<Reaction, Fault>
+        requires short { IsShort (deal_in offer.now.asked) }
+        requires held { (name : List ℕ) → is_some (record_of self.old.names name) ≡ is_held self.old.ledger.state name }
+        requires can { CanTell self.old.ledger.state (made_of self.old.ledger.state offer.now refusal) }
+        ensures makes { IfOk result (λ r. Makes r self.old offer.now (made_of self.old.ledger.state offer.now refusal)) }
+        ensures same { IsSame self.old self.new }
+        ensures only { OnErr result (result ≡ Err Fault.Memory) }
+    {
+        let alloc = self.alloc;
+        let new = brings_new(&self.names, offer);
+        let change = judged(alloc, offer, &self.ledger, new, refusal)?;
+        let Some(reply) = reply_to(alloc, &mut self.claims, &change)? else {
+            unreachable!()
+        };
+        let out = one_letter(
+            alloc,
+            letter_with(alloc, &reply, self.peers.own().id, offer)?,
+        )?;
+        Ok(Reaction {
+            change: Some(change),
+            dropped: None,
+            out,
+        })
+    }
+
+    /// Answers a deal that comes again as the change that it made was answered.
+    fn tell_again<D: Disk>(
+        &mut self,
+        disk: &mut D,
+        offer: &Offer<'_>,
+        change: u64,
+    ) -> Result<Reaction, Fault>
+        requires whole { L.is_broken self.old.log ≡ false }
+        requires below { change < L.size self.old.log }
+        ensures told { IfOk result (λ r. Tells_bytes (D.view disk.new) → (n : Situation) → Knows self.old n → Stored L.holds self.old n.history (D.view disk.old)
+            → IsToldAgain n offer.now change (letters_of r.out)) }
+        ensures none { IfOk result MakesNone }
+        ensures same { IsSame self.old self.new }
+        ensures looked { Looked (result ≡ Err Fault.DiskFault) (D.view disk.old) (D.view disk.new) }
+        ensures reads { (D.view disk.new).write_faults ≡ (D.view disk.old).write_faults }
+        ensures only { OnErr result ((result ≡ Err Fault.DiskFault) ⊎ (result ≡ Err Fault.Memory)) }
+    {
+        let alloc = self.alloc;
+        let Some(reply) = reply_again(alloc, &mut self.log, disk, &mut self.claims, change)? else {
+            return Ok(quiet(alloc, None));
+        };
+        let letter = letter_with(alloc, &reply, self.peers.own().id, offer)?;
+        Ok(Reaction {
+            change: None,
+            dropped: None,
+            out: one_letter(alloc, letter)?,
+        })
+    }
+}
