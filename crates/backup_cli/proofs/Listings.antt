@@ -25,7 +25,7 @@ use Rattle.backup_cli.specs.declared.status.Status.{Status}
 use Rattle.backup_cli.specs.declared.status.Status.TheVariants.{Done, DiskFault, SayFault, Memory}
 use Rattle.backup_cli.proofs.Commanding.{NoOther, long_says, ended, lines_behind, from_before}
 use Rattle.backup_cli.proofs.Ends.{refused_since, kept_since, images_since, unopened_command}
-use Rattle.backup_cli.proofs.Outcomes.{one_at, front_back, long_front, utters_as}
+use Rattle.backup_cli.proofs.Outcomes.{one_at, front_back, long_front, some_behind, some_undone, utters_as}
 use Rattle.backup_cli.proofs.Utterances.{utters_tells, utters_then}
 
 -- the node was not opened
@@ -40,6 +40,7 @@ nothing_listed stands h settings v0 v1 v3 status text why halted one now keeps t
       subst (λ (m : ℕ). Commanded stands h false (says (peer_lines settings (state h))) None text m v0 v3 (ending_of status)) (sym one)
       (unopened_command stands h (says (peer_lines settings (state h))) v0 v1 v3 text (ending_of status) halted now keeps tells u);
   fails = λ is. absurd (false≢true is);
+  unsaid = λ is. absurd (false≢true is);
   bytes = u.bytes tells ∙ keeps.bytes (utters_tells v1 v3 1 text u tells);
   images = images_since v0 v1 v3 1 text now keeps u;
   kept = kept_since v0 v1 v3 1 text keeps u;
@@ -49,10 +50,10 @@ module _ {L : Type 0} (holds : L → List Entry → List ℕ → Type 0) (stands
   -- the node was opened; these lines were said, and one more was tried at most
   lines_listed : (status : Status) (node : Node L) (h : List Change) (settings : Settings) (v0 v1 v3 : View) (text : List ℕ) (said tried rest : List (List ℕ))
       → IfThrough (ending_of status) ((tried ≡ []) × (rest ≡ [])) → ((P : Type 0) → P → UnlessHarmed (ending_of status) P) → ((P Q : Type 0) → (P → Q) → IfThrough (ending_of status) P → IfThrough (ending_of status) Q)
-      → FailsToSay status (says tried) → length tried ≤ 1 → broken node.log ≡ false
+      → FailsToSay status (says tried) → length tried ≤ 1 → (status ≡ Memory → 1 ≤ length rest) → broken node.log ≡ false
       → NoOther v0 → NoOther v1 → Keeps v0 v1 → Tells_bytes v3 → Knows node (fresh h) → Stored holds node h v1 → peer_lines settings (state h) ≡ said ++ tried ++ rest
       → Utters v1 v3 (length said + length tried + refused_of status) (joined_lines said ++ text) → IsRefusal status text v1 v3 → Lists stands h settings true v0 v3 status
-  lines_listed status node h settings v0 v1 v3 text said tried rest through unless lift fails few sound now now1 keeps tells knows st lines_are u how =
+  lines_listed status node h settings v0 v1 v3 text said tried rest through unless lift fails few left sound now now1 keeps tells knows st lines_are u how =
       let r = uncounted holds stands broken law node node v1 v1 (fresh h) [] (Some no_tally) true (fed_none holds stands broken law node (fresh h) v1 knows st) in
       let b = lines_behind holds stands broken law node node h v1 v1 [] None (peer_lines settings (state h)) said tried rest r lines_are in
       let many : length (r.failed ++ says tried) ≤ 1 = omega (arith, few, long_says tried, ap (λ (l : List Step). length l) b.1) in
@@ -66,6 +67,7 @@ module _ {L : Type 0} (holds : L → List Entry → List ℕ → Type 0) (stands
         how = refused_since status text v0 v1 v3 (ap (λ (o : Outside). o.say_faults) keeps.works.outside) how;
         course = d.0;
         fails = λ _. subst (FailsToSay status) (sym (d.1 ∙ c.1 ∙ b.1)) fails;
+        unsaid = λ _ short. subst (λ (l : List Step). 1 ≤ length l) (sym (d.2 ∙ c.2)) (some_undone r.undone rest (left short));
         bytes = u.bytes tells ∙ keeps.bytes (utters_tells v1 v3 _ _ u tells);
         images = images_since v0 v1 v3 _ _ now keeps u;
         kept = kept_since v0 v1 v3 _ _ keeps u;
@@ -75,7 +77,7 @@ module _ {L : Type 0} (holds : L → List Entry → List ℕ → Type 0) (stands
       → SaysLines (peer_lines settings (state h)) v1 v3 (Ok tt) → Lists stands h settings true v0 v3 Done
   all_listed node h settings v0 v1 v3 sound now now1 keeps tells knows st said =
       let lines = peer_lines settings (state h) in
-      lines_listed Done node h settings v0 v1 v3 [] lines [] [] (refl, refl) (λ P p. p) (λ P Q f p. f p) refl (omega arith) sound now now1 keeps tells knows st
+      lines_listed Done node h settings v0 v1 v3 [] lines [] [] (refl, refl) (λ P p. p) (λ P Q f p. f p) refl (omega arith) (λ short. absurd (cc (short))) sound now now1 keeps tells knows st
       (sym (append-nil (lines ++ []) ∙ append-nil lines))
       (utters_as v1 v3 (length lines) (length lines + 0 + 0) (joined_lines lines) (joined_lines lines ++ []) (omega arith) (sym (append-nil (joined_lines lines))) said) (inl refl)
 
@@ -86,7 +88,7 @@ module _ {L : Type 0} (holds : L → List Entry → List ℕ → Type 0) (stands
       let full = said.0 in
       let at = one_at lines full said.1 in
       let front = take full lines in
-      lines_listed SayFault node h settings v0 v1 v3 [] front (at.0 ∷ []) at.1 tt (λ P p. p) (λ P Q f p. tt) (at.0, refl) (omega arith) sound now now1 keeps tells knows st at.2
+      lines_listed SayFault node h settings v0 v1 v3 [] front (at.0 ∷ []) at.1 tt (λ P p. p) (λ P Q f p. tt) (at.0, refl) (omega arith) (λ short. absurd (cc (short))) sound now now1 keeps tells knows st at.2
       (utters_as v1 v3 (full + 1) (length front + 1 + 0) (joined_lines front) (joined_lines front ++ []) (omega (arith, long_front lines full (omega (arith, said.1)))) (sym (append-nil (joined_lines front))) said.2) (inl refl)
 
   pub short_of_memory : (node : Node L) (h : List Change) (settings : Settings) (v0 v1 w v3 : View) (text : List ℕ) → broken node.log ≡ false → NoOther v0 → NoOther v1 → Keeps v0 v1 → Tells_bytes v3 → Knows node (fresh h) → Stored holds node h v1
@@ -95,7 +97,7 @@ module _ {L : Type 0} (holds : L → List Entry → List ℕ → Type 0) (stands
       let lines = peer_lines settings (state h) in
       let full = said.0 in
       let front = take full lines in
-      lines_listed Memory node h settings v0 v1 v3 text front [] (drop full lines) tt (λ P p. p) (λ P Q f p. tt) refl (omega arith) sound now now1 keeps tells knows st
+      lines_listed Memory node h settings v0 v1 v3 text front [] (drop full lines) tt (λ P p. p) (λ P Q f p. tt) refl (omega arith) (λ _. some_behind lines full said.1) sound now now1 keeps tells knows st
       (front_back lines full ∙ ap (λ (l : List (List ℕ)). l ++ drop full lines) (sym (append-nil front)))
-      (utters_as v1 v3 (full + 1) (length front + 0 + 1) (joined_lines front ++ text) (joined_lines front ++ text) (omega (arith, long_front lines full said.1)) refl (utters_then v1 w v3 full 1 (joined_lines front) text said.2 u))
+      (utters_as v1 v3 (full + 1) (length front + 0 + 1) (joined_lines front ++ text) (joined_lines front ++ text) (omega (arith, long_front lines full (omega (arith, said.1)))) refl (utters_then v1 w v3 full 1 (joined_lines front) text said.2 u))
       (⊎_elim (λ line. inl line) (λ none. inr (none.0, rose_last v1.outside.say_faults w.outside.say_faults v3.outside.say_faults said.2.counts none.1)) how)

@@ -1,5 +1,5 @@
 -- The headline of `ledger`: the lines of the peers at the history that the disk holds.
-use Rattle.std.specs.Prelude.{◌≡◌, ◌⊎◌, ℕ, Bool, true, false, List, [], ◌∷◌, None}
+use Rattle.std.specs.Prelude.{◌≡◌, ◌⊎◌, ℕ, ◌≤◌, Bool, true, false, List, [], ◌∷◌, length, None}
 use Rattle.psb_station.specs.View.{View}
 use Rattle.node_journal.specs.Entry.{Entry}
 use Rattle.psb_settings.specs.declared.settings.Settings.{Settings}
@@ -28,6 +28,8 @@ pub record Lists (stands : List Entry → List ℕ → Type 0) (h : List Change)
   pub how : IsRefusal status refusal old new
   pub course : Commanded stands h opened (says (peer_lines settings (state h))) None refusal (refused_of status) old new (ending_of status)
   pub fails : opened ≡ true → FailsToSay status course.failed
+  -- where memory was short for a line, it is left undone
+  pub unsaid : opened ≡ true → status ≡ Memory → 1 ≤ length course.undone
   -- nothing is changed, heard or sent
   pub bytes : new.bytes ≡ old.bytes
   pub images : (c : List ℕ) (k : ℕ) → new.left_since old.moment c k → old.may_leave c

@@ -55,13 +55,13 @@ pub fn find_twice<D: Disk>(
     Ok([first, second])
 }
 
-/// A disk of no bytes whose first hundred calls fail.
-pub fn failing_disk(alloc: Global) -> Result<MemStation, Memory> {
+/// A disk of these bytes whose first hundred calls fail.
+pub fn failing_disk(alloc: Global, image: &[u8]) -> Result<MemStation, Memory> {
     let mut faults = Vec::new(alloc);
     for call in 1..101u64 {
         faults.push(call)?;
     }
-    let nothing = Vec::new(alloc);
+    let image = Vec::from_slice(alloc, image)?;
     let clock = Vec::new(alloc);
-    Ok(MemStation::new(alloc, nothing, Vec::new(alloc), clock, faults))
+    Ok(MemStation::new(alloc, image, Vec::new(alloc), clock, faults))
 }

@@ -12,6 +12,7 @@
 //! - `run WORD ..`
 //! - `left N OUTCOME`, where OUTCOME is 0, 1 or 2
 //! - `body NAME`, where NAME is 64 digits
+//! - `absorb HEX`
 //! - `tree`
 use crate::stop::Stop;
 use crate::words::{
@@ -47,6 +48,9 @@ pub enum Command<'a> {
     Left(u64, Outcome),
     /// The body that the image's node holds under a name is read twice, and what came of it is printed.
     Body(Digest),
+    /// The image's node absorbs this datagram twice, with the faults of the next run, and what came of it
+    /// is printed.
+    Absorb(Vec<u8>),
     /// What the folder holds is printed.
     Tree,
 }
@@ -76,6 +80,7 @@ fn read_short<'a>(alloc: Global, first: &str, rest: &[&'a str]) -> Result<Comman
         ("folder", [path]) => Ok(Command::Folder(path)),
         ("left", [number, outcome]) => read_left(number, outcome),
         ("body", [name]) => Ok(Command::Body(read_digest(name).ok_or(Stop::Outside)?)),
+        ("absorb", [bytes]) => Ok(Command::Absorb(read_hex(alloc, bytes)?)),
         ("tree", []) => Ok(Command::Tree),
         _ => Err(Stop::Outside),
     }

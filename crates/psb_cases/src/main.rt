@@ -3,6 +3,7 @@
 //! line's number, and ends with status 1.
 #![tactic(auto)]
 
+mod absorbing;
 mod bodies;
 mod command;
 mod report;
@@ -13,7 +14,7 @@ mod world;
 use bodies::{failing_disk, find_twice};
 use command::{Command, read_command};
 use psb_bytes::Digest;
-use report::{print_found, print_left, print_run, print_tree};
+use report::{print_absorbed, print_found, print_left, print_run, print_tree};
 use std::alloc::Global;
 use std::io;
 use std::io::{BufRead, BufReader, BufWriter, Write};
@@ -44,6 +45,7 @@ fn obey<W: Write>(
         Command::Run(words) => run(alloc, world, out, &words)?,
         Command::Left(change, outcome) => leave(alloc, world, out, change, outcome)?,
         Command::Body(name) => find(alloc, world, out, &name)?,
+        Command::Absorb(frame) => absorb(world, out, &frame)?,
         Command::Tree => print_tree(alloc, out, &world.folder)?,
     }
     Ok(())
@@ -76,14 +78,23 @@ fn leave<W: Write>(
     }
 }
 
-/// Reads a body from a disk that fails, and then from the image, and prints what came of each.
+/// Reads a body from a disk of the image that fails, and then from one that does not, and prints what
+/// came of each.
 fn find<W: Write>(alloc: Global, world: &World, out: &mut W, name: &Digest) -> Result<(), Stop> {
-    let mut failing = failing_disk(alloc)?;
+    let mut failing = failing_disk(alloc, &world.image)?;
     let mut disk = world.disk()?;
     let mut body = Vec::new(alloc);
     let [first, second] = find_twice(alloc, &mut disk, &mut failing, name, &mut body)?;
     print_found(alloc, out, first, &body)?;
     print_found(alloc, out, second, &body)
+}
+
+/// Has the image's node absorb a datagram twice, and prints what came of each.
+fn absorb<W: Write>(world: &mut World, out: &mut W, frame: &[u8]) -> Result<(), Stop> {
+    let [first, second] = world.absorb(frame)?;
+    print_absorbed(out, first)?;
+    print_absorbed(out, second)?;
+    Ok(())
 }
 
 /// Reads a line, and does what it asks for.

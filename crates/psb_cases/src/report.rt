@@ -6,12 +6,17 @@
 //! - `joined ID ADDRESS` for each node that the link was told of, in order
 //! - `image LENGTH SHA256`, what the disk reads
 //!
-//! After `body` two lines, of a disk all of whose calls fail, and of the image: `body LENGTH SHA256`,
-//! `body none` where none is held under the name, or `body fault`.
+//! After `body` two lines, of a disk of the image whose calls fail, and of one that does not:
+//! `body LENGTH SHA256`, `body none` where none is held under the name, or `body fault`.
+//!
+//! After `absorb` two lines, one for each time: `absorb change N`, the number of the change that it made,
+//! `absorb nothing` where it made none, `absorb fault` where the disk failed, or `absorb broken` where it
+//! had failed in an append before.
 //!
 //! After `left` the line `left LENGTH SHA256`, or `left none` where the last run made fewer calls that
 //! write. For `tree` a line `tree PATH folder` or `tree PATH LENGTH SHA256` for each entry below the
 //! root, paths ascending by their bytes.
+use crate::absorbing::Absorbed;
 use crate::bodies::Found;
 use crate::stop::Stop;
 use backup_cli::Status;
@@ -101,6 +106,16 @@ pub fn print_found<W: Write>(
         Found::Fault => writeln!(out, " fault")?,
     }
     Ok(())
+}
+
+/// What came of a datagram that was absorbed.
+pub fn print_absorbed<W: Write>(out: &mut W, absorbed: Absorbed) -> io::Result<()> {
+    match absorbed {
+        Absorbed::Change(number) => writeln!(out, "absorb change {number}"),
+        Absorbed::Nothing => writeln!(out, "absorb nothing"),
+        Absorbed::Fault => writeln!(out, "absorb fault"),
+        Absorbed::Broken => writeln!(out, "absorb broken"),
+    }
 }
 
 /// What the folder holds.

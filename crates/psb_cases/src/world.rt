@@ -2,6 +2,7 @@
 ghost use Rattle.std.specs.Prelude.{◌≤◌, length, All};
 ghost use Rattle.std.proofs.Props.{props};
 
+use crate::absorbing::{Absorbed, absorb_twice};
 use crate::stop::Stop;
 use crate::words::Outcome;
 use backup_cli::Status;
@@ -96,6 +97,15 @@ impl World {
         self.folder.plan(Vec::new(self.alloc));
         self.image = Vec::from_slice(self.alloc, station.image())?;
         Ok((status, self.last.insert(station)))
+    }
+
+    /// Has the image's node absorb a datagram twice, over a station as that of a run, and says what came of
+    /// each.
+    pub fn absorb(&mut self, frame: &[u8]) -> Result<[Absorbed; 2], Stop> {
+        let mut station = self.take_station();
+        let absorbed = absorb_twice(self.alloc, &mut station, frame)?;
+        self.image = Vec::from_slice(self.alloc, station.image())?;
+        Ok(absorbed)
     }
 
     /// Makes the image that which a crash at a change of the disk in the last run leaves, and says
