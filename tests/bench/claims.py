@@ -46,19 +46,6 @@ fn make_again(source: &ClaimSource, number: u32, times: u32) -> u64 {
     sum
 }
 
-/// Makes so many claims that were walked, as a Store that is read again does, and adds up their first
-/// bytes.
-fn make_known(source: &ClaimSource, first: u32, count: u32) -> u64 {
-    let mut sum = 0_u64;
-    if u64::from(first) + u64::from(count) <= u64::from(source.issued()) {
-        let mut run = source.run_from(first);
-        for _next in 0..count {
-            sum = sum.wrapping_add(u64::from(run.next_claim()[0]));
-        }
-    }
-    sum
-}
-
 /// Walks on over so many claims, as a new Store does, and adds up their first bytes.
 fn walk_over(source: &mut ClaimSource, count: u32) -> Result<u64, Memory> {
     let mut sum = 0_u64;
@@ -101,7 +88,6 @@ fn main(rt: HostRuntime) -> ExitCode {
         "first" => new_source(alloc, 65_536).map(|s| u64::from(s.issued())),
         "one" => new_source(alloc, 65_536).map(|s| make_again(&s, 65_535, 4_096)),
         "store" => new_source(alloc, 65_536).and_then(|mut s| walk_over(&mut s, 64)),
-        "known" => new_source(alloc, 65_536).map(|s| make_known(&s, 40_000, 64)),
         "all" => new_source(alloc, 1_000_000).map(|s| u64::from(s.issued())),
         "home" => new_source(alloc, 1_000_000).map(|s| u64::from(look_in_vain(&s, 4_096))),
         _ => Ok(0),
@@ -121,7 +107,6 @@ ROWS = (
     ("first", "and 65,536 claims walked"),
     ("one", "and claim 65,535 made 4,096 times"),
     ("store", "and the next 64 walked over, in place of these"),
-    ("known", "and claims 40,000 to 40,063 made again, in place of these"),
     ("all", "a million numbers issued, and all walked"),
     ("home", "and 4,096 bodies that are no claims looked for"),
 )

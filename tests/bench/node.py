@@ -1,5 +1,6 @@
 #!/usr/bin/env python3
-"""Times a node that has long histories: how it opens them, and how many Stores it answers. Not a part of the gate.
+"""Times a node that has long histories: how it opens them, and how many Stores it answers, refuses and drops. Not a
+part of the gate.
 
     tests/bench/node.py [PROGRAM]     times crates/psb/out/psb, or the program that is named
 
@@ -20,7 +21,8 @@ import time
 TOP = os.path.dirname(os.path.dirname(os.path.dirname(os.path.abspath(__file__))))
 PROGRAM = os.path.join(TOP, "crates", "psb", "out", "psb")
 MEMORY = "/dev/shm"
-NODE, STORE, ACCEPTED, TOOK_FRESH = 1, 1, 4, 5
+NODE, STORE, ACCEPTED, REFUSED, TOOK_FRESH = 1, 1, 4, 5, 5
+BURST = 100
 
 
 def sha(data):
@@ -60,8 +62,10 @@ def write_image(path, text, changes, peers):
         disk.write(b"\x00")
 
 
-def store(peer, deal, body):
-    text = sha(body) + struct.pack(">HI", 0, len(body)) + body
+def store(peer, deal, body, named=True):
+    """A Store of these bytes under their name, or under one that is not theirs."""
+    name = sha(body if named else body + b"other")
+    text = name + struct.pack(">HI", 0, len(body)) + body
     head = struct.pack(">4sB3xIIQI", b"PSB1", STORE, peer, NODE, deal, len(text))
     return head + text + hmac.new(key(peer), head + text, hashlib.sha256).digest()
 
@@ -89,23 +93,57 @@ def answer_to(link, port, frame, deal):
             return answer
 
 
-def answered(program, path, port, link, first, count, size):
-    """Seconds from the first Store to the last answer, and for the first one alone."""
-    serving = subprocess.Popen([program, path, "serve", str(count + 10_000)], stdout=subprocess.DEVNULL)
-    try:
+class Serving:
+    """The program, serving the node of an image until the block ends."""
+
+    def __init__(self, program, path, port, link):
+        self.words, self.port, self.link = [program, path, "serve", "1000000"], port, link
         link.settimeout(0.25)
-        frames = [store(2, first + i, chunk(10**12 + 10**6 * size + first + i, size)) for i in range(count)]
+
+    def __enter__(self):
+        self.child = subprocess.Popen(self.words, stdout=subprocess.DEVNULL)
+        return self
+
+    def __exit__(self, *_):
+        self.child.kill()
+        self.child.wait()
+
+    def answer(self, frame, deal, kind):
+        """Seconds until the answer to a Store comes, which is of this kind."""
         began = time.monotonic()
-        alone = None
-        for deal, frame in enumerate(frames, first):
-            answer = answer_to(link, port, frame, deal)
-            if answer[4] != ACCEPTED:
-                raise SystemExit(f"a Store was answered by kind {answer[4]}")
-            alone = alone or time.monotonic() - began
-        return time.monotonic() - began, alone
-    finally:
-        serving.kill()
-        serving.wait()
+        answer = answer_to(self.link, self.port, frame, deal)
+        if answer[4] != kind:
+            raise SystemExit(f"a Store was answered by kind {answer[4]}")
+        return time.monotonic() - began
+
+    def drop(self, frame, count):
+        for _ in range(count):
+            self.link.sendto(frame, ("127.0.0.1", self.port))
+
+
+def answered(serving, first, count, size):
+    """Seconds for the first Store, and for all that follow it."""
+    frames = [store(2, first + i, chunk(10**12 + 10**6 * size + first + i, size)) for i in range(count)]
+    times = [serving.answer(frame, deal, ACCEPTED) for deal, frame in enumerate(frames, first)]
+    return times[0], sum(times[1:])
+
+
+def refused(serving, first, count):
+    """Seconds for so many Stores of one unit under wrong names, each sent when the one before was answered."""
+    frames = [store(2, first + i, chunk(first + i, 512), named=False) for i in range(count)]
+    return sum(serving.answer(frame, deal, REFUSED) for deal, frame in enumerate(frames, first))
+
+
+def dropped(serving, first, bursts):
+    """Seconds for so many bursts of datagrams that fail a test of their format, each with a refused Store behind it,
+    by whose answer it is known that they were taken."""
+    broken = store(2, first, chunk(first, 512))[:-1] + b"x"
+    frames = [store(2, first + i, chunk(first + i, 512), named=False) for i in range(bursts)]
+    began = time.monotonic()
+    for deal, frame in enumerate(frames, first):
+        serving.drop(broken, BURST)
+        serving.answer(frame, deal, REFUSED)
+    return time.monotonic() - began
 
 
 def free_port():
@@ -128,9 +166,18 @@ def main():
         for changes in (0, 3_000, 30_000, 300_000):
             for size, count in ((512, 2_000), (32_768, 400)):
                 write_image(path, settings(port, [(2, there)]), changes, [2])
-                seconds, alone = answered(program, path, port, link, changes + 1, count, size)
-                rate = (count - 1) / (seconds - alone)
+                with Serving(program, path, port, link) as serving:
+                    alone, seconds = answered(serving, changes + 1, count, size)
+                rate = (count - 1) / seconds
                 print(f"behind {changes} units, Stores of {size} bytes: {rate:.0f} a second; the first after {alone:.2f} s", flush=True)
+        for changes in (0, 300_000):
+            write_image(path, settings(port, [(2, there)]), changes, [2])
+            with Serving(program, path, port, link) as serving:
+                refused(serving, changes + 1, 1)
+                seconds = refused(serving, changes + 2, 2_000)
+                print(f"behind {changes} units, Stores that are refused: {2_000 / seconds:.0f} a second", flush=True)
+                more = dropped(serving, changes + 2_002, 100) - 100 * seconds / 2_000
+                print(f"behind {changes} units, datagrams that are dropped: {100 * BURST / more:.0f} a second", flush=True)
 
 
 if __name__ == "__main__":
