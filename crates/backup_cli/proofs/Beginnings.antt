@@ -24,7 +24,7 @@ use Rattle.backup_cli.specs.Says.{Utters, IsRefusal}
 use Rattle.backup_cli.specs.Status.{refusal_line}
 use Rattle.backup_cli.specs.Begun.{IsEmpty, HasSettings, HasNoSettings, Stays, HasBegun, MayBegin, IsEnd, Begins, Completes, Stops}
 use Rattle.backup_cli.specs.declared.status.Status.{Status}
-use Rattle.backup_cli.specs.declared.status.Status.TheVariants.{Done, Usage, DiskFault, LinkFault, FolderFault, SayFault, NotNode, Already, BadSettings, Memory}
+use Rattle.backup_cli.specs.declared.status.Status.TheVariants.{Done, Usage, DiskFault, LinkFault, FolderFault, SayFault, NotNode, Already, BadSettings, NoSnapshot, Memory}
 use Rattle.backup_cli.proofs.Commanding.{NoOther}
 use Rattle.backup_cli.proofs.Utterances.{utters_tells}
 use Rattle.backup_cli.proofs.FileReads.{if_one}
@@ -302,6 +302,9 @@ never_not_node status is = not_among status NotNode is (λ q. absurd (cc q)) (λ
 
 pub never_link_fault : (status : Status) → IsEnd status → status ≢ LinkFault
 never_link_fault status is = not_among status LinkFault is (λ q. absurd (cc q)) (λ q. absurd (cc q)) (λ q. absurd (cc q)) (λ q. absurd (cc q)) (λ q. absurd (cc q)) (λ q. absurd (cc q)) (λ q. absurd (cc q))
+
+pub never_no_snapshot : (status : Status) (k : ℕ) → IsEnd status → status ≢ NoSnapshot k
+never_no_snapshot status k is = not_among status (NoSnapshot k) is (λ q. absurd (cc q)) (λ q. absurd (cc q)) (λ q. absurd (cc q)) (λ q. absurd (cc q)) (λ q. absurd (cc q)) (λ q. absurd (cc q)) (λ q. absurd (cc q))
 
 -- ---- what is enough
 

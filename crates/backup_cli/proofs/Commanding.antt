@@ -1,5 +1,5 @@
 -- A course that was fed to a node, and the lines that were said then, are a command's.
-use Rattle.std.proofs.Common.{◌≡◌, inl, inr, ⊎_elim, ℕ, zero, suc, ◌+◌, ◌-◌, ◌≤◌, Bool, true, false, List, [], ◌∷◌, ◌++◌, length, take, Option, Some, None, refl, sym, ◌∙◌, ap, subst, arith, length-append, append_assoc}
+use Rattle.std.proofs.Common.{◌≡◌, inl, inr, ⊎_elim, ℕ, zero, suc, ◌+◌, ◌-◌, ◌≤◌, Bool, true, false, if◌then◌else◌, List, [], ◌∷◌, ◌++◌, length, take, Option, Some, None, refl, sym, ◌∙◌, ap, subst, arith, length-append, append_assoc}
 use Rattle.std.proofs.lemmas.Bool.{false≢true}
 use Rattle.std.proofs.lemmas.List.{append-nil}
 use Rattle.psb_station.specs.View.{View, Outside}
@@ -213,6 +213,23 @@ module _ {L : Type 0} (holds : L → List Entry → List ℕ → Type 0) (stands
         failed,
         undone,
       )
+
+  -- where none of the lines was tried, all of them are left
+  pub lines_left : (n0 n2 : Node L) (h : List Change) (v1 v2 : View) (steps : List Step) (counts : Option Tally) (ok : Bool) (lines : List (List ℕ)) → (r : Fed holds stands broken n0 n2 v1 v2 (fresh h) steps counts ok)
+      → (steps ++ says lines ≡ r.done ++ [] ++ (r.failed ++ []) ++ (r.undone ++ says lines)) × (r.failed ++ [] ≡ r.failed) × (length (r.failed ++ []) ≤ 1)
+  lines_left n0 n2 h v1 v2 steps counts ok lines r =
+      let nil : r.failed ++ [] ≡ r.failed = append-nil r.failed in (
+        ap (λ (l : List Step). l ++ says lines) r.parts
+            ∙ append_assoc (r.done ++ r.failed) r.undone (says lines)
+            ∙ ap (λ (l : List Step). l ++ r.failed ++ (r.undone ++ says lines)) (sym (append-nil r.done))
+            ∙ ap (λ (l : List Step). r.done ++ [] ++ l ++ (r.undone ++ says lines)) (sym nil),
+        nil,
+        at_most ok (r.failed ++ []) (ap (λ (l : List Step). length l) nil ∙ r.one),
+      )
+    where
+      at_most : (ok : Bool) (l : List Step) → length l ≡ (if ok then 0 else 1) → length l ≤ 1
+      at_most true l is = omega (arith, is)
+      at_most false l is = omega (arith, is)
 
 -- A command from a moment after which nothing was lost is one from before it.
 pub from_before : (stands : List Entry → List ℕ → Type 0) (h : List Change) (course : List Step) (counts : Option Tally) (refusal : List ℕ) (refused : ℕ) (v0 v1 v3 : View) (e : Ending) → NoOther v0 → Keeps v0 v1

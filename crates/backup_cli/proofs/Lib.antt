@@ -9,3 +9,4 @@ pub mod Outcomes
 pub mod Listings
 pub mod FileReads
 pub mod Beginnings
+pub mod Forgettings

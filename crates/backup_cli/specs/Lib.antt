@@ -5,5 +5,6 @@ pub mod Commanded
 pub mod Says
 pub mod Served
 pub mod Listed
+pub mod Forgotten
 pub mod Files
 pub mod Begun

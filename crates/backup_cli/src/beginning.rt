@@ -7,8 +7,7 @@ ghost use Rattle.backup_cli.specs.Begun.{IsEmpty, HasBegun, Begins, Stops};
 
 use crate::Status;
 use crate::files::{ReadError, read_file};
-use crate::saying::{SayError, say_node};
-use crate::serving::refuse;
+use crate::saying::{SayError, refuse, say_node};
 use node_core::{Fault, Node};
 use node_journal::Log;
 use psb_station::{Folder, Station};

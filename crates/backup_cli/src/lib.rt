@@ -3,12 +3,15 @@
 
 mod beginning;
 mod files;
+mod forgetting;
 mod lines;
 mod listing;
 mod number;
+mod opening;
 mod program;
 mod saying;
 mod serving;
+mod short_line;
 mod status;
 mod words;
 

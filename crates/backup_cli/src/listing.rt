@@ -1,5 +1,5 @@
-//! The command `ledger`.
-ghost use Rattle.std.specs.Prelude.{◌≡◌, ◌≢◌, ◌⊎◌, Bool, List, ℕ, Some, IfSome};
+//! The commands `ledger` and `snapshots`.
+ghost use Rattle.std.specs.Prelude.{◌≡◌, ◌≢◌, ◌⊎◌, Bool, List, ℕ, true, is_some, Some, IfSome, OnOk};
 ghost use Rattle.psb_station.specs.Calls.{Rose};
 ghost use Rattle.psb_station.specs.Span.{Tells_bytes};
 ghost use Rattle.psb_settings.specs.declared.settings.Settings.{Settings};
@@ -7,22 +7,54 @@ ghost use Rattle.psb_model.specs.History.{state};
 ghost use Rattle.psb_model.specs.Needed.{IsValid};
 ghost use Rattle.psb_model.specs.declared.change.Change.{Change};
 ghost use Rattle.node_core.specs.Stands.{HoldsHistory};
-ghost use Rattle.backup_cli.specs.Says.{Refuses};
+ghost use Rattle.backup_cli.specs.Says.{OnlySays, SaysLines, Refuses};
 ghost use Rattle.backup_cli.specs.Served.{IsNode};
-ghost use Rattle.backup_cli.specs.Listed.{Lists};
+ghost use Rattle.backup_cli.specs.Listed.{Lists, listed_lines};
 
 use crate::Status;
-use crate::saying::{SayError, say_peers};
-use crate::serving::refuse;
-use node_core::{Fault, Node};
+use crate::opening::open_or_refuse;
+use crate::saying::{SayError, refuse, say_peers, say_snapshots};
 use node_journal::Log;
+use psb_ledger::Ledger;
 use psb_station::Station;
 use std::alloc::Global;
 
-/// Says the line of each peer of the node that the disk holds. Nothing is changed, and the link is not used.
-pub(crate) fn ledger_command<L: Log, S: Station>(alloc: Global, station: &mut S) -> Status
+/// What is told of a node.
+#[derive(Clone, Copy, Debug, PartialEq, Eq)]
+pub(crate) enum Listing {
+    /// Its peers, in the order of the settings.
+    Peers,
+    /// Its kept snapshots, by number.
+    Snapshots,
+}
+
+/// Says the lines of a listing.
+fn say_listing<S: Station>(
+    alloc: Global,
+    station: &mut S,
+    ledger: &Ledger,
+    listing: Listing,
+) -> Result<(), SayError>
+    requires { is_some ledger.now.state.settings ≡ true }
+    ensures says { (settings : Settings) → ledger.now.state.settings ≡ Some settings
+        → SaysLines (listed_lines listing settings ledger.now.state) (S.view station.old) (S.view station.new) result }
+    ensures steady { OnOk result ((S.view station.new).outside.say_faults ≡ (S.view station.old).outside.say_faults) }
+    ensures only_says { OnlySays (S.view station.old) (S.view station.new) }
+{
+    match listing {
+        Listing::Peers => say_peers(alloc, station, ledger),
+        Listing::Snapshots => say_snapshots(alloc, station, ledger.kept()),
+    }
+}
+
+/// Says the lines of a listing of the node that the disk holds. Nothing is changed, and the link is not used.
+pub(crate) fn list_command<L: Log, S: Station>(
+    alloc: Global,
+    station: &mut S,
+    listing: Listing,
+) -> Status
     ensures lists { Tells_bytes (S.view station.new) → (h : List Change) (settings : Settings) → IsNode L.stands h (S.view station.old) → (state h).settings ≡ Some settings
-        → (opened : Bool) × Lists L.stands h settings opened (S.view station.old) (S.view station.new) result }
+        → (opened : Bool) × Lists L.stands h (listed_lines listing settings (state h)) opened (S.view station.old) (S.view station.new) result }
 
     // Whatever the disk is, nothing is joined, heard or sent, and the clock is not asked.
     ensures quiet { (S.view station.new).outside ≡ record (S.view station.old).outside { said = (S.view station.new).outside.said; say_faults = (S.view station.new).outside.say_faults } }
@@ -41,14 +73,13 @@ pub(crate) fn ledger_command<L: Log, S: Station>(alloc: Global, station: &mut S)
     ensures all_said { result ≡ Status.Done → (S.view station.new).outside.say_faults ≡ (S.view station.old).outside.say_faults }
     ensures only { (result ≢ Status.Usage) × (result ≢ Status.LinkFault) }
     ensures no_begin { (result ≢ Status.FolderFault) × (result ≢ Status.Already) × (result ≢ Status.BadSettings) }
+    ensures no_number { (k : ℕ) → result ≢ Status.NoSnapshot k }
 {
-    let node = match Node::<L>::open(alloc, station) {
+    let node = match open_or_refuse::<L, S>(alloc, station) {
         Ok(node) => node,
-        Err(Fault::NotNode) => return refuse(station, Status::NotNode),
-        Err(Fault::DiskFault) => return refuse(station, Status::DiskFault),
-        Err(_) => return refuse(station, Status::Memory),
+        Err(status) => return status,
     };
-    match say_peers(alloc, station, node.ledger()) {
+    match say_listing(alloc, station, node.ledger(), listing) {
         Ok(()) => Status::Done,
         Err(SayError::Say) => Status::SayFault,
         Err(SayError::Memory) => refuse(station, Status::Memory),

@@ -7,6 +7,9 @@ use psb_bytes::has_names;
 /// The greatest number of turns that one command asks for.
 const MOST_TURNS: u64 = 1_000_000;
 
+/// The greatest number that a snapshot may have.
+const MOST_NUMBER: u64 = 4_294_967_295;
+
 /// The most bytes of a path.
 const MOST_PATH_BYTES: usize = 4_096;
 
@@ -19,6 +22,10 @@ pub(crate) enum Command<'a> {
     Ledger,
     /// `init FILE`: a node is begun with the settings in the file at this path.
     Init(&'a str),
+    /// `snapshots`: the node's kept snapshots are told.
+    Snapshots,
+    /// `forget NUMBER`: the snapshot of this number is given up.
+    Forget(u32),
 }
 
 /// The command that words are, if they are one.
@@ -40,6 +47,7 @@ fn read_single<'a>(command: &str) -> Option<Command<'a>>
 {
     match command {
         "ledger" => Some(Command::Ledger),
+        "snapshots" => Some(Command::Snapshots),
         _ => None,
     }
 }
@@ -52,6 +60,7 @@ fn read_command<'a>(command: &str, word: &'a str) -> Option<Command<'a>>
     match command {
         "serve" => Some(Command::Serve(read_turns(word)?)),
         "init" if is_path(word) => Some(Command::Init(word)),
+        "forget" => Some(Command::Forget(read_snapshot(word)?)),
         _ => None,
     }
 }
@@ -86,7 +95,19 @@ fn read_turns(text: &str) -> Option<u32>
     Some(turns as u32)
 }
 
-/// The law that words are those of one command at most, and name one number of turns or one file.
+/// The number of a snapshot, at most 4,294,967,295, that a text spells.
+fn read_snapshot(text: &str) -> Option<u32>
+    ensures some { IfSome result (λ number. (text.now ≡ decimal number) × (number ≤ 4294967295)) }
+    ensures none { IfNone result ((number : ℕ) → number ≤ 4294967295 → text.now ≢ decimal number) }
+{
+    let number = read_number(text)?;
+    if number > MOST_NUMBER {
+        return None;
+    }
+    Some(number as u32)
+}
+
+/// The law that words are those of one command at most, and name one number or one file.
 #[tactic(auto, using(crate::proofs::WordLemmas::command_is_fixed))]
 pub fn words_fix_the_command()
     ensures { FixTheCommand }

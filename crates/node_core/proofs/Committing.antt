@@ -53,7 +53,7 @@ settings_stay s _ may some = refl
 
 -- a node that made a change is where the machine is
 pub step_knows : {L : Type 0} (old new : Node L) (n : Situation) (m : MachineReaction) (c : Change) (mid : Store) (size : ℕ) → MayMake old.ledger.state c → Knows old n → IsStep n m c
-    → new.ledger.state ≡ after old.ledger.state c → SameNames old.names mid → Enters mid new.names c size → old.ledger.state.changes ≡ size → SameOwner old new → new.ledger.state.issued ≤ new.claims.issued → Knows new (settled n m)
+    → new.ledger.state ≡ after old.ledger.state c → SameNames old.names mid → Enters old.ledger.state mid new.names c size → old.ledger.state.changes ≡ size → SameOwner old new → new.ledger.state.issued ≤ new.claims.issued → Knows new (settled n m)
 step_knows old new n m c mid size may k step grown same enters counted rest issued =
     let h = n.history in
     let here : old.ledger.state.changes ≡ length h = ap (λ (s : State). s.changes) k.ledger ∙ changes_counted h in
@@ -69,7 +69,7 @@ step_knows old new n m c mid size may k step grown same enters counted rest issu
       valid = with_it n m c step;
       ledger = grown ∙ ap (λ (s : State). after s c) k.ledger ∙ after_is;
       settings = subst (λ (s : State). KnowsSettings new s) after_is settings;
-      names = names_grown mid new.names h c k.valid.lawful k.valid.built may.read allowed_here (names_same old.names mid h same k.names) (subst (λ (j : ℕ). Enters mid new.names c j) (sym counted ∙ here) enters);
+      names = names_grown mid new.names h c k.valid.lawful k.valid.built may.read allowed_here (names_same old.names mid h same k.names) (subst (λ (s : State). Enters s mid new.names c (length h)) k.ledger (subst (λ (j : ℕ). Enters old.ledger.state mid new.names c j) (sym counted ∙ here) enters));
       issued = omega (arith, issued, ap (λ (s : State). s.issued) grown, ap (λ (s : State). (after s c).issued) k.ledger, ap (λ (s : State). s.issued) after_is);
     } in
     subst (λ (o : Situation). Knows new o) (sym (λ j. record { history = grown_to n m c step.grown j; volatile = (settled n m).volatile })) knows

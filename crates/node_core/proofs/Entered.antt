@@ -1,9 +1,7 @@
 -- The names of a node's store follow its history.
-use Rattle.std.proofs.Common.{◌≡◌, ◌⊎◌, inl, inr, ℕ, ◌+◌, ◌<◌, Bool, true, false, not, ◌||◌, ◌&&◌, ◌==◌, cond, List, [], ◌∷◌, ◌++◌, length, is_some, Option, Some, None, refl, sym, ◌∙◌, ap, subst, arith}
+use Rattle.std.proofs.Common.{◌≡◌, ◌⊎◌, inl, inr, ℕ, ◌+◌, ◌<◌, Bool, true, false, not, ◌||◌, ◌&&◌, ◌==◌, cond, List, [], ◌∷◌, ◌++◌, filter, length, is_some, Option, Some, None, refl, sym, ◌∙◌, ap, subst, arith}
 use Rattle.std.specs.List.{list_all}
-use Rattle.std.specs.Ordering.{is_lt}
 use Rattle.std.proofs.lemmas.Bool.{false≢true, eqb-true}
-use Rattle.psb_bytes.specs.declared.ids.Object.{Object}
 use Rattle.psb_bytes.specs.declared.ids.Object.TheVariants.{Chunk}
 use Rattle.chunk_store.specs.declared.owner.Owner.{Owner}
 use Rattle.chunk_store.specs.declared.owner.Owner.TheVariants.{Own, Peer}
@@ -11,25 +9,25 @@ use Rattle.chunk_store.specs.declared.store.Store.{Store}
 use Rattle.chunk_store.specs.Owners.{owner_eq}
 use Rattle.chunk_store.specs.Records.{or_else}
 use Rattle.chunk_store.specs.Store.{record_of, is_owner}
-use Rattle.psb_settings.specs.declared.settings.Settings.{Settings}
-use Rattle.psb_settings.specs.declared.settings.PeerRow.{PeerRow}
-use Rattle.psb_model.specs.declared.entries.InEntry.{InEntry}
+use Rattle.psb_model.specs.declared.entries.OwnEntry.{OwnEntry}
 use Rattle.psb_model.specs.declared.change.Change.{Change}
-use Rattle.psb_model.specs.declared.change.Change.TheVariants.{Begun, TookFresh, Refused}
-use Rattle.psb_model.specs.Words.{units, object_eq, object_cmp, name_eq, has, with_one}
+use Rattle.psb_model.specs.declared.change.Change.TheVariants.{Begun, Kept, Snapped, Forgot, TookFresh, Refused}
+use Rattle.psb_model.specs.Words.{name_eq, name_listed, has}
 use Rattle.psb_model.specs.State.{Row, State, nothing_yet, row, row_in, has_row, at_row, is_peer, in_key, own_has, is_held}
 use Rattle.psb_model.specs.Conditions.{allowed, tests, settings_of_body}
-use Rattle.psb_model.specs.Effects.{after, chunk_in, first_rows, blank_rows}
+use Rattle.psb_model.specs.Effects.{after, kept_lists, kept_without}
 use Rattle.psb_model.specs.History.{state, is_built, is_lawful}
 use Rattle.psb_model.specs.Needed.{brings_name}
 use Rattle.psb_model.proofs.ByObject.{by_cases}
 use Rattle.psb_model.proofs.Own.{name_same}
 use Rattle.psb_model.proofs.Rows.{row_in-at_row, row_in-at_other, row_in-first_rows}
 use Rattle.psb_model.proofs.Steps.{parts}
-use Rattle.psb_model.proofs.Built.{IsPlain, plain_state, plain_after, allows, changed, rows_fresh, rows_refused, without_none, held_in, held_plain, brings_none}
+use Rattle.psb_model.proofs.Built.{IsPlain, plain_state, allows, begun_before, changed, rows_fresh, rows_refused, held_in, own_is, own_with_is, Gains, fresh_gains, refused_gains, all_gain, none_first, was_held, brings_none}
 use Rattle.psb_model.proofs.Prefixes.{state_snoc, changes_counted}
-use Rattle.node_core.specs.Names.{owns, brought_from, KnowsNames, AreThere, Adds, SameNames, Enters, IsNew}
+use Rattle.node_core.specs.declared.entering.Entering.{Entering}
+use Rattle.node_core.specs.Names.{owns, brought_from, KnowsNames, AreThere, Adds, SameNames, HasNoOwner, IsLeft, Forgets, Enters, IsEntering, Enter, IsNew}
 use Rattle.node_core.proofs.Brought.{brought_snoc}
+use Rattle.node_core.proofs.Ordering.{ordered_state, none_in_row, none_in_rows}
 
 -- ---- one of two
 
@@ -37,19 +35,16 @@ or_none : (a : Bool) → (a || false) ≡ a
 or_none true = refl
 or_none false = refl
 
-or_swap : (a b : Bool) → (a || b) ≡ (b || a)
-or_swap true true = refl
-or_swap true false = refl
-or_swap false true = refl
-or_swap false false = refl
-
 or_last : (a b c : Bool) → (a || (b || c)) ≡ ((a || b) || c)
 or_last true b c = refl
 or_last false b c = refl
 
 or_middle : (a b c : Bool) → ((a || b) || c) ≡ ((a || c) || b)
 or_middle true b c = refl
-or_middle false b c = or_swap b c
+or_middle false true true = refl
+or_middle false true false = refl
+or_middle false false true = refl
+or_middle false false false = refl
 
 and_none : (a : Bool) → (a && false) ≡ false
 and_none true = refl
@@ -60,23 +55,6 @@ not_true true h = absurd (false≢true h)
 not_true false h = refl
 
 -- ---- what the rows have after a change
-
-has_more : (e : InEntry) (l : List InEntry) (o : Object) → has in_key (with_one in_key e l) o ≡ (has in_key l o || object_eq e.object o)
-has_more e [] o = or_none (object_eq e.object o)
-has_more e (x ∷ xs) o = by_cases (is_lt (object_cmp e.object x.object))
-    (λ k. rw k (or_swap (object_eq e.object o) (object_eq x.object o || has in_key xs o)))
-    (λ k. rw k (ap (λ (b : Bool). object_eq x.object o || b) (has_more e xs o) ∙ or_last (object_eq x.object o) (has in_key xs o) (object_eq e.object o)))
-
--- a row gained the chunk, if b
-abbrev Gains : (Row → Row) → List ℕ → Bool → Type 0
-Gains f name b = (r : Row) → has in_key (f r).ins (Chunk name) ≡ (has in_key r.ins (Chunk name) || b)
-
-fresh_gains : (s : State) (p deal : ℕ) (name : List ℕ) (first len : ℕ) (new : Bool) (body : Option (List ℕ)) (q : List ℕ) → Gains (changed s (TookFresh p deal name first len new body)) q (name_eq name q)
-fresh_gains s p deal name first len new body q r =
-    ap (λ (l : List InEntry). has in_key (with_one in_key (chunk_in name (units len)) l) (Chunk q)) (without_none r.ins) ∙ has_more (chunk_in name (units len)) r.ins (Chunk q)
-
-refused_gains : (s : State) (p deal why detail : ℕ) (q : List ℕ) → Gains (changed s (Refused p deal why detail)) q false
-refused_gains s p deal why detail q r = ap (λ (l : List InEntry). has in_key l (Chunk q)) (without_none r.ins) ∙ sym (or_none (has in_key r.ins (Chunk q)))
 
 one_gains : (p : ℕ) (f : Row → Row) (q : List ℕ) (b : Bool) (rows : List (ℕ × Row)) → has_row rows p ≡ true → Gains f q b → (o : ℕ) → has in_key (row_in (at_row p f rows) o).ins (Chunk q) ≡ (has in_key (row_in rows o).ins (Chunk q) || (b && (p == o)))
 one_gains p f q b rows here gains o = by_cases (p == o)
@@ -92,42 +70,42 @@ one_gains p f q b rows here gains o = by_cases (p == o)
     and_true true c is = is
     and_true false c is = refl
 
-all_gain : (p : ℕ) (f : Row → Row) (q : List ℕ) (b : Bool) (rows : List (ℕ × Row)) → has_row rows p ≡ true → Gains f q b → held_in (at_row p f rows) q ≡ (held_in rows q || b)
-all_gain p f q b [] here gains = absurd (false≢true here)
-all_gain p f q b (x ∷ xs) here gains = by_cases (x.0 == p)
-    (λ k. rw k (ap (λ (c : Bool). c || held_in xs q) (gains x.1) ∙ or_middle (has in_key x.1.ins (Chunk q)) b (held_in xs q)))
-    (λ k. let rest = rw k at here in rw k (ap (λ (c : Bool). has in_key x.1.ins (Chunk q) || c) (all_gain p f q b xs rest gains) ∙ or_last (has in_key x.1.ins (Chunk q)) (held_in xs q) b))
-
-none_blank : (ps : List PeerRow) (q : List ℕ) → held_in (blank_rows ps) q ≡ false
-none_blank [] q = refl
-none_blank (p ∷ ps) q = none_blank ps q
-
-none_first : (o : Option Settings) (q : List ℕ) → held_in (first_rows o) q ≡ false
-none_first None q = refl
-none_first (Some x) q = none_blank x.peers q
-
 -- ---- who owns what, and what is held, after a change
 
--- the states differ in that p has a body under the name, if b
-record Differ (s t : State) (p : ℕ) (name : List ℕ) (b : Bool) : Type 0 where
-  owners : (o : Owner) (q : List ℕ) → owns t o q ≡ (owns s o q || ((b && name_eq name q) && owner_eq (Peer p) o))
+-- the states differ in that the owner has a body under the name, if b
+record Differ (s t : State) (owner : Owner) (name : List ℕ) (b : Bool) : Type 0 where
+  owners : (o : Owner) (q : List ℕ) → owns t o q ≡ (owns s o q || ((b && name_eq name q) && owner_eq owner o))
   held : (q : List ℕ) → is_held t q ≡ (is_held s q || (b && name_eq name q))
 
-differ_at : (s t : State) (p : ℕ) (f : Row → Row) (name : List ℕ) (b : Bool) → IsPlain s → IsPlain t → t.rows ≡ at_row p f s.rows → is_peer s p ≡ true → ((q : List ℕ) → Gains f q (b && name_eq name q)) → Differ s t p name b
-differ_at s t p f name b ps pt rows peer gains = record {
+differ_at : (s t : State) (p : ℕ) (f : Row → Row) (name : List ℕ) (b : Bool) → t.own ≡ s.own → t.rows ≡ at_row p f s.rows → is_peer s p ≡ true → ((q : List ℕ) → Gains f q (b && name_eq name q)) → Differ s t (Peer p) name b
+differ_at s t p f name b own rows peer gains = record {
   owners = λ o q. by_owner o q;
   held = λ q.
-      held_plain t q pt
-      ∙ ap (λ (l : List (ℕ × Row)). held_in l q) rows
-      ∙ all_gain p f q (b && name_eq name q) s.rows peer (gains q)
-      ∙ ap (λ (c : Bool). c || (b && name_eq name q)) (sym (held_plain s q ps));
+      (λ i. own_has (own i) q || held_in (rows i) q)
+      ∙ ap (λ (x : Bool). own_has s.own q || x) (all_gain p f q (b && name_eq name q) s.rows peer (gains q))
+      ∙ or_last (own_has s.own q) (held_in s.rows q) (b && name_eq name q);
 }
   where
     by_owner : (o : Owner) (q : List ℕ) → owns t o q ≡ (owns s o q || ((b && name_eq name q) && owner_eq (Peer p) o))
-    by_owner Own q =
-        ap (λ own. own_has own q) pt.own
-        ∙ sym (ap (λ own. own_has own q || ((b && name_eq name q) && false)) ps.own ∙ and_none (b && name_eq name q))
+    by_owner Own q = ap (λ own. own_has own q) own ∙ sym (ap (λ (x : Bool). own_has s.own q || x) (and_none (b && name_eq name q)) ∙ or_none (own_has s.own q))
     by_owner (Peer r) q = ap (λ (l : List (ℕ × Row)). has in_key (row_in l r).ins (Chunk q)) rows ∙ one_gains p f q (b && name_eq name q) s.rows peer (gains q) r
+
+differ_kept : (s : State) (name : List ℕ) (len : ℕ) (new : Bool) (body : Option (List ℕ)) → IsPlain s → Differ s (after s (Kept name len new body)) Own name true
+differ_kept s name len new body plain = record {
+  owners = λ o q. by_owner o q;
+  held = λ q. ap (λ (x : Bool). x || held_in s.rows q) (own_now q) ∙ or_middle (own_has s.own q) (name_eq name q) (held_in s.rows q);
+}
+  where
+    own_now : (q : List ℕ) → own_has (after s (Kept name len new body)).own q ≡ (own_has s.own q || name_eq name q)
+    own_now q = ap (λ own. own_has own q) (own_is s (Kept name len new body) plain refl) ∙ own_with_is (record { name = name; len = len; marked = false }) s.own q
+
+    by_owner : (o : Owner) (q : List ℕ) → owns (after s (Kept name len new body)) o q ≡ (owns s o q || (name_eq name q && owner_eq Own o))
+    by_owner Own q = own_now q ∙ ap (λ (x : Bool). own_has s.own q || x) (sym (and_true (name_eq name q)))
+      where
+        and_true : (a : Bool) → (a && true) ≡ a
+        and_true true = refl
+        and_true false = refl
+    by_owner (Peer p) q = sym (ap (λ (x : Bool). has in_key (row s p).ins (Chunk q) || x) (and_none (name_eq name q)) ∙ or_none (has in_key (row s p).ins (Chunk q)))
 
 -- ---- the store after a change
 
@@ -136,45 +114,60 @@ some_or (Some k) b n = refl
 some_or None true n = refl
 some_or None false n = refl
 
--- a chunk that is taken brings its bytes exactly where none are held under its name
-fresh_brings : (s : State) (p deal : ℕ) (name : List ℕ) (first len : ℕ) (new : Bool) (body : Option (List ℕ)) → allowed s (TookFresh p deal name first len new body) ≡ true → is_held s name ≡ false → new ≡ true
-fresh_brings s p deal name first len new body may free =
-    let c : Change = TookFresh p deal name first len new body in
-    let ts = parts (tests s c) (allows s c may).tests in
-    let flag = rw free at ts.1.1.0 in
-    flag
+-- of two, the one where the other is not
+is_fresh : (held new : Bool) → cond held (not new) new ≡ true → held ≡ false → new ≡ true
+is_fresh true new t free = absurd (false≢true (sym free))
+is_fresh false new t free = t
 
 -- A name has the record that it had, and the change does not bring its bytes; or it has the record of the
 -- change, which brings them.
 abbrev pub IsPlaced : Store → Change → ℕ → List ℕ → ℕ → Type 0
 IsPlaced old c number q k = ((record_of old q ≡ Some k) × (brings_name q c ≡ false)) ⊎ ((number ≡ k) × (brings_name q c ≡ true))
 
-fresh_placed : (old new : Store) (h : List Change) (p deal : ℕ) (name : List ℕ) (first len : ℕ) (brings : Bool) (body : Option (List ℕ)) (number : ℕ) → IsPlain (state h) → allowed (state h) (TookFresh p deal name first len brings body) ≡ true → KnowsNames old h
-    → Adds old new (Peer p) name number → (q : List ℕ) (k : ℕ) → record_of new q ≡ Some k → IsPlaced old (TookFresh p deal name first len brings body) number q k
-fresh_placed old new h p deal name first len brings body number plain may knows adds q k is = by_old (record_of old q) refl
+-- a change that adds an owner to a name brings its bytes where none are held under it
+added_placed : (old new : Store) (h : List Change) (c : Change) (owner : Owner) (name : List ℕ) (brings : Bool) (number : ℕ) → is_built c ≡ true → allowed (state h) c ≡ true → ((q : List ℕ) → brings_name q c ≡ (brings && name_eq name q)) → (is_held (state h) name ≡ false → brings ≡ true)
+    → KnowsNames old h → Adds old new owner name number → (q : List ℕ) (k : ℕ) → record_of new q ≡ Some k → IsPlaced old c number q k
+added_placed old new h c owner name brings number built may names_it fresh knows adds q k is = by_old (record_of old q) refl
   where
-    c : Change
-    c = TookFresh p deal name first len brings body
-
     now : (r : Option ℕ) → record_of old q ≡ r → or_else r (cond (name_eq name q) (Some number) None) ≡ Some k
     now r there = sym (ap (λ (o : Option ℕ). or_else o (cond (name_eq name q) (Some number) None)) there) ∙ sym (adds.records q) ∙ is
 
     by_old : (r : Option ℕ) → record_of old q ≡ r → IsPlaced old c number q k
-    by_old (Some j) there =
-        let held : is_held (state h) q ≡ true = sym (knows.held q) ∙ ap is_some there in
-        inl (there ∙ now (Some j) there, brings_none (state h) c q plain refl may (sym (held_plain (state h) q plain) ∙ held))
+    by_old (Some j) there = inl (there ∙ now (Some j) there, brings_none (state h) c q built may (sym (knows.held q) ∙ ap is_some there))
     by_old None there =
         let free : is_held (state h) q ≡ false = sym (knows.held q) ∙ ap is_some there in
         by_cases (name_eq name q)
         (λ e.
-        let fresh : brings ≡ true = fresh_brings (state h) p deal name first len brings body may (ap (is_held (state h)) (name_same name q e) ∙ free) in
+        let it : brings ≡ true = fresh (ap (is_held (state h)) (name_same name q e) ∙ free) in
         let same : Some number ≡ Some k = sym (ap (λ (b : Bool). cond b (Some number) None) e) ∙ now None there in
-        inr (cc (same), ap (λ (b : Bool). brings_name q (TookFresh p deal name first len b body)) fresh ∙ e))
+        inr (cc (same), names_it q ∙ ap (λ (b : Bool). b && name_eq name q) it ∙ e))
         (λ e. absurd (let clash : None ≡ Some k = sym (ap (λ (b : Bool). cond b (Some number) None) e) ∙ now None there in cc))
 
-pub placed : (old new : Store) (h : List Change) (c : Change) (number : ℕ) → is_lawful h ≡ true → list_all is_built h ≡ true → is_built c ≡ true → allowed (state h) c ≡ true → KnowsNames old h → Enters old new c number → (q : List ℕ) (k : ℕ) → record_of new q ≡ Some k → IsPlaced old c number q k
+kept_brings : (name : List ℕ) (len : ℕ) (new : Bool) (body : Option (List ℕ)) (q : List ℕ) → brings_name q (Kept name len new body) ≡ (new && name_eq name q)
+kept_brings name len true body q = refl
+kept_brings name len false body q = refl
+
+fresh_brings : (p deal : ℕ) (name : List ℕ) (first len : ℕ) (new : Bool) (body : Option (List ℕ)) (q : List ℕ) → brings_name q (TookFresh p deal name first len new body) ≡ (new && name_eq name q)
+fresh_brings p deal name first len true body q = refl
+fresh_brings p deal name first len false body q = refl
+
+-- what is left of a name that has a record has it still
+left_record : (old new : Store) (q : List ℕ) (k : ℕ) → IsLeft old new q → record_of new q ≡ Some k → record_of old q ≡ Some k
+left_record old new q k (inl was) is = sym was.0 ∙ is
+left_record old new q k (inr none) is = absurd (let clash : None ≡ Some k = sym none.0 ∙ is in cc)
+
+pub placed : (old new : Store) (h : List Change) (c : Change) (number : ℕ) → is_lawful h ≡ true → list_all is_built h ≡ true → is_built c ≡ true → allowed (state h) c ≡ true → KnowsNames old h → Enters (state h) old new c number → (q : List ℕ) (k : ℕ) → record_of new q ≡ Some k → IsPlaced old c number q k
 placed old new h (Begun body) number lawful built is may knows enters q k here = inl (sym (enters.records q) ∙ here, refl)
-placed old new h (TookFresh p deal name first len brings body) number lawful built is may knows enters q k here = fresh_placed old new h p deal name first len brings body number (plain_state h lawful built) may knows enters q k here
+placed old new h (Kept name len brings body) number lawful built is may knows enters q k here =
+    let c : Change = Kept name len brings body in
+    let ts = parts (tests (state h) c) (allows (state h) c may).tests in
+    added_placed old new h c Own name brings number refl may (kept_brings name len brings body) (λ free. is_fresh (is_held (state h) name) brings ts.1.0 free) knows enters q k here
+placed old new h (Snapped snapshot ticket files folders bytes left names) number lawful built is may knows enters q k here = inl (sym (enters.records q) ∙ here, refl)
+placed old new h (Forgot snapshot) number lawful built is may knows enters q k here = inl (left_record old new q k (enters.drops.records q) here, refl)
+placed old new h (TookFresh p deal name first len brings body) number lawful built is may knows enters q k here =
+    let c : Change = TookFresh p deal name first len brings body in
+    let ts = parts (tests (state h) c) (allows (state h) c may).tests in
+    added_placed old new h c (Peer p) name brings number refl may (fresh_brings p deal name first len brings body) (λ free. is_fresh (is_held (state h) name) brings ts.1.1.0 free) knows enters q k here
 placed old new h (Refused p deal why detail) number lawful built is may knows enters q k here = inl (sym (enters.records q) ∙ here, refl)
 placed old new h _ number lawful built is may knows enters q k here = absurd (false≢true is)
 
@@ -183,12 +176,85 @@ placed_brought old h c q k knows (inl was) = brought_snoc 0 q h c ∙ ap (λ (b 
 placed_brought old h c q k knows (inr now) = brought_snoc 0 q h c ∙ ap (λ (b : Bool). cond b (Some (0 + length h)) (brought_from 0 q h)) now.1 ∙ ap (λ (i : ℕ). Some i) (omega (arith, now.0))
 
 -- the same names are held where a change takes none and brings none
-same_names : (old new : Store) (h : List Change) (c : Change) (p : ℕ) (name : List ℕ) → ((q : List ℕ) → brings_name q c ≡ false) → Differ (state h) (after (state h) c) p name false → KnowsNames old h → SameNames old new → KnowsNames new (h ++ c ∷ [])
-same_names old new h c p name none differ knows same = record {
-  owners = λ o q. same.owners o q ∙ knows.owners o q ∙ sym (differ.owners o q ∙ or_none (owns (state h) o q)) ∙ ap (λ (s : State). owns s o q) (sym (state_snoc h c));
-  held = λ q. ap is_some (same.records q) ∙ knows.held q ∙ sym (differ.held q ∙ or_none (is_held (state h) q)) ∙ ap (λ (s : State). is_held s q) (sym (state_snoc h c));
+same_names : (old new : Store) (h : List Change) (c : Change) → ((q : List ℕ) → brings_name q c ≡ false) → ((o : Owner) (q : List ℕ) → owns (after (state h) c) o q ≡ owns (state h) o q) → ((q : List ℕ) → is_held (after (state h) c) q ≡ is_held (state h) q) → KnowsNames old h → SameNames old new → KnowsNames new (h ++ c ∷ [])
+same_names old new h c none owners held knows same = record {
+  owners = λ o q. same.owners o q ∙ knows.owners o q ∙ sym (owners o q) ∙ ap (λ (s : State). owns s o q) (sym (state_snoc h c));
+  held = λ q. ap is_some (same.records q) ∙ knows.held q ∙ sym (held q) ∙ ap (λ (s : State). is_held s q) (sym (state_snoc h c));
   records = λ q k is. brought_snoc 0 q h c ∙ ap (λ (b : Bool). cond b (Some (0 + length h)) (brought_from 0 q h)) (none q) ∙ knows.records q k (sym (same.records q) ∙ is);
 }
+
+-- one name more is held, or has an owner more
+added_names : (old new : Store) (h : List Change) (c : Change) (owner : Owner) (name : List ℕ) → Differ (state h) (after (state h) c) owner name true → KnowsNames old h → Adds old new owner name (length h) → ((q : List ℕ) (k : ℕ) → record_of new q ≡ Some k → IsPlaced old c (length h) q k) → KnowsNames new (h ++ c ∷ [])
+added_names old new h c owner name differ knows adds places = record {
+  owners = λ o q. adds.owners o q ∙ ap (λ (b : Bool). b || (name_eq name q && owner_eq owner o)) (knows.owners o q) ∙ sym (differ.owners o q) ∙ ap (λ (t : State). owns t o q) (sym (state_snoc h c));
+  held = λ q. ap is_some (adds.records q) ∙ some_or (record_of old q) (name_eq name q) (length h) ∙ ap (λ (b : Bool). b || name_eq name q) (knows.held q) ∙ sym (differ.held q) ∙ ap (λ (t : State). is_held t q) (sym (state_snoc h c));
+  records = λ q k here. placed_brought old h c q k knows (places q k here);
+}
+
+own_filtered : (f : List ℕ → Bool) (l : List OwnEntry) (q : List ℕ) → own_has (filter (λ (e : OwnEntry). f e.name) l) q ≡ (own_has l q && f q)
+own_filtered f [] q = refl
+own_filtered f (e ∷ es) q =
+    by_cases (name_eq e.name q)
+    (λ k.
+    let same : f e.name ≡ f q = ap f (name_same e.name q k) in
+    by_cases (f e.name)
+    (λ t. rw (t, k) (sym t ∙ same))
+    (λ t. rw (t, k) (own_filtered f es q ∙ ap (λ (b : Bool). own_has es q && b) (sym same ∙ t) ∙ and_none (own_has es q) ∙ sym t ∙ same)))
+    (λ k. by_cases (f e.name) (λ t. rw (t, k) (own_filtered f es q)) (λ t. rw (t, k) (own_filtered f es q)))
+
+or_parts : (a b : Bool) → (a || b) ≡ false → (a ≡ false) × (b ≡ false)
+or_parts true b h = absurd (false≢true (sym h))
+or_parts false b h = (refl, h)
+
+forgot_names : (old new : Store) (h : List Change) (number : ℕ) → is_lawful h ≡ true → list_all is_built h ≡ true → allowed (state h) (Forgot number) ≡ true → KnowsNames old h → Forgets (state h) old new number → KnowsNames new (h ++ Forgot number ∷ [])
+forgot_names old new h number lawful built may knows f = record {
+  owners = λ o q. owners_now o q ∙ ap (λ (x : State). owns x o q) (sym (state_snoc h c));
+  held = λ q. held_now q (f.drops.records q) ∙ ap (λ (x : State). is_held x q) (sym (state_snoc h c));
+  records = λ q k is. brought_snoc 0 q h c ∙ knows.records q k (left_record old new q k (f.drops.records q) is);
+}
+  where
+    c : Change
+    c = Forgot number
+
+    own_now : (q : List ℕ) → own_has (after (state h) (Forgot number)).own q ≡ (own_has (state h).own q && kept_lists (kept_without number (state h).kept) q)
+    own_now q = ap (λ own. own_has own q) (own_is (state h) (Forgot number) (plain_state h lawful built) refl) ∙ own_filtered (kept_lists (kept_without number (state h).kept)) (state h).own q
+
+    gone_own : (a g w : Bool) → (a ≡ true → g ≡ not w) → (a && not (g && true)) ≡ (a && w)
+    gone_own false g w is = refl
+    gone_own true g true is = ap (λ (b : Bool). not (b && true)) (is refl)
+    gone_own true g false is = ap (λ (b : Bool). not (b && true)) (is refl)
+
+    and_true : (a : Bool) → (a && true) ≡ a
+    and_true true = refl
+    and_true false = refl
+
+    owners_now : (o : Owner) (q : List ℕ) → is_owner new o q ≡ owns (after (state h) (Forgot number)) o q
+    owners_now Own q =
+        f.drops.owners Own q
+        ∙ ap (λ (b : Bool). b && not (f.gone q && true)) (knows.owners Own q)
+        ∙ gone_own (own_has (state h).own q) (f.gone q) (kept_lists (kept_without number (state h).kept) q) (f.are q)
+        ∙ sym (own_now q)
+    owners_now (Peer p) q = f.drops.owners (Peer p) q ∙ ap (λ (b : Bool). is_owner old (Peer p) q && not b) (and_none (f.gone q)) ∙ and_true (is_owner old (Peer p) q) ∙ knows.owners (Peer p) q
+
+    -- a name that is not held has no owner, and one without an owner is not held
+    no_owner : (q : List ℕ) → is_held (after (state h) (Forgot number)) q ≡ false → HasNoOwner new q
+    no_owner q free Own = owners_now Own q ∙ (or_parts (own_has (after (state h) (Forgot number)).own q) (held_in (state h).rows q) free).0
+    no_owner q free (Peer p) = owners_now (Peer p) q ∙ none_in_row (state h).rows q p (or_parts (own_has (after (state h) (Forgot number)).own q) (held_in (state h).rows q) free).1
+
+    not_held : (q : List ℕ) → HasNoOwner new q → is_held (after (state h) (Forgot number)) q ≡ false
+    not_held q nobody =
+        let own : own_has (after (state h) (Forgot number)).own q ≡ false = sym (owners_now Own q) ∙ nobody Own in
+        let rows : held_in (state h).rows q ≡ false = none_in_rows (state h).rows q (ordered_state h lawful built).rows (λ p. sym (owners_now (Peer p) q) ∙ nobody (Peer p)) in
+        rw own rows
+
+    held_now : (q : List ℕ) → IsLeft old new q → is_some (record_of new q) ≡ is_held (after (state h) (Forgot number)) q
+    held_now q (inl (was, inl same)) =
+        ap is_some was ∙ knows.held q
+        ∙ ap (λ (b : Bool). b || held_in (state h).rows q) (sym (knows.owners Own q) ∙ sym same ∙ owners_now Own q)
+    held_now q (inl (was, inr owned)) = by_cases (is_held (after (state h) (Forgot number)) q)
+        (λ held. ap is_some was ∙ knows.held q ∙ was_held (state h) (Forgot number) q (begun_before (state h) (Forgot number) refl may) (plain_state h lawful built) refl may held refl ∙ sym held)
+        (λ free. absurd (owned.some (no_owner q free)))
+    held_now q (inr (none, nobody)) = ap is_some none ∙ sym (not_held q nobody)
 
 begun_names : (old new : Store) (h : List Change) (body : Option (List ℕ)) → length h ≡ 0 → KnowsNames old h → SameNames old new → KnowsNames new (h ++ Begun body ∷ [])
 begun_names old new h body none knows same = at h none knows
@@ -209,26 +275,34 @@ begun_names old new h body none knows same = at h none knows
     }
     at (c ∷ h) first knows = absurd (omega (arith, first))
 
+snapped_owns : (s : State) (c : Change) → (after s c).own ≡ s.own → (after s c).rows ≡ s.rows → (o : Owner) (q : List ℕ) → owns (after s c) o q ≡ owns s o q
+snapped_owns s c own rows Own q = ap (λ l. own_has l q) own
+snapped_owns s c own rows (Peer p) q = ap (λ (l : List (ℕ × Row)). has in_key (row_in l p).ins (Chunk q)) rows
+
 -- with one change more
-pub names_grown : (old new : Store) (h : List Change) (c : Change) → is_lawful h ≡ true → list_all is_built h ≡ true → is_built c ≡ true → allowed (state h) c ≡ true → KnowsNames old h → Enters old new c (length h) → KnowsNames new (h ++ c ∷ [])
+pub names_grown : (old new : Store) (h : List Change) (c : Change) → is_lawful h ≡ true → list_all is_built h ≡ true → is_built c ≡ true → allowed (state h) c ≡ true → KnowsNames old h → Enters (state h) old new c (length h) → KnowsNames new (h ++ c ∷ [])
 names_grown old new h (Begun body) lawful built is may knows enters =
     let ts = parts (tests (state h) (Begun body)) (allows (state h) (Begun body) may).tests in
     begun_names old new h body (omega (arith, changes_counted h, eqb-true (state h).changes 0 ts.0)) knows enters
+names_grown old new h (Kept name len brings body) lawful built is may knows enters =
+    let c : Change = Kept name len brings body in
+    added_names old new h c Own name (differ_kept (state h) name len brings body (plain_state h lawful built)) knows enters (placed old new h c (length h) lawful built is may knows enters)
+names_grown old new h (Snapped number ticket files folders bytes left names) lawful built is may knows enters =
+    let c : Change = Snapped number ticket files folders bytes left names in
+    let own = own_is (state h) c (plain_state h lawful built) refl in
+    same_names old new h c (λ q. refl) (snapped_owns (state h) c own refl) (λ q. ap (λ l. own_has l q || held_in (state h).rows q) own) knows enters
+names_grown old new h (Forgot number) lawful built is may knows enters = forgot_names old new h number lawful built may knows enters
 names_grown old new h (TookFresh p deal name first len brings body) lawful built is may knows enters =
     let c : Change = TookFresh p deal name first len brings body in
     let s = state h in
-    let plain = plain_state h lawful built in
-    let differ : Differ s (after s c) p name true = differ_at s (after s c) p (changed s c) name true plain (plain_after s c plain refl may) (rows_fresh s p deal name first len brings body) (allows s c may).peer (λ q. fresh_gains s p deal name first len brings body q) in
-    record {
-      owners = λ o q. enters.owners o q ∙ ap (λ (b : Bool). b || (name_eq name q && owner_eq (Peer p) o)) (knows.owners o q) ∙ sym (differ.owners o q) ∙ ap (λ (t : State). owns t o q) (sym (state_snoc h c));
-      held = λ q. ap is_some (enters.records q) ∙ some_or (record_of old q) (name_eq name q) (length h) ∙ ap (λ (b : Bool). b || name_eq name q) (knows.held q) ∙ sym (differ.held q) ∙ ap (λ (t : State). is_held t q) (sym (state_snoc h c));
-      records = λ q k here. placed_brought old h c q k knows (fresh_placed old new h p deal name first len brings body (length h) plain may knows enters q k here);
-    }
+    added_names old new h c (Peer p) name
+    (differ_at s (after s c) p (changed s c) name true (own_is s c (plain_state h lawful built) refl) (rows_fresh s p deal name first len brings body) (allows s c may).peer (λ q. fresh_gains s p deal name first len brings body q))
+    knows enters (placed old new h c (length h) lawful built is may knows enters)
 names_grown old new h (Refused p deal why detail) lawful built is may knows enters =
     let c : Change = Refused p deal why detail in
     let s = state h in
-    let plain = plain_state h lawful built in
-    same_names old new h c p [] (λ q. refl) (differ_at s (after s c) p (changed s c) [] false plain (plain_after s c plain refl may) (rows_refused s p deal why detail) (allows s c may).peer (λ q. refused_gains s p deal why detail q)) knows enters
+    let differ : Differ s (after s c) (Peer p) [] false = differ_at s (after s c) p (changed s c) [] false (own_is s c (plain_state h lawful built) refl) (rows_refused s p deal why detail) (allows s c may).peer (λ q. refused_gains s p deal why detail q) in
+    same_names old new h c (λ q. refl) (λ o q. differ.owners o q ∙ or_none (owns s o q)) (λ q. differ.held q ∙ or_none (is_held s q)) knows enters
 names_grown old new h _ lawful built is may knows enters = absurd (false≢true is)
 
 -- a store without names knows the empty history
@@ -248,14 +322,30 @@ pub names_begun : (store : Store) (text : List ℕ) → ((q : List ℕ) → reco
 names_begun store text none nobody = begun_names store store [] (Some text) refl (names_start store none nobody) (record { owners = λ o q. refl; records = λ q. refl })
 
 -- a name that a change may give to an owner is not the owner's yet
-pub is_new : (store : Store) (h : List Change) (s : State) (c : Change) → KnowsNames store h → s ≡ state h → is_built c ≡ true → allowed s c ≡ true → IsNew store c
-is_new store h s (Begun body) knows here is may = tt
-is_new store h s (TookFresh p deal name first len brings body) knows here is may =
+pub is_new : (store : Store) (h : List Change) (s : State) (c : Change) (e : Entering) → KnowsNames store h → s ≡ state h → is_built c ≡ true → allowed s c ≡ true → IsEntering s c e → IsNew store e
+is_new store h s (Begun body) e knows here is may it = subst (IsNew store) (sym it) tt
+is_new store h s (Kept name len brings body) e knows here is may it =
+    let c : Change = Kept name len brings body in
+    let ts = parts (tests s c) (allows s c may).tests in
+    subst (IsNew store) (sym it) (knows.owners Own name ∙ ap (λ (t : State). owns t Own name) (sym here) ∙ not_true (own_has s.own name) ts.0)
+is_new store h s (Snapped number ticket files folders bytes left names) e knows here is may it = subst (IsNew store) (sym it) tt
+is_new store h s (Forgot number) e knows here is may it = subst (IsNew store) (sym it.1) tt
+is_new store h s (TookFresh p deal name first len brings body) e knows here is may it =
     let c : Change = TookFresh p deal name first len brings body in
     let ts = parts (tests s c) (allows s c may).tests in
-    knows.owners (Peer p) name ∙ ap (λ (t : State). owns t (Peer p) name) (sym here) ∙ not_true (has in_key (row s p).ins (Chunk name)) ts.1.0
-is_new store h s (Refused p deal why detail) knows here is may = tt
-is_new store h s _ knows here is may = absurd (false≢true is)
+    subst (IsNew store) (sym it) (knows.owners (Peer p) name ∙ ap (λ (t : State). owns t (Peer p) name) (sym here) ∙ not_true (has in_key (row s p).ins (Chunk name)) ts.1.0)
+is_new store h s (Refused p deal why detail) e knows here is may it = subst (IsNew store) (sym it) tt
+is_new store h s _ e knows here is may it = absurd (false≢true is)
+
+-- what was worked out of a change is what the change does
+pub enters_of : (s : State) (old new : Store) (c : Change) (e : Entering) (number : ℕ) → is_built c ≡ true → IsEntering s c e → Enter old new e number → Enters s old new c number
+enters_of s old new (Begun body) e number is it enter = subst (λ (x : Entering). Enter old new x number) it enter
+enters_of s old new (Kept name len brings body) e number is it enter = subst (λ (x : Entering). Enter old new x number) it enter
+enters_of s old new (Snapped snapshot ticket files folders bytes left names) e number is it enter = subst (λ (x : Entering). Enter old new x number) it enter
+enters_of s old new (Forgot snapshot) e number is it enter = record { gone = name_listed it.0; are = it.2; drops = subst (λ (x : Entering). Enter old new x number) it.1 enter }
+enters_of s old new (TookFresh p deal name first len brings body) e number is it enter = subst (λ (x : Entering). Enter old new x number) it enter
+enters_of s old new (Refused p deal why detail) e number is it enter = subst (λ (x : Entering). Enter old new x number) it enter
+enters_of s old new _ e number is it enter = absurd (false≢true is)
 
 pub names_same : (old new : Store) (h : List Change) → SameNames old new → KnowsNames old h → KnowsNames new h
 names_same old new h same knows = record {
@@ -275,21 +365,27 @@ IsLonger size more keeps keeps' = (more ≡ size + 1) × ((n : ℕ) → n < size
 still_there : (size more : ℕ) (keeps keeps' : ℕ → Bool) (k : ℕ) → IsLonger size more keeps keeps' → (k < size) × (keeps k ≡ true) → (k < more) × (keeps' k ≡ true)
 still_there size more keeps keeps' k longer is = (omega (arith, longer.0, is.0), longer.1 k is.0 ∙ is.1)
 
--- a log with the record of the change has the bodies of the names after it
-pub there_grown : (old new : Store) (c : Change) (size more : ℕ) (keeps keeps' : ℕ → Bool) → is_built c ≡ true → more ≡ size + 1 → ((n : ℕ) → n < size → keeps' n ≡ keeps n) → keeps' size ≡ true → AreThere old size keeps → Enters old new c size → AreThere new more keeps'
-there_grown old new (Begun body) size more keeps keeps' is longer same last there enters = λ q k here. still_there size more keeps keeps' k (longer, same, last) (there q k (sym (enters.records q) ∙ here))
-there_grown old new (Refused p deal why detail) size more keeps keeps' is longer same last there enters = λ q k here. still_there size more keeps keeps' k (longer, same, last) (there q k (sym (enters.records q) ∙ here))
-there_grown old new (TookFresh p deal name first len brings body) size more keeps keeps' is longer same last there enters = λ q k here. at q k (record_of old q) (there q) refl (sym (enters.records q) ∙ here)
-  where
-    by_name : (b : Bool) (k : ℕ) → cond b (Some size) None ≡ Some k → size ≡ k
-    by_name true k is = cc (is)
-    by_name false k is = absurd (cc)
+by_name : (b : Bool) (size k : ℕ) → cond b (Some size) None ≡ Some k → size ≡ k
+by_name true size k is = cc (is)
+by_name false size k is = absurd (cc)
 
+added_there : (old new : Store) (owner : Owner) (name : List ℕ) (size more : ℕ) (keeps keeps' : ℕ → Bool) → IsLonger size more keeps keeps' → AreThere old size keeps → Adds old new owner name size → AreThere new more keeps'
+added_there old new owner name size more keeps keeps' longer there adds = λ q k here. at q k (record_of old q) (there q) refl (sym (adds.records q) ∙ here)
+  where
     at : (q : List ℕ) (k : ℕ) (r : Option ℕ) → ((j : ℕ) → record_of old q ≡ Some j → (j < size) × (keeps j ≡ true)) → record_of old q ≡ r → or_else (record_of old q) (cond (name_eq name q) (Some size) None) ≡ Some k → (k < more) × (keeps' k ≡ true)
     at q k (Some j) all was now =
         let same_k : Some j ≡ Some k = sym (ap (λ (o : Option ℕ). or_else o (cond (name_eq name q) (Some size) None)) was) ∙ now in
-        still_there size more keeps keeps' k (longer, same, last) (all k (was ∙ same_k))
+        still_there size more keeps keeps' k longer (all k (was ∙ same_k))
     at q k None all was now =
-        let k_is : size ≡ k = by_name (name_eq name q) k (sym (ap (λ (o : Option ℕ). or_else o (cond (name_eq name q) (Some size) None)) was) ∙ now) in
-        (omega (arith, longer, k_is), subst (λ (i : ℕ). keeps' i ≡ true) k_is last)
-there_grown old new _ size more keeps keeps' is longer same last there enters = absurd (false≢true is)
+        let k_is : size ≡ k = by_name (name_eq name q) size k (sym (ap (λ (o : Option ℕ). or_else o (cond (name_eq name q) (Some size) None)) was) ∙ now) in
+        (omega (arith, longer.0, k_is), subst (λ (i : ℕ). keeps' i ≡ true) k_is longer.2)
+
+-- a log with the record of the change has the bodies of the names after it
+pub there_grown : (s : State) (old new : Store) (c : Change) (size more : ℕ) (keeps keeps' : ℕ → Bool) → is_built c ≡ true → more ≡ size + 1 → ((n : ℕ) → n < size → keeps' n ≡ keeps n) → keeps' size ≡ true → AreThere old size keeps → Enters s old new c size → AreThere new more keeps'
+there_grown s old new (Begun body) size more keeps keeps' is longer same last there enters = λ q k here. still_there size more keeps keeps' k (longer, same, last) (there q k (sym (enters.records q) ∙ here))
+there_grown s old new (Kept name len brings body) size more keeps keeps' is longer same last there enters = added_there old new Own name size more keeps keeps' (longer, same, last) there enters
+there_grown s old new (Snapped snapshot ticket files folders bytes left names) size more keeps keeps' is longer same last there enters = λ q k here. still_there size more keeps keeps' k (longer, same, last) (there q k (sym (enters.records q) ∙ here))
+there_grown s old new (Forgot snapshot) size more keeps keeps' is longer same last there enters = λ q k here. still_there size more keeps keeps' k (longer, same, last) (there q k (left_record old new q k (enters.drops.records q) here))
+there_grown s old new (TookFresh p deal name first len brings body) size more keeps keeps' is longer same last there enters = added_there old new (Peer p) name size more keeps keeps' (longer, same, last) there enters
+there_grown s old new (Refused p deal why detail) size more keeps keeps' is longer same last there enters = λ q k here. still_there size more keeps keeps' k (longer, same, last) (there q k (sym (enters.records q) ∙ here))
+there_grown s old new _ size more keeps keeps' is longer same last there enters = absurd (false≢true is)

@@ -12,7 +12,7 @@ use Rattle.psb_model.specs.Effects.{after}
 use Rattle.psb_model.specs.History.{state, lawful_from, is_built}
 use Rattle.psb_model.specs.Needed.{brings, brings_name, slots_given, needs_name, needs_slot, is_needed_by, is_body, body_is_right, bodies_right, last_bringing}
 use Rattle.psb_model.specs.declared.change.Change.{Change}
-use Rattle.psb_model.specs.declared.change.Change.TheVariants.{Begun, TookFresh, Refused}
+use Rattle.psb_model.specs.declared.change.Change.TheVariants.{Begun, Kept, Snapped, Forgot, TookFresh, Refused}
 use Rattle.psb_model.proofs.ByObject.{by_cases}
 use Rattle.psb_model.proofs.Own.{name_same, name_refl}
 use Rattle.psb_model.proofs.Steps.{parts}
@@ -141,10 +141,26 @@ fresh_right s p deal first len name true body cs none = by_cases (is_held s name
     ap (λ (b : Bool). not (is_needed_by s c cs) || b) right ∙ or_true (not (is_needed_by s c cs))))
     (λ free. rw free refl)
 
+kept_right : (s : State) (name : List ℕ) (len : ℕ) (new : Bool) (body : Option (List ℕ)) (cs : List Change) → ((q : List ℕ) → is_held s q ≡ true → lacks_name q (Kept name len new body ∷ cs) ≡ false)
+    → (not (is_needed_by s (Kept name len new body) cs) || body_is_right (Kept name len new body)) ≡ true
+kept_right s name len false body cs none = refl
+kept_right s name len true body cs none = by_cases (is_held s name)
+    (λ held. by_cases (list_any (brings_name name) cs)
+    (λ again. rw (held, again) refl)
+    (λ last.
+    let c = Kept name len true body in
+    let here : last_bringing name (c ∷ cs) ≡ Some c = ap (λ (o : Option Change). or_this o (name_eq name name) c) (none_bringing name cs last) ∙ ap (λ (b : Bool). cond b (Some c) None) (name_refl name) in
+    let right : body_is_right c ≡ true = not_false (body_is_right c) (sym (ap lacks here) ∙ none name held) in
+    ap (λ (b : Bool). not (is_needed_by s c cs) || b) right ∙ or_true (not (is_needed_by s c cs))))
+    (λ free. rw free refl)
+
 one_right : (s t : State) (c : Change) (cs : List Change) → allowed t c ≡ true → is_built c ≡ true → ((q : List ℕ) → is_held s q ≡ true → lacks_name q (c ∷ cs) ≡ false) → (not (is_needed_by s c cs) || body_is_right c) ≡ true
 one_right s t (Begun body) cs may built none =
     let right : is_body None body ≡ true = begun_body body (begun_there t body may) in
     ap (λ (b : Bool). not (is_needed_by s (Begun body) cs) || b) right ∙ or_true (not (is_needed_by s (Begun body) cs))
+one_right s t (Kept name len new body) cs may built none = kept_right s name len new body cs none
+one_right s t (Snapped number ticket files folders bytes left names) cs may built none = refl
+one_right s t (Forgot number) cs may built none = refl
 one_right s t (TookFresh p deal name first len new body) cs may built none = fresh_right s p deal first len name new body cs none
 one_right s t (Refused p deal why detail) cs may built none = refl
 one_right s t _ cs may built none = absurd (false≢true built)

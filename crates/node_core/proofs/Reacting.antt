@@ -80,11 +80,11 @@ reacts_made r node n i x o is k m makes =
       dropped = makes.dropped ∙ sym (ap (λ (q : MachineReaction). q.dropped) here);
     }
 
-pub reacts_made_so : {L : Type 0} (r : Reaction) (node : Node L) (n : Situation) (i : Input) (x : List ℕ) (o : Offer) (c : Change) → i ≡ Datagram x → MakesChange n x o → Makes r node o c → ReactsSo r (react n i)
+pub reacts_made_so : {L : Type 0} (r : Reaction) (node : Node L) (n : Situation) (i : Input) (x : List ℕ) (o : Offer) (c : Change) → i ≡ Datagram x → MakesChange n x o → Makes r node o c → ReactsSo r n i
 reacts_made_so r node n i x o c is m makes =
     let here = ap (λ (j : Input). react n j) is ∙ m.reaction in
     record {
-      change = ap (λ (f : Option Change). is_some f) makes.change ∙ sym (ap (λ (q : MachineReaction). is_some q.grown) here);
+      change = λ certain. ap (λ (f : Option Change). is_some f) makes.change ∙ sym (ap (λ (q : MachineReaction). is_some q.grown) here);
       dropped = makes.dropped ∙ sym (ap (λ (q : MachineReaction). q.dropped) here);
     }
 
@@ -128,11 +128,11 @@ reacts_again r n i x o change is t none told =
       dropped = none.dropped ∙ sym (ap (λ (q : MachineReaction). q.dropped) here);
     }
 
-pub reacts_again_so : (r : Reaction) (n : Situation) (i : Input) (x : List ℕ) (o : Offer) (change : ℕ) → i ≡ Datagram x → TellsAgain n x o change → MakesNone r → ReactsSo r (react n i)
+pub reacts_again_so : (r : Reaction) (n : Situation) (i : Input) (x : List ℕ) (o : Offer) (change : ℕ) → i ≡ Datagram x → TellsAgain n x o change → MakesNone r → ReactsSo r n i
 reacts_again_so r n i x o change is t none =
     let here = ap (λ (j : Input). react n j) is ∙ t.reaction in
     record {
-      change = ap (λ (f : Option Change). is_some f) none.change ∙ sym (ap (λ (q : MachineReaction). is_some q.grown) here);
+      change = λ certain. ap (λ (f : Option Change). is_some f) none.change ∙ sym (ap (λ (q : MachineReaction). is_some q.grown) here);
       dropped = none.dropped ∙ sym (ap (λ (q : MachineReaction). q.dropped) here);
     }
 

@@ -9,11 +9,11 @@ use Rattle.wire_codec.specs.Frames.{datagram}
 use Rattle.psb_machine.specs.Deals.{is_compared}
 use Rattle.psb_machine.specs.Stores.{IsShort}
 use Rattle.psb_machine.specs.Replies.{reply_of, reply}
-use Rattle.psb_machine.specs.Machine.{Situation, Datagram, Reaction as MachineReaction, react, settled, quiet, drops, makes, tells_again}
+use Rattle.psb_machine.specs.Machine.{Situation, Input, Datagram, Reaction as MachineReaction, react, settled, quiet, drops, makes, tells_again}
 use Rattle.node_core.specs.Letters.{letters_of}
 use Rattle.node_core.specs.Offers.{deal_in}
 use Rattle.node_core.specs.Making.{CanMake, MayMake, made_of, made_in, why_refused}
-use Rattle.node_core.specs.Unread.{IsUnread, NeedsRecord}
+use Rattle.node_core.specs.Unread.{IsUnread, IsCertain, NeedsRecord}
 use Rattle.node_core.specs.declared.decision.Decision.{Decision}
 use Rattle.node_core.specs.declared.decision.Decision.TheVariants.{Drop, Pass, Make, Again}
 use Rattle.node_core.specs.declared.offer.Offer.{Offer}
@@ -88,9 +88,9 @@ pub record Reacts (r : Reaction) (m : MachineReaction) : Type 0 where
   pub dropped : r.dropped ≡ m.dropped
 
 -- on every disk it is so but for which change is made, if one is
-pub record ReactsSo (r : Reaction) (m : MachineReaction) : Type 0 where
-  pub change : is_some r.change ≡ is_some m.grown
-  pub dropped : r.dropped ≡ m.dropped
+pub record ReactsSo (r : Reaction) (n : Situation) (i : Input) : Type 0 where
+  pub change : IsCertain n i → is_some r.change ≡ is_some (react n i).grown
+  pub dropped : r.dropped ≡ (react n i).dropped
 
 -- the change may be made by a node with this state, and come next in its history
 abbrev pub MayCome : {L : Type 0} → (Node L → Situation → Type 0) → Node L → Change → Type 0

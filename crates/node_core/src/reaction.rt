@@ -1,6 +1,6 @@
 //! What a node makes of an input, before anything of it is written.
 
-ghost use Rattle.std.specs.Prelude.{◌≡◌, [], ◌∷◌, None, IfOk};
+ghost use Rattle.std.specs.Prelude.{◌≡◌, [], ◌∷◌, Some, None, IfOk};
 
 use crate::{Letter, Outbox};
 use psb_bytes::{Items, Memory};
@@ -26,6 +26,19 @@ pub(crate) fn quiet(alloc: Global, dropped: Option<Dropped>) -> Reaction
     Reaction {
         change: None,
         dropped,
+        out: Items::from_vec(Vec::new(alloc)),
+    }
+}
+
+/// A change is made, of which no letter tells.
+pub(crate) fn untold(alloc: Global, change: Change) -> Reaction
+    ensures change { result.change ≡ Some change }
+    ensures dropped { result.dropped ≡ None }
+    ensures out { result.out ≡ [] }
+{
+    Reaction {
+        change: Some(change),
+        dropped: None,
         out: Items::from_vec(Vec::new(alloc)),
     }
 }

@@ -13,6 +13,8 @@ use Rattle.wire_codec.specs.declared.frame.Dropped.{Dropped}
 use Rattle.psb_machine.specs.Machine.{Situation, Input, Datagram, Tick, react, next}
 use Rattle.psb_machine.specs.Course.{Telling, Send, Step, Absorb, after_all, tellings, sent_of, said_of, sent_in, said_in, datagrams}
 use Rattle.psb_machine.specs.Commands.{Turn, ticks, came_steps, clock_steps, turn_steps, clock_after, serve_steps}
+use Rattle.node_core.specs.declared.fault.Fault.{Fault as NodeFault}
+use Rattle.node_core.specs.declared.fault.Fault.TheVariants as fault
 use Rattle.node_core.specs.declared.node.Node.{Node}
 use Rattle.node_core.specs.Stands.{ReopensTo}
 use Rattle.node_core.specs.Stored.{Knows, Stored}
@@ -21,7 +23,7 @@ use Rattle.node_core.proofs.Committing.{same_knows, stored_room}
 use Rattle.node_core.proofs.Reopened.{stored_at, stored_reopens}
 use Rattle.node_serve.specs.Sends.{AreSent, Sends}
 use Rattle.node_serve.specs.Hears.{Hears, steps_of, clock_by, clock_of, heard_of, of_turn, of_turns, End, Whole, Cut, Stopped, Unbegun, AnswersAs, EndsAs, is_fed}
-use Rattle.node_serve.specs.Turns.{Listened, OnlySends, IsEarly}
+use Rattle.node_serve.specs.Turns.{Listened, OnlySends, IsEarly, serve_fault_of, fault_end}
 use Rattle.node_serve.specs.Spans.{IsReady, IsPrefixSoon, Tally, no_tally, tally_sum, counts_sum, Fed, Received, RanTurns}
 use Rattle.node_serve.proofs.Tries.{rests_tells, grows_none, told_none, told_as, told_from, sent_none, lost_none}
 use Rattle.node_serve.proofs.Prefixes.{whole, first_image, next_image, whole_has_all, either_has_all}
@@ -82,6 +84,17 @@ counts_zero (Some t) = ap (λ (s : Tally). Some s) (zero t)
 
     zero : (t : Tally) → tally_sum no_tally t ≡ t
     zero t = λ j. record { taken = plus t.taken j; dropped = plus t.dropped j; lost = plus t.lost j }
+
+-- a node that gives up, or refuses, ends a turn
+pub fault_stops : (f : NodeFault) → fault_end (serve_fault_of f) ≡ Stopped
+fault_stops fault.Memory = refl
+fault_stops fault.NotNode = refl
+fault_stops fault.DiskFault = refl
+fault_stops fault.Broken = refl
+fault_stops fault.BadSettings = refl
+fault_stops (fault.Clash c) = refl
+fault_stops (fault.Altered name) = refl
+fault_stops (fault.NoSnapshot k) = refl
 
 -- a turn that heard the clock was made, or the node failed in it
 abbrev pub IsFull : End → Type 0

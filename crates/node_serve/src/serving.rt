@@ -13,14 +13,13 @@ ghost use Rattle.node_serve.specs.Spans.{IsReady, Counts, Fed, Received, RanTurn
 ghost use Rattle.node_serve.specs.Turns.{IsEnd, IsEarly, OnlySends, peers_in, end_of, turned_counts, total_counts};
 
 use crate::Buffer;
-use crate::sending::send_all;
+use crate::feeding::feed;
 use node_core::{Fault, Input, Node};
 use node_journal::Log;
 use psb_bytes::{Items, Memory, PeerId};
 use psb_station::Station;
 use std::alloc::Global;
 use thiserror::Error;
-use wire_codec::Dropped;
 
 /// What came of a turn: how many datagrams came, how many of them were dropped, and how many letters were lost.
 #[derive(Clone, Copy, Debug, PartialEq, Eq)]
@@ -40,7 +39,7 @@ pub struct Total {
 }
 
 /// Why a turn or a serving ended.
-#[derive(Clone, Copy, Debug, PartialEq, Eq, Error)]
+#[derive(Drop, Debug, Error)]
 pub enum ServeFault {
     /// The node gave up: the disk failed.
     #[error("the node gave up: {0}")]
@@ -52,64 +51,17 @@ pub enum ServeFault {
     Memory,
 }
 
-/// How many datagrams came with an input.
-fn taken_in(input: &Input<'_>) -> u32
-    ensures count { result ≡ datagrams (input_of input.now) }
-    ensures small { result ≤ 1 }
-{
-    match input {
-        Input::Frame(_) => 1,
-        Input::Tick(_) => 0,
-    }
-}
+impl From<Fault> for ServeFault {
+    ghost use Rattle.node_serve.specs.Turns.{serve_fault_of};
 
-/// How many datagrams were dropped, by what the one was dropped for.
-fn dropped_in(dropped: Option<Dropped>) -> u32
-    ensures count { result ≡ (if is_some dropped then 1 else 0) }
-    ensures small { result ≤ 1 }
-{
-    match dropped {
-        None => 0,
-        Some(_) => 1,
-    }
-}
+    ghost from_gives = { λ f e. e ≡ serve_fault_of f };
 
-/// Absorbs one input, and sends its letters. A letter that cannot be sent is lost, and counted.
-fn feed<L: Log, S: Station>(
-    node: &mut Node<L>,
-    station: &mut S,
-    input: &Input<'_>,
-) -> Result<Turned, ServeFault>
-    requires ready { IsReady L.holds node.old (S.view station.old) }
-    requires whole { L.is_broken node.old.log ≡ false }
-    requires counted { IsCounted L.size L.keeps_body node.old }
-    ensures tells { Tells_bytes (S.view station.new) → Tells_bytes (S.view station.old) }
-    ensures fed { Tells_bytes (S.view station.new) → (n : Situation) → Knows node.old n → Stored L.holds node.old n.history (S.view station.old)
-        → Fed L.holds L.stands L.is_broken node.old node.new (S.view station.old) (S.view station.new) n (Absorb (input_of input.now) ∷ []) (turned_counts result) (is_ok result) }
-    ensures only_sends { OnlySends (S.view station.old) (S.view station.new) }
-    ensures ready { OnOk result (IsReady L.holds node.new (S.view station.new)) }
-    ensures counts { Counts (S.view station.old) (S.view station.new) }
-    ensures whole { OnOk result (L.is_broken node.new.log ≡ false) }
-    ensures unbroken { result ≡ Err ServeFault.Memory → L.is_broken node.new.log ≡ false }
-    ensures counted { OnOk result (IsCounted L.size L.keeps_body node.new) }
-    ensures small { IfOk result (λ t. (t.taken + t.dropped ≤ 2) × (t.lost ≤ 2)) }
-    ensures disk_cause { result ≡ Err (ServeFault.Node fault.DiskFault) → Rose (S.view station.old).disk_faults (S.view station.new).disk_faults }
-    ensures steady { (result ≡ Err (ServeFault.Node fault.DiskFault)) ⊎ ((S.view station.new).disk_faults ≡ (S.view station.old).disk_faults) }
-    ensures stops { OnErr result (end_of result ≡ Stopped) }
-    ensures only { OnErr result ((result ≡ Err (ServeFault.Node fault.DiskFault)) ⊎ (result ≡ Err ServeFault.Memory)) }
-{
-    let outcome = match node.absorb(station, input) {
-        Ok(outcome) => outcome,
-        Err(Fault::DiskFault) => return Err(ServeFault::Node(Fault::DiskFault)),
-        Err(Fault::Memory) => return Err(ServeFault::Memory),
-        Err(_) => unreachable!(),
-    };
-    let lost = send_all(station, outcome.out.as_slice());
-    Ok(Turned {
-        taken: taken_in(input),
-        dropped: dropped_in(outcome.dropped),
-        lost,
-    })
+    fn from(fault: Fault) -> Self {
+        match fault {
+            Fault::Memory => ServeFault::Memory,
+            fault => ServeFault::Node(fault),
+        }
+    }
 }
 
 /// How many claims are walked in a turn that hears nothing: some 20 milliseconds' work.
@@ -156,7 +108,7 @@ fn receive<L: Log, S: Station>(
     };
     match feed(node, station, &Input::Frame(&buffer.bytes[..count])) {
         Ok(turned) => Ok(turned),
-        Err(fault) => Err(fault),
+        Err(fault) => Err(ServeFault::from(fault)),
     }
 }
 
@@ -193,7 +145,7 @@ fn tick_all<L: Log, S: Station>(
     for peer in peers {
         let turned = match feed(node, station, &Input::Tick(*peer)) {
             Ok(turned) => turned,
-            Err(fault) => return Err(fault),
+            Err(fault) => return Err(ServeFault::from(fault)),
         };
         sum.taken += turned.taken;
         sum.dropped += turned.dropped;

@@ -13,10 +13,11 @@ ghost use Rattle.psb_model.specs.declared.change.Change.{Change};
 ghost use Rattle.node_journal.specs.Format.{Stands};
 ghost use Rattle.node_core.specs.Stands.{HoldsHistory};
 ghost use Rattle.backup_cli.specs.Begun.{Begins};
-ghost use Rattle.backup_cli.specs.Says.{Utters, IsRefusal};
+ghost use Rattle.backup_cli.specs.Says.{Utters, IsRefusal, peer_lines, snapshot_lines};
 ghost use Rattle.backup_cli.specs.Served.{Serves};
 ghost use Rattle.backup_cli.specs.Listed.{Lists};
-ghost use Rattle.backup_cli.specs.Words.{IsServe, IsLedger, IsInit, IsNoCommand};
+ghost use Rattle.backup_cli.specs.Forgotten.{Forgets};
+ghost use Rattle.backup_cli.specs.Words.{IsServe, IsLedger, IsInit, IsSnapshots, IsForget, IsQuiet, IsNoCommand};
 ghost use Rattle.backup_cli.specs.declared.status.Status.TheVariants as status;
 
 use backup_cli::{Status, run};
@@ -54,12 +55,22 @@ where
     ensures serves { (turns : ℕ) → IsServe (map string_bytes words.now) turns → Tells_bytes (⟦<HostStation<R, S> as Disk>⟧.view station.new)
         → (h : List Change) (settings : Settings) → IsValid h → HoldsHistory Stands h S.Start.first → (state h).settings ≡ Some settings
         → (opened : Bool) × Serves Stands h settings opened (⟦<HostStation<R, S> as Disk>⟧.view station.old) (⟦<HostStation<R, S> as Disk>⟧.view station.new) turns result }
-    // The headline of `ledger`: the lines of the peers at that history, and nothing else is done. Whatever the
-    // file answers, nothing is joined, heard or sent for it.
+    // The headlines of `ledger` and `snapshots`: the lines of the peers, or of the kept snapshots, at that history,
+    // and nothing else is done.
     ensures lists { IsLedger (map string_bytes words.now) → Tells_bytes (⟦<HostStation<R, S> as Disk>⟧.view station.new)
         → (h : List Change) (settings : Settings) → IsValid h → HoldsHistory Stands h S.Start.first → (state h).settings ≡ Some settings
-        → (opened : Bool) × Lists Stands h settings opened (⟦<HostStation<R, S> as Disk>⟧.view station.old) (⟦<HostStation<R, S> as Disk>⟧.view station.new) result }
-    ensures quiet { IsLedger (map string_bytes words.now) → (⟦<HostStation<R, S> as Disk>⟧.view station.new).outside ≡ record (⟦<HostStation<R, S> as Disk>⟧.view station.old).outside { said = (⟦<HostStation<R, S> as Disk>⟧.view station.new).outside.said; say_faults = (⟦<HostStation<R, S> as Disk>⟧.view station.new).outside.say_faults } }
+        → (opened : Bool) × Lists Stands h (peer_lines settings (state h)) opened (⟦<HostStation<R, S> as Disk>⟧.view station.old) (⟦<HostStation<R, S> as Disk>⟧.view station.new) result }
+    ensures shows { IsSnapshots (map string_bytes words.now) → Tells_bytes (⟦<HostStation<R, S> as Disk>⟧.view station.new)
+        → (h : List Change) → IsValid h → HoldsHistory Stands h S.Start.first
+        → (opened : Bool) × Lists Stands h (snapshot_lines (state h)) opened (⟦<HostStation<R, S> as Disk>⟧.view station.old) (⟦<HostStation<R, S> as Disk>⟧.view station.new) result }
+
+    // The headline of `forget`: the snapshot of that number is given up, and its line is said.
+    ensures forgets { (number : ℕ) → IsForget (map string_bytes words.now) number → Tells_bytes (⟦<HostStation<R, S> as Disk>⟧.view station.new)
+        → (h : List Change) → IsValid h → HoldsHistory Stands h S.Start.first
+        → (opened : Bool) × Forgets Stands h number opened (⟦<HostStation<R, S> as Disk>⟧.view station.old) (⟦<HostStation<R, S> as Disk>⟧.view station.new) result }
+
+    // Whatever the file answers, nothing is joined, heard or sent for these three.
+    ensures quiet { IsQuiet (map string_bytes words.now) → (⟦<HostStation<R, S> as Disk>⟧.view station.new).outside ≡ record (⟦<HostStation<R, S> as Disk>⟧.view station.old).outside { said = (⟦<HostStation<R, S> as Disk>⟧.view station.new).outside.said; say_faults = (⟦<HostStation<R, S> as Disk>⟧.view station.new).outside.say_faults } }
     ensures not_node { result ≡ status.NotNode → Tells_bytes (⟦<HostStation<R, S> as Disk>⟧.view station.new) → (h : List Change) → IsValid h → ¬ HoldsHistory Stands h S.Start.first }
 
     // The headline of `init`: what it comes to over each file and each folder. It leaves the folder as it was.

@@ -12,7 +12,7 @@
 //! - `run WORD ..`
 //! - `left N OUTCOME`, where OUTCOME is 0, 1 or 2
 //! - `body NAME`, where NAME is 64 digits
-//! - `absorb HEX`
+//! - `absorb HEX`, `keep HEX`
 //! - `tree`
 use crate::stop::Stop;
 use crate::words::{
@@ -51,6 +51,8 @@ pub enum Command<'a> {
     /// The image's node absorbs this datagram twice, with the faults of the next run, and what came of it
     /// is printed.
     Absorb(Vec<u8>),
+    /// The image's node keeps these bytes, sealed, twice, as it absorbs a datagram.
+    Keep(Vec<u8>),
     /// What the folder holds is printed.
     Tree,
 }
@@ -81,6 +83,7 @@ fn read_short<'a>(alloc: Global, first: &str, rest: &[&'a str]) -> Result<Comman
         ("left", [number, outcome]) => read_left(number, outcome),
         ("body", [name]) => Ok(Command::Body(read_digest(name).ok_or(Stop::Outside)?)),
         ("absorb", [bytes]) => Ok(Command::Absorb(read_hex(alloc, bytes)?)),
+        ("keep", [bytes]) => Ok(Command::Keep(read_hex(alloc, bytes)?)),
         ("tree", []) => Ok(Command::Tree),
         _ => Err(Stop::Outside),
     }

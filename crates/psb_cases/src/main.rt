@@ -46,6 +46,7 @@ fn obey<W: Write>(
         Command::Left(change, outcome) => leave(alloc, world, out, change, outcome)?,
         Command::Body(name) => find(alloc, world, out, &name)?,
         Command::Absorb(frame) => absorb(world, out, &frame)?,
+        Command::Keep(plain) => keep(world, out, &plain)?,
         Command::Tree => print_tree(alloc, out, &world.folder)?,
     }
     Ok(())
@@ -92,8 +93,16 @@ fn find<W: Write>(alloc: Global, world: &World, out: &mut W, name: &Digest) -> R
 /// Has the image's node absorb a datagram twice, and prints what came of each.
 fn absorb<W: Write>(world: &mut World, out: &mut W, frame: &[u8]) -> Result<(), Stop> {
     let [first, second] = world.absorb(frame)?;
-    print_absorbed(out, first)?;
-    print_absorbed(out, second)?;
+    print_absorbed(out, "absorb", first)?;
+    print_absorbed(out, "absorb", second)?;
+    Ok(())
+}
+
+/// Has the image's node keep a piece twice, and prints what came of each.
+fn keep<W: Write>(world: &mut World, out: &mut W, plain: &[u8]) -> Result<(), Stop> {
+    let [first, second] = world.keep(plain)?;
+    print_absorbed(out, "keep", first)?;
+    print_absorbed(out, "keep", second)?;
     Ok(())
 }
 

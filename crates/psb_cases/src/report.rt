@@ -108,13 +108,13 @@ pub fn print_found<W: Write>(
     Ok(())
 }
 
-/// What came of a datagram that was absorbed.
-pub fn print_absorbed<W: Write>(out: &mut W, absorbed: Absorbed) -> io::Result<()> {
+/// What came of an input that was absorbed; `how` is the word of the line.
+pub fn print_absorbed<W: Write>(out: &mut W, how: &str, absorbed: Absorbed) -> io::Result<()> {
     match absorbed {
-        Absorbed::Change(number) => writeln!(out, "absorb change {number}"),
-        Absorbed::Nothing => writeln!(out, "absorb nothing"),
-        Absorbed::Fault => writeln!(out, "absorb fault"),
-        Absorbed::Broken => writeln!(out, "absorb broken"),
+        Absorbed::Change(number) => writeln!(out, "{how} change {number}"),
+        Absorbed::Nothing => writeln!(out, "{how} nothing"),
+        Absorbed::Fault => writeln!(out, "{how} fault"),
+        Absorbed::Broken => writeln!(out, "{how} broken"),
     }
 }
 

@@ -2,7 +2,7 @@
 ghost use Rattle.std.specs.Prelude.{◌≤◌, length, All};
 ghost use Rattle.std.proofs.Props.{props};
 
-use crate::absorbing::{Absorbed, absorb_twice};
+use crate::absorbing::{Absorbed, absorb_twice, keep_twice};
 use crate::stop::Stop;
 use crate::words::Outcome;
 use backup_cli::Status;
@@ -104,6 +104,15 @@ impl World {
     pub fn absorb(&mut self, frame: &[u8]) -> Result<[Absorbed; 2], Stop> {
         let mut station = self.take_station();
         let absorbed = absorb_twice(self.alloc, &mut station, frame)?;
+        self.image = Vec::from_slice(self.alloc, station.image())?;
+        Ok(absorbed)
+    }
+
+    /// Has the image's node keep a sealed piece twice, with the faults of the next run, and makes the
+    /// image what that leaves.
+    pub fn keep(&mut self, plain: &[u8]) -> Result<[Absorbed; 2], Stop> {
+        let mut station = self.take_station();
+        let absorbed = keep_twice(self.alloc, &mut station, plain)?;
         self.image = Vec::from_slice(self.alloc, station.image())?;
         Ok(absorbed)
     }

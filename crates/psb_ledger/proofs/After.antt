@@ -5,7 +5,6 @@ use Rattle.std.specs.List.{list_any}
 use Rattle.std.proofs.lemmas.Bool.{false≢true, lt-ltb}
 use Rattle.std.proofs.lemmas.List.Sums.{sum_by-cons}
 use Rattle.psb_bytes.specs.declared.ids.Object.{Object}
-use Rattle.psb_bytes.specs.declared.ids.Object.TheVariants.{Chunk}
 use Rattle.psb_settings.specs.declared.settings.Settings.{Settings}
 use Rattle.psb_model.specs.declared.entries.DebtEntry.{DebtEntry}
 use Rattle.psb_model.specs.declared.change.Change.{Change}
@@ -17,7 +16,7 @@ use Rattle.psb_model.specs.Conditions.{capacity, allowed, fresh_tests, refusal_t
 use Rattle.psb_model.specs.Effects.{chunk_in, own_slots, took_deal, after, rows_after, disturbed, loosen}
 use Rattle.psb_model.proofs.ByObject.{sum_by-with_one}
 use Rattle.psb_model.proofs.Tidy.{fresh_move}
-use Rattle.psb_ledger.specs.View.{AccountView, named_row, plain_state, fresh_row}
+use Rattle.psb_ledger.specs.View.{AccountView, Mine, named_row, plain_state, fresh_row}
 use Rattle.psb_ledger.proofs.Ordered.{by_cases}
 use Rattle.psb_ledger.proofs.Places.{found_row, found_peer, found_here, none}
 
@@ -58,11 +57,11 @@ rows_fresh s p deal name first len new body =
     ∙ at_row_same p _ _ (row_fresh name (units len) first deal s.changes) s.rows
 
 -- the state after a Store, from the peers after it
-pub after_fresh : (changes : ℕ) (settings : Option Settings) (vs ws : List AccountView) (issued p deal : ℕ) (name : List ℕ) (first len : ℕ) (new : Bool) (body : Option (List ℕ)) → map named_row ws ≡ at_row p (fresh_row name (units len) first deal changes) (map named_row vs) → plain_state (changes + 1) settings ws (issued + units len) ≡ after (plain_state changes settings vs issued) (TookFresh p deal name first len new body)
-after_fresh changes settings vs ws issued p deal name first len new body h =
-    let s = plain_state changes settings vs issued in
+pub after_fresh : (m : Mine) (changes : ℕ) (settings : Option Settings) (vs ws : List AccountView) (issued p deal : ℕ) (name : List ℕ) (first len : ℕ) (new : Bool) (body : Option (List ℕ)) → map named_row ws ≡ at_row p (fresh_row name (units len) first deal changes) (map named_row vs) → (after (plain_state changes settings vs issued m) (TookFresh p deal name first len new body)).own ≡ m.own → plain_state (changes + 1) settings ws (issued + units len) m ≡ after (plain_state changes settings vs issued m) (TookFresh p deal name first len new body)
+after_fresh m changes settings vs ws issued p deal name first len new body h mine =
+    let s = plain_state changes settings vs issued m in
     let e : map named_row ws ≡ rows_after s (TookFresh p deal name first len new body) p = h ∙ sym (rows_fresh s p deal name first len new body) in
-    λ i. record { changes = changes + 1; settings = settings; rows = e i; issued = issued + units len; own = []; kept = []; snapped = None; chosen = [] }
+    λ i. record { changes = changes + 1; settings = settings; rows = e i; issued = issued + units len; own = sym mine i; kept = m.kept; snapped = m.snapped; chosen = [] }
 
 -- whose chunks have the name
 pub held_names : (vs : List AccountView) (o : Object) → list_any (λ (v : AccountView). has in_key v.row.ins o) vs ≡ list_any (λ (x : ℕ × Row). has in_key x.1.ins o) (map named_row vs)
@@ -71,22 +70,22 @@ held_names (v ∷ vs) o = ap (λ b. has in_key v.row.ins o || b) (held_names vs 
 
 -- THE CONDITION, in the ledger's own words
 
-pub allowed_fresh : (changes : ℕ) (settings : Option Settings) (vs : List AccountView) (issued total p deal : ℕ) (name : List ℕ) (first len : ℕ) (new : Bool) (i : ℕ) (r : AccountView) (held : Bool) (u cap : ℕ) (b : Bool) → (changes ≡ 0 → ⊥) → total ≡ used (plain_state changes settings vs issued) → Some i ≡ position (λ (v : AccountView). v.id == p) vs → r ≡ get_or vs i r → held ≡ list_any (λ (v : AccountView). has in_key v.row.ins (Chunk name)) vs → u ≡ units len → cap ≡ capacity settings → b ≡ all_of (fresh_tests r.row deal name first new held total u cap issued) → allowed (plain_state changes settings vs issued) (TookFresh p deal name first len new None) ≡ b
-allowed_fresh changes settings vs issued total p deal name first len new i r held u cap b begun sum at is names un ca tests_are =
-    let s = plain_state changes settings vs issued in
+pub allowed_fresh : (m : Mine) (changes : ℕ) (settings : Option Settings) (vs : List AccountView) (issued total p deal : ℕ) (name : List ℕ) (first len : ℕ) (new : Bool) (i : ℕ) (r : AccountView) (held : Bool) (u cap : ℕ) (b : Bool) → (changes ≡ 0 → ⊥) → total ≡ used (plain_state changes settings vs issued m) → Some i ≡ position (λ (v : AccountView). v.id == p) vs → r ≡ get_or vs i r → held ≡ is_held (plain_state changes settings vs issued m) name → u ≡ units len → cap ≡ capacity settings → b ≡ all_of (fresh_tests r.row deal name first new held total u cap issued) → allowed (plain_state changes settings vs issued m) (TookFresh p deal name first len new None) ≡ b
+allowed_fresh m changes settings vs issued total p deal name first len new i r held u cap b begun sum at is names un ca tests_are =
+    let s = plain_state changes settings vs issued m in
     let f = found_here vs p i r at is in
     let later : nat_lt 0 changes ≡ true = lt-ltb 0 changes (omega arith) in
     let peer : has_row (map named_row vs) p ≡ true = found_peer vs p i r f in
     let q : row s p ≡ r.row = found_row vs p i r f in
-    let h : is_held s name ≡ held = sym (names ∙ held_names vs (Chunk name)) in
+    let h : is_held s name ≡ held = sym names in
     rw (later, peer) ((λ j. all_of (fresh_tests (q j) deal name first new (h j) (sym sum j) (sym un j) (sym ca j) issued)) ∙ sym tests_are)
 
 and_false : (b x : Bool) → ((b && false) && x) ≡ false
 and_false true x = refl
 and_false false x = refl
 
-pub allowed_none : (changes : ℕ) (settings : Option Settings) (vs : List AccountView) (issued p deal : ℕ) (name : List ℕ) (first len : ℕ) (new : Bool) → None ≡ position (λ (v : AccountView). v.id == p) vs → allowed (plain_state changes settings vs issued) (TookFresh p deal name first len new None) ≡ false
-allowed_none changes settings vs issued p deal name first len new at =
+pub allowed_none : (m : Mine) (changes : ℕ) (settings : Option Settings) (vs : List AccountView) (issued p deal : ℕ) (name : List ℕ) (first len : ℕ) (new : Bool) → None ≡ position (λ (v : AccountView). v.id == p) vs → allowed (plain_state changes settings vs issued m) (TookFresh p deal name first len new None) ≡ false
+allowed_none m changes settings vs issued p deal name first len new at =
     let stranger : has_row (map named_row vs) p ≡ false = (none vs p (sym at)).1 in
     rw stranger (and_false (nat_lt 0 changes) _)
 
@@ -126,23 +125,23 @@ rows_refused s p deal why detail =
     ∙ at_row_twice p (took_deal deal s.changes) (after_move still) s.rows
     ∙ at_row_same p _ _ (λ r. ap (took_deal deal s.changes) (row_still r)) s.rows
 
-pub after_refused : (changes : ℕ) (settings : Option Settings) (vs ws : List AccountView) (issued p deal why detail : ℕ) → map named_row ws ≡ at_row p (took_deal deal changes) (map named_row vs) → plain_state (changes + 1) settings ws issued ≡ after (plain_state changes settings vs issued) (Refused p deal why detail)
-after_refused changes settings vs ws issued p deal why detail h =
-    let s = plain_state changes settings vs issued in
+pub after_refused : (m : Mine) (changes : ℕ) (settings : Option Settings) (vs ws : List AccountView) (issued p deal why detail : ℕ) → map named_row ws ≡ at_row p (took_deal deal changes) (map named_row vs) → (after (plain_state changes settings vs issued m) (Refused p deal why detail)).own ≡ m.own → plain_state (changes + 1) settings ws issued m ≡ after (plain_state changes settings vs issued m) (Refused p deal why detail)
+after_refused m changes settings vs ws issued p deal why detail h mine =
+    let s = plain_state changes settings vs issued m in
     let e : map named_row ws ≡ rows_after s (Refused p deal why detail) p = h ∙ sym (rows_refused s p deal why detail) in
-    λ i. record { changes = changes + 1; settings = settings; rows = e i; issued = issued; own = []; kept = []; snapped = None; chosen = [] }
+    λ i. record { changes = changes + 1; settings = settings; rows = e i; issued = issued; own = sym mine i; kept = m.kept; snapped = m.snapped; chosen = [] }
 
-pub allowed_refused : (changes : ℕ) (settings : Option Settings) (vs : List AccountView) (issued p deal why detail i : ℕ) (r : AccountView) (b : Bool) → (changes ≡ 0 → ⊥) → Some i ≡ position (λ (v : AccountView). v.id == p) vs → r ≡ get_or vs i r → b ≡ all_of (refusal_tests r.row deal why) → allowed (plain_state changes settings vs issued) (Refused p deal why detail) ≡ b
-allowed_refused changes settings vs issued p deal why detail i r b begun at is tests_are =
-    let s = plain_state changes settings vs issued in
+pub allowed_refused : (m : Mine) (changes : ℕ) (settings : Option Settings) (vs : List AccountView) (issued p deal why detail i : ℕ) (r : AccountView) (b : Bool) → (changes ≡ 0 → ⊥) → Some i ≡ position (λ (v : AccountView). v.id == p) vs → r ≡ get_or vs i r → b ≡ all_of (refusal_tests r.row deal why) → allowed (plain_state changes settings vs issued m) (Refused p deal why detail) ≡ b
+allowed_refused m changes settings vs issued p deal why detail i r b begun at is tests_are =
+    let s = plain_state changes settings vs issued m in
     let f = found_here vs p i r at is in
     let later : nat_lt 0 changes ≡ true = lt-ltb 0 changes (omega arith) in
     let peer : has_row (map named_row vs) p ≡ true = found_peer vs p i r f in
     let q : row s p ≡ r.row = found_row vs p i r f in
     rw (later, peer) (ap (λ (y : Row). all_of (refusal_tests y deal why)) q ∙ sym tests_are)
 
-pub refused_none : (changes : ℕ) (settings : Option Settings) (vs : List AccountView) (issued p deal why detail : ℕ) → None ≡ position (λ (v : AccountView). v.id == p) vs → allowed (plain_state changes settings vs issued) (Refused p deal why detail) ≡ false
-refused_none changes settings vs issued p deal why detail at =
+pub refused_none : (m : Mine) (changes : ℕ) (settings : Option Settings) (vs : List AccountView) (issued p deal why detail : ℕ) → None ≡ position (λ (v : AccountView). v.id == p) vs → allowed (plain_state changes settings vs issued m) (Refused p deal why detail) ≡ false
+refused_none m changes settings vs issued p deal why detail at =
     let stranger : has_row (map named_row vs) p ≡ false = (none vs p (sym at)).1 in
     rw stranger (and_false (nat_lt 0 changes) _)
 

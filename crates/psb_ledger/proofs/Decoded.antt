@@ -5,7 +5,7 @@ use Rattle.std.specs.List.{list_all}
 use Rattle.std.proofs.lemmas.Bool.{and_parts, lt-ltb, eq-eqb, true≢false}
 use Rattle.std.proofs.lemmas.List.{append_assoc}
 use Rattle.psb_model.specs.declared.change.Change.{Change}
-use Rattle.psb_model.specs.declared.change.Change.TheVariants.{TookFresh}
+use Rattle.psb_model.specs.declared.change.Change.TheVariants.{Kept, TookFresh}
 use Rattle.psb_bytes.specs.Numbers.{u32_bytes as u32, u64_bytes as u64}
 use Rattle.psb_model.specs.Heads.{flag, head_of}
 use Rattle.psb_model.specs.Grammar.{fits_widths, is_u8, is_u32, is_u64, is_digest, are_bytes, chunk_fits, body_fits, is_chunk_len}
@@ -17,7 +17,7 @@ pub on_err : {T E : Type 0} (r : Result T E) (P : Type 0) → P → OnErr r P
 on_err (Ok x) P p = tt
 on_err (Err e) P p = p
 
-both : (x y : Bool) → x ≡ true → y ≡ true → (x && y) ≡ true
+pub both : (x y : Bool) → x ≡ true → y ≡ true → (x && y) ≡ true
 both true y h k = k
 both false y h k = h
 
@@ -25,11 +25,11 @@ pub all_bytes : (xs : List ℕ) → ((k : ℕ) → get_or xs k 0 < 256) → list
 all_bytes [] h = refl
 all_bytes (x ∷ xs) h = rw (lt-ltb x 256 (h 0)) (all_bytes xs (λ k. h (suc k)))
 
-front_bytes : (xs ys : List ℕ) → list_all is_u8 (xs ++ ys) ≡ true → list_all is_u8 xs ≡ true
+pub front_bytes : (xs ys : List ℕ) → list_all is_u8 (xs ++ ys) ≡ true → list_all is_u8 xs ≡ true
 front_bytes [] ys h = refl
 front_bytes (x ∷ xs) ys h = let a = and_parts (is_u8 x) (list_all is_u8 (xs ++ ys)) h in rw a.0 (front_bytes xs ys a.1)
 
-rest_bytes : (xs ys : List ℕ) → list_all is_u8 (xs ++ ys) ≡ true → list_all is_u8 ys ≡ true
+pub rest_bytes : (xs ys : List ℕ) → list_all is_u8 (xs ++ ys) ≡ true → list_all is_u8 ys ≡ true
 rest_bytes [] ys h = h
 rest_bytes (x ∷ xs) ys h = rest_bytes xs ys (and_parts (is_u8 x) (list_all is_u8 (xs ++ ys)) h).1
 
@@ -45,6 +45,59 @@ name_in fields r1 r2 r3 name p d h a b c n =
     let two : list_all is_u8 r2 ≡ true = rest_bytes (u64 d) r2 (ap (list_all is_u8) (sym b) ∙ one) in
     let three : list_all is_u8 name ≡ true = front_bytes name r3 (ap (list_all is_u8) (sym c) ∙ two) in
     rw (eq-eqb (length name) 32 n) three
+
+-- the fields of a Kept have 37 bytes
+pub wrong_kept_length : (fields : List ℕ) → (length fields ≡ 37 → ⊥) → HasNoChange (2 ∷ fields)
+wrong_kept_length fields h (Kept n l w b) kind widths e =
+    let a = and_parts _ _ widths in let a1 = and_parts _ _ a.0 in
+    let name = digest_length n a1.0 in
+    let last : length (flag w) ≡ 1 = refl in
+    h (omega (arith, ap length e, name, last, length-append (n ++ u32 l) (flag w), length-append n (u32 l)))
+wrong_kept_length fields h _ kind widths e = cc
+
+-- what stands where its flag should is none
+pub wrong_kept_flag : (fields r1 r2 n : List ℕ) (l : ℕ) → fields ≡ n ++ r1 → length n ≡ 32 → r1 ≡ u32 l ++ r2 → ((b : Bool) (more : List ℕ) → r2 ≡ flag b ++ more → ⊥) → HasNoChange (2 ∷ fields)
+wrong_kept_flag fields r1 r2 n l a len b none (Kept n' l' w' b') kind widths e =
+    let x = and_parts _ _ widths in let x1 = and_parts _ _ x.0 in
+    let name = digest_length n' x1.0 in
+    let whole : fields ≡ n' ++ u32 l' ++ flag w' = cc in
+    let e1 : n ++ r1 ≡ n' ++ (u32 l' ++ flag w') = sym a ∙ whole ∙ append_assoc n' (u32 l') (flag w') in
+    let t1 = (same_parts n n' r1 (u32 l' ++ flag w') (len ∙ sym name) e1).1 in
+    let t2 = (same_parts (u32 l) (u32 l') r2 (flag w') refl (sym b ∙ t1)).1 in
+    none w' [] t2
+wrong_kept_flag fields r1 r2 n l a len b none _ kind widths e = cc
+
+-- 32 bytes in front are a name
+pub first_name : (fields r1 name : List ℕ) → ((k : ℕ) → get_or fields k 0 < 256) → fields ≡ name ++ r1 → length name ≡ 32 → is_digest name ≡ true
+first_name fields r1 name h a n =
+    let all : list_all is_u8 name ≡ true = front_bytes name r1 (ap (list_all is_u8) (sym a) ∙ all_bytes fields h) in
+    rw (eq-eqb (length name) 32 n) all
+
+pub kept_widths : (l : ℕ) (n : List ℕ) (w : Bool) → l < 2 ^ 32 → is_digest n ≡ true → fits_widths (Kept n l w None) ≡ true
+kept_widths l n w hl hn = rw (hn, lt-ltb l (2 ^ 32) hl) refl
+
+-- the body of the Kept that has these fields goes with its length and its flag
+kept_goes : (c : Change) (fields n : List ℕ) (l : ℕ) (w : Bool) (body : Option (List ℕ)) → 2 ∷ fields ≡ head_of (Kept n l w None) → fits_widths (Kept n l w None) ≡ true → IsRead c (2 ∷ fields) body → chunk_fits l w body ≡ true
+kept_goes (Kept n' l' w' b') fields n l w body head widths r =
+    let same = of_kinds (Kept n' l' w' b') (Kept n l w b') (2 ∷ fields) body refl refl r.widths (both (is_digest n && is_u32 l) (are_bytes b') (and_parts (is_digest n && is_u32 l) true widths).0 (and_parts (is_digest n' && is_u32 l') (are_bytes b') r.widths).1) r.stands (record { head_is = head; body_is = r.stands.body_is }) refl in
+    let e : chunk_fits l' w' b' ≡ chunk_fits l w b' = ap kept_fits same in
+    ap (chunk_fits l w) r.stands.body_is ∙ sym e ∙ r.grammar
+  where
+    kept_fits : Change → Bool
+    kept_fits (Kept n l w b) = chunk_fits l w b
+    kept_fits _ = true
+kept_goes _ fields n l w body head widths r = let e = r.stands.head_is in cc
+
+-- no Kept has these fields and a length out of range, or a body of another length
+pub no_kept_len : (c : Change) (fields n : List ℕ) (l : ℕ) (w : Bool) (body : Option (List ℕ)) → 2 ∷ fields ≡ head_of (Kept n l w None) → fits_widths (Kept n l w None) ≡ true → IsRead c (2 ∷ fields) body → is_chunk_len l ≡ false → ⊥
+no_kept_len c fields n l w body head widths r bad =
+    let whole = kept_goes c fields n l w body head widths r in
+    true≢false (sym (and_parts (is_chunk_len l) (body_fits (if w then l else 0) body) whole).0 ∙ bad)
+
+pub no_kept_body : (c : Change) (fields n : List ℕ) (l : ℕ) (w : Bool) (body : Option (List ℕ)) → 2 ∷ fields ≡ head_of (Kept n l w None) → fits_widths (Kept n l w None) ≡ true → IsRead c (2 ∷ fields) body → body_fits (if w then l else 0) body ≡ false → ⊥
+no_kept_body c fields n l w body head widths r bad =
+    let whole = kept_goes c fields n l w body head widths r in
+    true≢false (sym (and_parts (is_chunk_len l) (body_fits (if w then l else 0) body) whole).1 ∙ bad)
 
 -- the fields of a TookFresh have 53 bytes
 pub wrong_length : (fields : List ℕ) → (length fields ≡ 53 → ⊥) → HasNoChange (5 ∷ fields)

@@ -1,11 +1,15 @@
 pub mod Spelled
 pub mod OneChange
 pub mod Decoded
+pub mod SnappedHeads
 pub mod Ordered
+pub mod Listed
 pub mod Trees
+pub mod OwnTrees
 pub mod Slots
 pub mod Places
 pub mod Forms
 pub mod After
 pub mod Sound
 pub mod Taking
+pub mod Keeping

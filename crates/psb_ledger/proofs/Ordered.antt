@@ -146,7 +146,7 @@ placed key e l n h = ap (λ m. insert l m e) h ∙ at_first key e l
         rw (k, more) (ap (λ l. x ∷ l) (at_first key e xs)))
 
 -- what is below an entry is below the others behind it
-below_rest : {E : Type 0} (key : E → Object) (e x : E) (xs : List E) → is_lt (object_cmp (key e) (key x)) ≡ true → list_all (λ y. is_lt (object_cmp (key x) (key y))) xs ≡ true → list_all (λ y. is_lt (object_cmp (key e) (key y))) xs ≡ true
+pub below_rest : {E : Type 0} (key : E → Object) (e x : E) (xs : List E) → is_lt (object_cmp (key e) (key x)) ≡ true → list_all (λ y. is_lt (object_cmp (key x) (key y))) xs ≡ true → list_all (λ y. is_lt (object_cmp (key e) (key y))) xs ≡ true
 below_rest key e x [] h k = refl
 below_rest key e x (y ∷ ys) h k =
     let a = and_parts (is_lt (object_cmp (key x) (key y))) (list_all (λ y. is_lt (object_cmp (key x) (key y))) ys) k in

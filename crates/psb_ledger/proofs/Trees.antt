@@ -31,7 +31,7 @@ by_object (Chunk a) (Slot b) = refl
 by_object (Slot a) (Chunk b) = refl
 by_object (Slot a) (Slot b) = refl
 
-by_order : {P : Type 0} → (o : Ordering) → (o ≡ Less → P) → (o ≡ Equal → P) → (o ≡ Greater → P) → P
+pub by_order : {P : Type 0} → (o : Ordering) → (o ≡ Less → P) → (o ≡ Equal → P) → (o ≡ Greater → P) → P
 by_order Less f g h = f refl
 by_order Equal f g h = g refl
 by_order Greater f g h = h refl
@@ -42,7 +42,7 @@ eq_reverse Equal = refl
 eq_reverse Greater = refl
 
 -- two that compare as equal, either way round, are one
-equal_is_one : (a b : Object) → is_eq (object_cmp a b) ≡ object_eq b a
+pub equal_is_one : (a b : Object) → is_eq (object_cmp a b) ≡ object_eq b a
 equal_is_one a b = ap is_eq (object_total.antisymm a b) ∙ eq_reverse (object_cmp b a) ∙ sym (same_object b a)
 
 less_is_unequal : (o : Ordering) → is_lt o ≡ true → is_eq o ≡ false
@@ -65,7 +65,7 @@ found_in cmp law (e ∷ es) o =
     let same : is_eq (cmp o e.0) ≡ object_eq e.0 o = ap is_eq (law o e.0) ∙ equal_is_one o e.0 in
     by_cases (object_eq e.0 o) (λ k. rw (same ∙ k, k) refl) (λ k. rw (same ∙ k, k) (found_in cmp law es o))
 
-or_false : (p : Bool) → p ≡ (p || false)
+pub or_false : (p : Bool) → p ≡ (p || false)
 or_false true = refl
 or_false false = refl
 
@@ -103,35 +103,56 @@ put_in cmp law (e ∷ es) o s absent =
     (λ k. absurd (true≢false (sym (ap is_eq (sym (law o e.0) ∙ k)) ∙ equal_is_one o e.0 ∙ n.0)))
     (λ k. let lt : is_lt (object_cmp o e.0) ≡ false = ap is_lt (sym (law o e.0) ∙ k) in rw (k, lt) (ap (λ l. entry_of e ∷ l) (put_in cmp law es o s n.1)))
 
-before_all : (o : Object) (l : List InEntry) → list_all (λ x. is_lt (object_cmp o (in_key x))) l ≡ true → has in_key l o ≡ false
-before_all o [] h = refl
-before_all o (x ∷ xs) h =
-    let a = and_parts (is_lt (object_cmp o (in_key x))) (list_all (λ y. is_lt (object_cmp o (in_key y))) xs) h in
-    rw (less_is_other o (in_key x) a.0) (before_all o xs a.1)
+before_all : {E : Type 0} (key : E → Object) (o : Object) (l : List E) → list_all (λ x. is_lt (object_cmp o (key x))) l ≡ true → has key l o ≡ false
+before_all key o [] h = refl
+before_all key o (x ∷ xs) h =
+    let a = and_parts (is_lt (object_cmp o (key x))) (list_all (λ y. is_lt (object_cmp o (key y))) xs) h in
+    rw (less_is_other o (key x) a.0) (before_all key o xs a.1)
 
-one_of_all : (p : InEntry → Bool) (e : InEntry) (l : List InEntry) → list_all p (with_one in_key e l) ≡ true → p e ≡ true
-one_of_all p e [] h = (and_parts (p e) true h).0
-one_of_all p e (x ∷ xs) h =
-    by_cases (is_lt (object_cmp (in_key e) (in_key x)))
+one_of_all : {E : Type 0} (key : E → Object) (p : E → Bool) (e : E) (l : List E) → list_all p (with_one key e l) ≡ true → p e ≡ true
+one_of_all key p e [] h = (and_parts (p e) true h).0
+one_of_all key p e (x ∷ xs) h =
+    by_cases (is_lt (object_cmp (key e) (key x)))
     (λ k. let h' = rw k at h in (and_parts (p e) (list_all p (x ∷ xs)) h').0)
-    (λ k. let h' = rw k at h in one_of_all p e xs (and_parts (p x) (list_all p (with_one in_key e xs)) h').1)
+    (λ k. let h' = rw k at h in one_of_all key p e xs (and_parts (p x) (list_all p (with_one key e xs)) h').1)
 
 -- in a list in order an entry is no other's
-pub apart : (e : InEntry) (l : List InEntry) → in_order in_key (with_one in_key e l) ≡ true → has in_key l (in_key e) ≡ false
-apart e [] h = refl
-apart e (x ∷ xs) h =
-    by_cases (is_lt (object_cmp (in_key e) (in_key x)))
-    (λ k. let h' = rw k at h in before_all (in_key e) (x ∷ xs) (and_parts (list_all (λ y. is_lt (object_cmp (in_key e) (in_key y))) (x ∷ xs)) (in_order in_key (x ∷ xs)) h').0)
+pub apart : {E : Type 0} (key : E → Object) (e : E) (l : List E) → in_order key (with_one key e l) ≡ true → has key l (key e) ≡ false
+apart key e [] h = refl
+apart key e (x ∷ xs) h =
+    by_cases (is_lt (object_cmp (key e) (key x)))
+    (λ k. let h' = rw k at h in before_all key (key e) (x ∷ xs) (and_parts (list_all (λ y. is_lt (object_cmp (key e) (key y))) (x ∷ xs)) (in_order key (x ∷ xs)) h').0)
     (λ k.
     let h' = rw k at h in
-    let a = and_parts (list_all (λ y. is_lt (object_cmp (in_key x) (in_key y))) (with_one in_key e xs)) (in_order in_key (with_one in_key e xs)) h' in
-    let first = one_of_all (λ y. is_lt (object_cmp (in_key x) (in_key y))) e xs a.0 in
-    let other : object_eq (in_key x) (in_key e) ≡ false = same_object (in_key x) (in_key e) ∙ less_is_unequal (object_cmp (in_key x) (in_key e)) first in
-    rw other (apart e xs a.1))
+    let a = and_parts (list_all (λ y. is_lt (object_cmp (key x) (key y))) (with_one key e xs)) (in_order key (with_one key e xs)) h' in
+    let first = one_of_all key (λ y. is_lt (object_cmp (key x) (key y))) e xs a.0 in
+    let other : object_eq (key x) (key e) ≡ false = same_object (key x) (key e) ∙ less_is_unequal (object_cmp (key x) (key e)) first in
+    rw other (apart key e xs a.1))
+
+-- what an entry went into was in order
+all_but : {E : Type 0} (key : E → Object) (p : E → Bool) (e : E) (l : List E) → list_all p (with_one key e l) ≡ true → list_all p l ≡ true
+all_but key p e [] h = refl
+all_but key p e (x ∷ xs) h =
+    by_cases (is_lt (object_cmp (key e) (key x)))
+    (λ k. let h' = rw k at h in (and_parts (p e) (list_all p (x ∷ xs)) h').1)
+    (λ k.
+    let h' = rw k at h in
+    let a = and_parts (p x) (list_all p (with_one key e xs)) h' in
+    rw a.0 (all_but key p e xs a.1))
+
+pub in_order_but : {E : Type 0} (key : E → Object) (e : E) (l : List E) → in_order key (with_one key e l) ≡ true → in_order key l ≡ true
+in_order_but key e [] h = refl
+in_order_but key e (x ∷ xs) h =
+    by_cases (is_lt (object_cmp (key e) (key x)))
+    (λ k. let h' = rw k at h in (and_parts (list_all (λ y. is_lt (object_cmp (key e) (key y))) (x ∷ xs)) (in_order key (x ∷ xs)) h').1)
+    (λ k.
+    let h' = rw k at h in
+    let a = and_parts (list_all (λ y. is_lt (object_cmp (key x) (key y))) (with_one key e xs)) (in_order key (with_one key e xs)) h' in
+    rw (all_but key (λ y. is_lt (object_cmp (key x) (key y))) e xs a.0) (in_order_but key e xs a.1))
 
 -- the latest goes into the tree
 pub latest_put : (cmp : Object → Object → Ordering) → IsObjectOrder cmp → (es ns : List (Object × Holding)) (latest : Option InEntry) (e : InEntry) (o : Object) (s : Holding) → latest ≡ Some e → e ≡ entry_of (o, s) → in_order in_key (with_latest latest (map entry_of es)) ≡ true → ns ≡ insert_entry cmp es o s → map entry_of ns ≡ with_latest latest (map entry_of es)
 latest_put cmp law es ns latest e o s is same ordered put =
     let is' : latest ≡ Some (entry_of (o, s)) = is ∙ ap (λ x. Some x) same in
     let ordered' = rw is' at ordered in
-    ap (map entry_of) put ∙ put_in cmp law es o s (apart (entry_of (o, s)) (map entry_of es) ordered') ∙ ap (λ x. with_latest x (map entry_of es)) (sym is')
+    ap (map entry_of) put ∙ put_in cmp law es o s (apart in_key (entry_of (o, s)) (map entry_of es) ordered') ∙ ap (λ x. with_latest x (map entry_of es)) (sym is')

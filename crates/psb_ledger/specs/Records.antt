@@ -1,9 +1,10 @@
 -- The records of changes: which record is a change's, and what a reader of records answers.
-use Rattle.std.specs.Prelude.{◌≡◌, ℕ, Bool, true, false, List, [], Option, unwrap_or, MatchBool}
+use Rattle.std.specs.Prelude.{◌≡◌, ℕ, Bool, true, false, List, [], length, Option, unwrap_or, MatchBool}
+use Rattle.std.specs.List.{list_all}
 use Rattle.psb_model.specs.declared.change.Change.{Change}
 use Rattle.psb_model.specs.declared.change.Change.TheVariants.{Begun, Kept, TookFresh, TookSwap, LetGoBack, Replaced, Settled}
-use Rattle.psb_model.specs.Heads.{head_of, body_of}
-use Rattle.psb_model.specs.Grammar.{in_grammar, fits_widths}
+use Rattle.psb_model.specs.Heads.{head_of, body_of, counted}
+use Rattle.psb_model.specs.Grammar.{in_grammar, fits_widths, is_digest, is_count}
 use Rattle.psb_model.specs.History.{is_built}
 
 -- the kinds that have a body part
@@ -39,6 +40,10 @@ OneChangeEach = (c d : Change) (head : List ℕ) (body : Option (List ℕ))
 -- no change has a record with this head; no change is read from this record
 abbrev pub HasNoChange : List ℕ → Type 0
 HasNoChange head = (c : Change) → is_built c ≡ true → fits_widths c ≡ true → head ≡ head_of c → ⊥
+
+-- the bytes spell no list of names
+abbrev pub HasNoNames : List ℕ → Type 0
+HasNoNames bytes = (names : List (List ℕ)) → list_all is_digest names ≡ true → is_count (length names) ≡ true → bytes ≡ counted (λ name. name) names → ⊥
 
 abbrev pub NoneIsRead : List ℕ → Option (List ℕ) → Type 0
 NoneIsRead head body = (c : Change) → IsRead c head body → ⊥

@@ -4,19 +4,22 @@ use Rattle.std.specs.List.{list_all}
 use Rattle.std.specs.Ordering.{is_lt}
 use Rattle.psb_bytes.specs.Objects.{object_cmp}
 use Rattle.psb_bytes.specs.declared.ids.Object.{Object}
-use Rattle.psb_bytes.specs.declared.ids.Object.TheVariants.{Slot}
+use Rattle.psb_bytes.specs.declared.ids.Object.TheVariants.{Chunk, Slot}
 use Rattle.psb_settings.specs.declared.settings.Settings.{Settings}
 use Rattle.psb_model.specs.declared.entries.InEntry.{InEntry}
 use Rattle.psb_model.specs.declared.entries.OutEntry.{OutEntry}
 use Rattle.psb_model.specs.declared.entries.DebtEntry.{DebtEntry}
+use Rattle.psb_model.specs.declared.entries.OwnEntry.{OwnEntry}
+use Rattle.psb_model.specs.declared.entries.Snapshot.{Snapshot}
+use Rattle.psb_model.specs.declared.entries.SnapMark.{SnapMark}
 use Rattle.psb_model.specs.declared.deals.LastDeal.{LastDeal}
 use Rattle.psb_model.specs.declared.change.Change.{Change}
-use Rattle.psb_model.specs.declared.change.Change.TheVariants.{Begun, TookFresh}
+use Rattle.psb_model.specs.declared.change.Change.TheVariants.{Begun, Kept, Snapped, TookFresh}
 use Rattle.psb_model.specs.Words.{units, occurs, with_one, with_all}
 use Rattle.psb_model.specs.State.{Row, State, blank, is_peer, used, in_key, in_size, out_key, out_size, debt_size}
-use Rattle.psb_model.specs.Conditions.{settings_of_body, capacity}
+use Rattle.psb_model.specs.Conditions.{settings_of_body, capacity, names_ascend}
 use Rattle.psb_model.specs.Effects.{chunk_in, own_slots, took_deal, first_rows}
-use Rattle.psb_model.specs.History.{is_lawful, state}
+use Rattle.psb_model.specs.History.{is_lawful, is_built, state}
 
 -- a peer's row, how many more entries its two lists have room for, and whether what the node answers for
 -- is one block (else it is a tree)
@@ -27,14 +30,23 @@ pub record AccountView : Type 0 where
   pub out_room : ℕ
   pub in_block : Bool
 
--- the ledger: its state, its accounts with their room, the settings that a Begun will bring, and whether
--- the accounts keep blocks
+-- what the node keeps of its own: its chunks in byte order, the kept snapshots by number, and the latest
+-- that was made
+pub record Mine : Type 0 where
+  pub own : List OwnEntry
+  pub kept : List Snapshot
+  pub snapped : Option SnapMark
+
+-- the ledger: its state, its accounts with their room, the settings that a Begun will bring, whether
+-- the accounts keep blocks, and how many more own chunks and snapshots it has room for
 pub record LedgerView : Type 0 where
   pub state : State
   pub accounts : List AccountView
   pub next : Option Settings
   pub next_accounts : List AccountView
   pub in_blocks : Bool
+  pub own_room : ℕ
+  pub kept_room : ℕ
 
 -- a row with these lists and this last deal, and nothing else
 abbrev pub plain_row : List InEntry → List OutEntry → List DebtEntry → LastDeal → Row
@@ -44,9 +56,9 @@ plain_row ins outs debts last = record blank { ins = ins; outs = outs; debts = d
 abbrev pub named_row : AccountView → ℕ × Row
 named_row v = (v.id, v.row)
 
--- a state with these accounts, without own chunks and snapshots
-abbrev pub plain_state : ℕ → Option Settings → List AccountView → ℕ → State
-plain_state changes settings accounts issued = record { changes = changes; settings = settings; rows = map named_row accounts; issued = issued; own = []; kept = []; snapped = None; chosen = [] }
+-- a state with these accounts, these own chunks and these snapshots
+abbrev pub plain_state : ℕ → Option Settings → List AccountView → ℕ → Mine → State
+plain_state changes settings accounts issued mine = record { changes = changes; settings = settings; rows = map named_row accounts; issued = issued; own = mine.own; kept = mine.kept; snapped = mine.snapped; chosen = [] }
 
 -- the row of an account that was looked for
 abbrev pub row_of : Option AccountView → Row
@@ -60,6 +72,10 @@ fresh_row name u first deal change r = took_deal deal change (record r { ins = w
 -- none of the u slots from first on is there
 abbrev pub LacksSlots : ℕ → ℕ → List OutEntry → Type 0
 LacksSlots first u outs = (n : ℕ) → first ≤ n → n < first + u → occurs out_key outs (Slot n) ≡ 0
+
+-- the object of an own chunk, which has the order of its name
+abbrev pub own_key : OwnEntry → Object
+own_key e = Chunk e.name
 
 -- each object comes before all later ones
 abbrev pub in_order : {E : Type 0} → (E → Object) → List E → Bool
@@ -85,6 +101,8 @@ pub record HasBegunRoom (v : LedgerView) (body : Option (List ℕ)) : Type 0 whe
 
 abbrev pub HasRoom : LedgerView → Change → Type 0
 HasRoom v (Begun body) = HasBegunRoom v body
+HasRoom v (Kept name len new body) = 1 ≤ v.own_room
+HasRoom v (Snapped number ticket files folders bytes left names) = 1 ≤ v.kept_room
 HasRoom v (TookFresh p deal name first len new body) = HasFreshRoom v p (units len)
 HasRoom v _ = Unit {0}
 
@@ -103,10 +121,11 @@ abbrev pub AreInForm : Bool → List AccountView → Type 0
 AreInForm in_blocks [] = Unit {0}
 AreInForm in_blocks (v ∷ vs) = (v.in_block ≡ in_blocks) × AreInForm in_blocks vs
 
--- some lawful history gives the state
+-- some lawful history of built kinds gives the state
 pub record IsReached (s : State) : Type 0 where
   pub history : List Change
   pub lawful : is_lawful history ≡ true
+  pub built : list_all is_built history ≡ true
   pub gives : state history ≡ s
 
 -- the sum over all peers is that of the state, which is one that a history gives
@@ -115,8 +134,15 @@ pub record IsSound (total : ℕ) (s : State) : Type 0 where
   pub reached : IsReached s
   pub small : capacity s.settings < 2 ^ 32
 
--- the ledger is sound, and its accounts, also those that a Begun will bring, are in one form
-pub record IsBook (total : ℕ) (in_blocks : Bool) (accounts next_accounts : List AccountView) (s : State) : Type 0 where
+-- the own chunks are in byte order, and the names of each kept snapshot ascend
+pub record IsMine (mine : Mine) : Type 0 where
+  pub own_ordered : in_order own_key mine.own ≡ true
+  pub names_ordered : list_all (λ (k : Snapshot). names_ascend k.names) mine.kept ≡ true
+
+-- the ledger is sound, its accounts, also those that a Begun will bring, are in one form, and what it keeps
+-- of its own is in order
+pub record IsBook (total : ℕ) (in_blocks : Bool) (accounts next_accounts : List AccountView) (mine : Mine) (s : State) : Type 0 where
   pub sound : IsSound total s
+  pub own_part : IsMine mine
   pub forms : AreInForm in_blocks accounts
   pub next_forms : AreInForm in_blocks next_accounts

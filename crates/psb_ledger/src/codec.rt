@@ -6,7 +6,7 @@ mod fields;
 
 pub use decode::{ChangeError, decode_change};
 pub use encode::encode_change;
-pub(crate) use fields::{FreshFields, RefusedFields};
+pub(crate) use fields::{FreshFields, KeptFields, RefusedFields};
 
 #[cfg(test)]
 mod tests;

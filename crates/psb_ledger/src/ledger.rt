@@ -1,18 +1,20 @@
 //! The ledger: the state that a history gives, and what it says of each peer.
 
-ghost use Rattle.std.specs.Prelude.{◌≡◌, ◌+◌, ◌<◌, ◌^◌, ◌&&◌, ◌↔◌, IsTrue, OnOk, OnErr, IsOk, true};
-ghost use Rattle.std.specs.Option.{option_copied};
+ghost use Rattle.std.specs.Prelude.{◌≡◌, ◌==◌, ◌+◌, ◌<◌, ◌^◌, ◌&&◌, ◌↔◌, IsTrue, OnOk, OnErr, IsOk, true};
+ghost use Rattle.std.specs.List.{list_any};
+ghost use Rattle.std.specs.Option.{option_copied, option_map};
 ghost use Rattle.psb_model.specs.Words.{has};
-ghost use Rattle.psb_model.specs.State.{row, used, is_held, in_key, held_units, back_units, debt_units, nothing_yet};
+ghost use Rattle.psb_model.specs.State.{row, used, own_has, is_held, in_key, held_units, back_units, debt_units, nothing_yet};
 ghost use Rattle.psb_model.specs.Grammar.{in_grammar};
 ghost use Rattle.psb_model.specs.Conditions.{allowed};
 ghost use Rattle.psb_model.specs.Effects.{after};
 ghost use Rattle.psb_model.specs.History.{is_built};
 ghost use Rattle.psb_ledger.specs.View.{HasRoom};
+ghost use Rattle.psb_ledger.specs.OwnList.{known_len, next_own};
 
 use crate::book::{Balance, Book, NotNow};
 use psb_bytes::{Digest, Memory, Object, PeerId};
-use psb_model::{Change, DebtEntry, InEntry, LastDeal, OutEntry};
+use psb_model::{Change, DebtEntry, InEntry, LastDeal, OutEntry, OwnEntry, SnapMark, Snapshot};
 use psb_settings::Settings;
 use std::alloc::Global;
 use std::marker::Model;
@@ -161,6 +163,48 @@ impl Ledger {
         self.book.is_held(name)
     }
 
+    /// The kept snapshots, by number.
+    pub fn kept(&self) -> &[Snapshot]
+        ensures { result.now ≡ self.now.state.kept }
+    {
+        self.book.kept()
+    }
+
+    /// Whether a kept snapshot has the number.
+    pub fn has_snapshot(&self, number: u32) -> bool
+        ensures { result ≡ list_any (λ k. k.number == number) self.now.state.kept }
+    {
+        self.book.has_snapshot(number)
+    }
+
+    /// The latest snapshot that was made, and its change.
+    pub fn snapped(&self) -> Option<SnapMark>
+        ensures { result ≡ self.now.state.snapped }
+    {
+        self.book.snapped()
+    }
+
+    /// Whether the name is that of an own chunk.
+    pub fn has_own(&self, name: &Digest) -> bool
+        ensures { result ≡ own_has self.now.state.own name.now }
+    {
+        self.book.has_own(name)
+    }
+
+    /// The length of the own chunk of this name, in bytes, None exactly where there is none.
+    pub fn own_len(&self, name: &Digest) -> Option<u32>
+        ensures { result ≡ known_len self.now.state.own name.now }
+    {
+        self.book.own_len(name)
+    }
+
+    /// The first own chunk in the order of names, or the first behind the name.
+    pub fn own_after(&self, name: Option<&Digest>) -> Option<OwnEntry>
+        ensures { result ≡ next_own (option_map (λ n. n.now) name.entry) self.now.state.own }
+    {
+        self.book.own_after(name)
+    }
+
     /// Takes all memory that `apply` of an equal change needs. For a Begun it reads the settings
     /// text, and keeps what it says, or that it is none.
     pub fn make_room(&mut self, c: &Change) -> Result<(), Memory>
@@ -172,12 +216,12 @@ impl Ledger {
 
     /// Applies a change. NotNow comes exactly where its kind is not built or its condition does not
     /// hold, and then nothing changes. Takes no memory.
-    pub fn apply(&mut self, c: &Change) -> Result<(), NotNow>
-        requires grammar { IsTrue (in_grammar c.now) }
-        requires room { HasRoom self.old c.now }
+    pub fn apply(&mut self, c: Change) -> Result<(), NotNow>
+        requires grammar { IsTrue (in_grammar c) }
+        requires room { HasRoom self.old c }
         requires few { self.old.state.changes < 2 ^ 62 }
-        ensures when { IsTrue (is_built c.now && allowed self.old.state c.now) ↔ IsOk result }
-        ensures ok { OnOk result (self.new.state ≡ after self.old.state c.now) }
+        ensures when { IsTrue (is_built c && allowed self.old.state c) ↔ IsOk result }
+        ensures ok { OnOk result (self.new.state ≡ after self.old.state c) }
         ensures err { OnErr result (self.new ≡ self.old) }
     {
         self.book.apply(c)

@@ -10,6 +10,8 @@ mod in_tree;
 mod laws;
 mod ledger;
 mod opening;
+mod own;
+mod snapshots;
 
 pub use book::{Balance, NotNow};
 pub use codec::{ChangeError, decode_change, encode_change};

@@ -1,17 +1,19 @@
 //! A ledger that is being read up from a history.
 
 ghost use Rattle.std.specs.Prelude.{◌≡◌, ◌<◌, ◌^◌, ◌&&◌, ◌↔◌, IsTrue, OnOk, OnErr, IsOk, IfOk, false};
+ghost use Rattle.std.specs.Option.{option_map};
 ghost use Rattle.psb_model.specs.State.{nothing_yet};
 ghost use Rattle.psb_model.specs.Grammar.{in_grammar};
 ghost use Rattle.psb_model.specs.Conditions.{allowed};
 ghost use Rattle.psb_model.specs.Effects.{after};
 ghost use Rattle.psb_model.specs.History.{is_built};
 ghost use Rattle.psb_ledger.specs.View.{HasRoom};
+ghost use Rattle.psb_ledger.specs.OwnList.{next_own};
 
 use crate::book::{Book, NotNow};
 use crate::ledger::Ledger;
-use psb_bytes::Memory;
-use psb_model::Change;
+use psb_bytes::{Digest, Memory};
+use psb_model::{Change, OwnEntry, Snapshot};
 use std::alloc::Global;
 use std::marker::Model;
 
@@ -47,6 +49,20 @@ impl Opening {
         self.book.changes()
     }
 
+    /// The kept snapshots, by number.
+    pub fn kept(&self) -> &[Snapshot]
+        ensures { result.now ≡ self.now.state.kept }
+    {
+        self.book.kept()
+    }
+
+    /// As `Ledger::own_after`.
+    pub fn own_after(&self, name: Option<&Digest>) -> Option<OwnEntry>
+        ensures { result ≡ next_own (option_map (λ n. n.now) name.entry) self.now.state.own }
+    {
+        self.book.own_after(name)
+    }
+
     /// As `Ledger::make_room`.
     pub fn make_room(&mut self, c: &Change) -> Result<(), Memory>
         ensures state { self.new.state ≡ self.old.state }
@@ -56,12 +72,12 @@ impl Opening {
     }
 
     /// As `Ledger::apply`.
-    pub fn apply(&mut self, c: &Change) -> Result<(), NotNow>
-        requires grammar { IsTrue (in_grammar c.now) }
-        requires room { HasRoom self.old c.now }
+    pub fn apply(&mut self, c: Change) -> Result<(), NotNow>
+        requires grammar { IsTrue (in_grammar c) }
+        requires room { HasRoom self.old c }
         requires few { self.old.state.changes < 2 ^ 62 }
-        ensures when { IsTrue (is_built c.now && allowed self.old.state c.now) ↔ IsOk result }
-        ensures ok { OnOk result (self.new.state ≡ after self.old.state c.now) }
+        ensures when { IsTrue (is_built c && allowed self.old.state c) ↔ IsOk result }
+        ensures ok { OnOk result (self.new.state ≡ after self.old.state c) }
         ensures err { OnErr result (self.new ≡ self.old) }
     {
         self.book.apply(c)

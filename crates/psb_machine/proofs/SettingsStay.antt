@@ -1,7 +1,7 @@
 -- The settings stay what they are while inputs come.
-use Rattle.std.proofs.Common.{◌≡◌, ℕ, List, [], ◌∷◌, Option, Some, None, Result, Ok, Err, refl, ◌∙◌, ap}
+use Rattle.std.proofs.Common.{◌≡◌, ◌||◌, ℕ, List, [], ◌∷◌, Option, Some, None, Result, Ok, Err, refl, ◌∙◌, ap}
 use Rattle.psb_settings.specs.declared.settings.Settings.{Settings}
-use Rattle.psb_model.specs.State.{State, nothing_yet, row}
+use Rattle.psb_model.specs.State.{State, nothing_yet, row, own_has}
 use Rattle.psb_model.specs.Effects.{after}
 use Rattle.psb_model.specs.History.{state, state_from}
 use Rattle.psb_model.proofs.Prefixes.{state_app}
@@ -10,7 +10,8 @@ use Rattle.wire_codec.specs.declared.frame.Dropped.{Dropped}
 use Rattle.wire_codec.specs.declared.frame.Frame.{Frame}
 use Rattle.psb_machine.specs.Deals.{standing, first_that_holds, judged, meets_others, Deal, StoreFresh, deal_of, judged_at}
 use Rattle.psb_machine.specs.Stores.{store_reasons, took_fresh}
-use Rattle.psb_machine.specs.Machine.{Situation, Input, Datagram, Tick, Keep, Snap, Forget, Reaction, changes_of, keys_of, quiet, by_standing, on_deal, on_frame, on_keyed, on_read, on_datagram, react, next}
+use Rattle.psb_machine.specs.Machine.{Situation, Input, Datagram, Tick, Keep, Snap, Forget, Reaction, changes_of, keys_of, quiet, by_standing, on_deal, on_frame, on_keyed, on_read, on_datagram, react, next, has_snapshot}
+use Rattle.psb_model.proofs.ByObject.{by_cases}
 use Rattle.psb_machine.specs.declared.deals.Standing.{Standing}
 use Rattle.psb_machine.specs.declared.deals.Standing.TheVariants.{Fresh, Repeat, Stale, Gap}
 use Rattle.psb_machine.specs.declared.deals.Refusal.{Refusal}
@@ -53,9 +54,9 @@ datagram_stays (Some settings) n x = read_stays settings n (read_frame settings.
 react_stays : (n : Situation) (i : Input) → Stays (state n.history) (react n i)
 react_stays n (Datagram x) = datagram_stays (state n.history).settings n x
 react_stays n (Tick p) = refl
-react_stays n (Keep name bytes) = refl
+react_stays n (Keep name bytes) = by_cases (own_has (state n.history).own name || meets_others n.history name bytes) (λ k. rw k refl) (λ k. rw k refl)
 react_stays n (Snap note) = refl
-react_stays n (Forget number) = refl
+react_stays n (Forget number) = by_cases (has_snapshot (state n.history) number) (λ k. rw k refl) (λ k. rw k refl)
 
 next_stays : (n : Situation) (i : Input) → (state (next n i).history).settings ≡ (state n.history).settings
 next_stays n i =

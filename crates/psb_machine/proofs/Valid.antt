@@ -1,5 +1,5 @@
 -- What the machine makes of a valid history is valid.
-use Rattle.std.proofs.Common.{◌≡◌, ℕ, ◌+◌, ◌≤◌, ◌^◌, Bool, true, false, not, ◌&&◌, ◌==◌, nat_le, nat_lt, cond, sum_by, List, [], ◌∷◌, ◌++◌, length, Option, Some, None, Result, Ok, Err, refl, sym, ap, subst, arith}
+use Rattle.std.proofs.Common.{◌≡◌, ℕ, ◌+◌, ◌≤◌, ◌^◌, Bool, true, false, not, ◌&&◌, ◌==◌, nat_le, nat_lt, cond, ◌||◌, ◌<◌, sum_by, List, [], ◌∷◌, ◌++◌, length, Option, Some, None, Result, Ok, Err, refl, sym, ap, subst, arith}
 use Rattle.std.specs.List.{list_all}
 use Rattle.std.proofs.lemmas.Bool.{and_parts, leb-true, lt-ltb, ltb-false, eq-eqb, le-leb}
 use Rattle.std.proofs.lemmas.List.{append-nil}
@@ -8,14 +8,14 @@ use Rattle.psb_bytes.specs.Objects.{name_eq}
 use Rattle.psb_bytes.specs.declared.ids.Object.TheVariants.{Chunk}
 use Rattle.psb_digest.specs.Hashes.{sha}
 use Rattle.psb_settings.specs.declared.settings.Settings.{Settings}
-use Rattle.psb_model.specs.State.{State, row, in_key, debt_size, debt_units, is_held, is_peer, used}
+use Rattle.psb_model.specs.State.{State, row, in_key, debt_size, debt_units, is_held, is_peer, used, own_has, snaps_made}
 use Rattle.psb_model.specs.Words.{has}
-use Rattle.psb_model.specs.Grammar.{fits_widths, in_grammar, is_u8, is_u32, is_u64, are_bytes, body_fits}
+use Rattle.psb_model.specs.Grammar.{fits_widths, in_grammar, is_u8, is_u32, is_u64, is_count, are_bytes, body_fits}
 use Rattle.psb_model.specs.Conditions.{most_claims, is_next_deal, capacity, allowed}
 use Rattle.psb_model.specs.History.{state}
 use Rattle.psb_model.specs.Needed.{brings_right, IsValid}
 use Rattle.psb_model.specs.declared.change.Change.{Change}
-use Rattle.psb_model.specs.declared.change.Change.TheVariants.{TookFresh, Refused}
+use Rattle.psb_model.specs.declared.change.Change.TheVariants.{Kept, Forgot, TookFresh, Refused}
 use Rattle.psb_model.proofs.Prefixes.{changes_counted}
 use Rattle.psb_model.proofs.Built.{valid_snoc, plain_state, plain_row, used_plain}
 use Rattle.wire_codec.specs.Fields.{within, is_digest as is_wire_digest, are_slots, is_text, are_bytes as are_wire_bytes}
@@ -23,13 +23,16 @@ use Rattle.wire_codec.specs.Frames.{Incoming, read_frame, key_in, fits as frame_
 use Rattle.wire_codec.specs.declared.frame.Dropped.{Dropped}
 use Rattle.wire_codec.specs.declared.frame.Frame.{Frame}
 use Rattle.wire_codec.specs.declared.frame.Frame.TheVariants.{Store}
+use Rattle.psb_machine.specs.Laws.{KeepFits, SnapFits}
+use Rattle.psb_model.proofs.ByObject.{by_cases}
 use Rattle.psb_machine.specs.Deals.{standing, code_of, first_that_holds, judged, Deal, StoreFresh, judged_at, meets_others}
-use Rattle.psb_machine.specs.Machine.{Situation, changes_of, keys_of, by_standing, on_deal, on_frame, on_read, on_keyed, on_datagram}
+use Rattle.psb_machine.specs.Machine.{Situation, changes_of, kept_with, snapped_with, has_snapshot, on_keep, on_snap, on_forget, keys_of, by_standing, on_deal, on_frame, on_read, on_keyed, on_datagram}
 use Rattle.psb_machine.specs.declared.deals.Standing.{Standing}
 use Rattle.psb_machine.specs.declared.deals.Standing.TheVariants.{Fresh, Repeat, Stale, Gap}
 use Rattle.psb_machine.specs.declared.deals.Reason.{Reason}
 use Rattle.psb_machine.specs.declared.deals.Reason.TheVariants.{Busy, BadName, Already, Clash, NotThere, Unequal, Indebted, Full, Spent}
 use Rattle.psb_machine.specs.declared.deals.Refusal.{Refusal}
+use Rattle.psb_machine.specs.declared.snap_note.SnapNote.{SnapNote}
 use Rattle.psb_machine.specs.Stores.{StoreFits, DealFits, store_reasons, took_fresh, judged_store, judged_with}
 use Rattle.psb_machine.proofs.Standings.{fresh_is_next, none_holds, detail_fits, first_fits}
 use Rattle.psb_machine.proofs.Lasts.{drawn}
@@ -221,3 +224,68 @@ pub datagram_valid : (n : Situation) (x : List ℕ) (o : Option Settings) → o 
     → ((own : ℕ) (keys : List (ℕ × List ℕ)) (i : Incoming) → read_frame own keys x ≡ Ok i → FrameFits i.from i.number i.frame) → IsValid (n.history ++ changes_of (on_datagram o n x))
 datagram_valid n x None is v f = unchanged n.history v
 datagram_valid n x (Some settings) is v f = read_valid settings n (read_frame settings.id (keys_of settings) x) v (sym is) (λ i e. f settings.id (keys_of settings) i e)
+
+-- ---- the node's own chunks and snapshots
+
+begun_here : (h : List Change) → 1 ≤ length h → nat_lt 0 (state h).changes ≡ true
+begun_here h some = lt-ltb 0 (state h).changes (omega (arith, changes_counted h, some))
+
+brings_kept : (name bytes : List ℕ) (held : Bool) → name_eq (sha bytes) name ≡ true → brings_right (Kept name (length bytes) (not held) (Some (cond (not held) bytes []))) ≡ true
+brings_kept name bytes true h = refl
+brings_kept name bytes false h = h
+
+either_none : (a b : Bool) → (a || b) ≡ false → a ≡ false
+either_none true b h = h
+either_none false b h = refl
+
+pub kept_may : (h : List Change) (name bytes : List ℕ) → 1 ≤ length h → KeepFits name bytes → own_has (state h).own name ≡ false → (in_grammar (kept_with (state h) name bytes) ≡ true) × (allowed (state h) (kept_with (state h) name bytes) ≡ true)
+kept_may h name bytes some f lacks =
+    let s = state h in
+    let free : not (own_has s.own name) ≡ true = ap not lacks in (
+      rw (le-leb 1 (length bytes) f.long, le-leb (length bytes) 32768 f.short, body_in_grammar (is_held s name) bytes) refl,
+      rw (begun_here h some, free, flag_same (is_held s name)) refl,
+    )
+
+pub kept_valid : (h : List Change) (name bytes : List ℕ) → IsValid h → KeepFits name bytes → own_has (state h).own name ≡ false → IsValid (h ++ kept_with (state h) name bytes ∷ [])
+kept_valid h name bytes v f lacks =
+    let s = state h in
+    let len : is_u32 (length bytes) ≡ true = lt-ltb (length bytes) (2 ^ 32) (omega (arith, f.short)) in
+    let may = kept_may h name bytes v.some f lacks in
+    valid_snoc h (kept_with s name bytes) v
+    may.0
+    may.1
+    (rw (f.name_fits, len, body_of_bytes (is_held s name) bytes f.bytes_fit) refl)
+    refl
+    (brings_kept name bytes (is_held s name) f.named)
+
+pub keep_valid : (n : Situation) (name bytes : List ℕ) → IsValid n.history → KeepFits name bytes → IsValid (n.history ++ changes_of (on_keep n name bytes))
+keep_valid n name bytes v f = by_cases (own_has (state n.history).own name || meets_others n.history name bytes)
+    (λ k. rw k (unchanged n.history v))
+    (λ k. rw k (kept_valid n.history name bytes v f (either_none (own_has (state n.history).own name) (meets_others n.history name bytes) k)))
+
+pub snapped_may : (h : List Change) (note : SnapNote) → 1 ≤ length h → SnapFits (state h) note → (in_grammar (snapped_with (state h) note) ≡ true) × (allowed (state h) (snapped_with (state h) note) ≡ true)
+snapped_may h note some f =
+    let s = state h in
+    let count : is_count (length note.names) ≡ true = lt-ltb (length note.names) (2 ^ 32) (omega (arith, f.most)) in
+    let same : (snaps_made s + 1 == snaps_made s + 1) ≡ true = eq-eqb (snaps_made s + 1) (snaps_made s + 1) refl in (
+      rw (f.ticket, count) refl,
+      rw (begun_here h some, same, f.ascend, f.own) refl,
+    )
+
+pub snap_valid : (n : Situation) (note : SnapNote) → IsValid n.history → SnapFits (state n.history) note → IsValid (n.history ++ changes_of (on_snap n note))
+snap_valid n note v f =
+    let s = state n.history in
+    let number : is_u32 (snaps_made s + 1) ≡ true = lt-ltb (snaps_made s + 1) (2 ^ 32) (omega (arith, f.more)) in
+    let may = snapped_may n.history note v.some f in
+    valid_snoc n.history (snapped_with s note) v may.0 may.1 (rw number f.widths) refl refl
+
+pub forgot_may : (h : List Change) (number : ℕ) → 1 ≤ length h → has_snapshot (state h) number ≡ true → allowed (state h) (Forgot number) ≡ true
+forgot_may h number some k = rw (begun_here h some, k) refl
+
+pub forgot_valid : (h : List Change) (number : ℕ) → IsValid h → is_u32 number ≡ true → has_snapshot (state h) number ≡ true → IsValid (h ++ Forgot number ∷ [])
+forgot_valid h number v fit k = valid_snoc h (Forgot number) v refl (forgot_may h number v.some k) fit refl refl
+
+pub forget_valid : (n : Situation) (number : ℕ) → IsValid n.history → is_u32 number ≡ true → IsValid (n.history ++ changes_of (on_forget n number))
+forget_valid n number v fit = by_cases (has_snapshot (state n.history) number)
+    (λ k. rw k (forgot_valid n.history number v fit k))
+    (λ k. rw k (unchanged n.history v))

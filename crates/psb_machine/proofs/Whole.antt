@@ -1,10 +1,10 @@
 -- The laws of the machine.
-use Rattle.std.proofs.Common.{◌≡◌, ℕ, ◌≤◌, ◌^◌, true, slice_get, option_map, is_some, List, [], length, Option, Some, None, Result, Ok, Err, refl, arith}
+use Rattle.std.proofs.Common.{◌≡◌, ℕ, ◌≤◌, ◌^◌, ◌||◌, true, slice_get, option_map, is_some, List, [], length, Option, Some, None, Result, Ok, Err, refl, arith}
 use Rattle.std.proofs.lemmas.Bool.{lt-ltb}
 use Rattle.std.proofs.lemmas.List.{append-nil}
 use Rattle.psb_bytes.specs.Numbers.{AreBytes}
 use Rattle.psb_settings.specs.declared.settings.Settings.{Settings}
-use Rattle.psb_model.specs.State.{row}
+use Rattle.psb_model.specs.State.{row, own_has}
 use Rattle.psb_model.specs.History.{state}
 use Rattle.psb_model.specs.declared.change.Change.{Change}
 use Rattle.wire_codec.specs.Frames.{Incoming, read_frame, key_in}
@@ -13,11 +13,14 @@ use Rattle.wire_codec.specs.declared.frame.Frame.{Frame}
 use Rattle.wire_codec.proofs.FrameLaws.{takes}
 use Rattle.psb_machine.specs.Deals.{standing, Deal, deal_of, judged_at}
 use Rattle.psb_machine.specs.Replies.{reply}
-use Rattle.psb_machine.specs.Machine.{Situation, Volatile, Input, Datagram, Tick, Keep, Snap, Forget, Reaction, quiet, tells_again, settled, ticked, react, keys_of, by_standing, on_deal, on_frame, on_keyed, on_read, on_datagram}
+use Rattle.psb_machine.specs.Machine.{Situation, Volatile, Input, Datagram, Tick, Keep, Snap, Forget, Reaction, quiet, grows, kept_with, snapped_with, has_snapshot, tells_again, settled, ticked, react, keys_of, by_standing, on_deal, on_frame, on_keyed, on_read, on_datagram}
 use Rattle.psb_machine.specs.declared.deals.Standing.{Standing}
 use Rattle.psb_machine.specs.declared.deals.Standing.TheVariants.{Fresh, Repeat, Stale, Gap}
 use Rattle.psb_machine.specs.Laws.{KeepsValid, AllTellLittle}
-use Rattle.psb_machine.proofs.Valid.{FrameFits, unchanged, datagram_valid}
+use Rattle.psb_machine.proofs.Valid.{FrameFits, unchanged, datagram_valid, keep_valid, snap_valid, forget_valid}
+use Rattle.psb_model.proofs.ByObject.{by_cases}
+use Rattle.psb_machine.specs.Deals.{meets_others}
+use Rattle.psb_model.specs.declared.change.Change.TheVariants.{Forgot}
 
 pub frame_read_fits : (own : ℕ) (keys : List (ℕ × List ℕ)) (x : List ℕ) (i : Incoming) → AreBytes x → read_frame own keys x ≡ Ok i → FrameFits i.from i.number i.frame
 frame_read_fits own keys x i bytes read =
@@ -31,9 +34,9 @@ frame_read_fits own keys x i bytes read =
 pub keeps_valid : KeepsValid
 keeps_valid n (Datagram x) v bytes = datagram_valid n x (state n.history).settings refl v (λ own keys i read. frame_read_fits own keys x i bytes read)
 keeps_valid n (Tick p) v fit = unchanged n.history v
-keeps_valid n (Keep name bytes) v fit = unchanged n.history v
-keeps_valid n (Snap note) v fit = unchanged n.history v
-keeps_valid n (Forget number) v fit = unchanged n.history v
+keeps_valid n (Keep name bytes) v fit = keep_valid n name bytes v fit
+keeps_valid n (Snap note) v fit = snap_valid n note v fit
+keeps_valid n (Forget number) v fit = forget_valid n number v fit
 
 -- a reaction with few letters, and with nothing at all where the datagram is dropped
 record Little (n : Situation) (r : Reaction) : Type 0 where
@@ -46,6 +49,9 @@ nothing_grown n = λ j. record { history = append-nil n.history j; volatile = n.
 
 quiet_little : (n : Situation) (v : Volatile) → Little n (quiet v)
 quiet_little n v = record { most = omega arith; letters = λ is. refl; same = λ is. absurd (cc) }
+
+grows_little : (n : Situation) (c : Change) (v : Volatile) → Little n (grows c v)
+grows_little n c v = record { most = omega arith; letters = λ is. refl; same = λ is. absurd (cc) }
 
 deal_little : (how : Standing) (settings : Settings) (n : Situation) (p number : ℕ) (key : List ℕ) (c : Change) → Little n (by_standing how settings n p number key c)
 deal_little Fresh settings n p number key c = record { most = omega arith; letters = λ is. absurd (cc); same = λ is. absurd (cc) }
@@ -79,9 +85,13 @@ datagram_little (Some settings) n x = read_little settings n (read_frame setting
 little : (n : Situation) (x : Input) → Little n (react n x)
 little n (Datagram x) = datagram_little (state n.history).settings n x
 little n (Tick p) = quiet_little n (ticked p n.volatile)
-little n (Keep name bytes) = quiet_little n n.volatile
-little n (Snap note) = quiet_little n n.volatile
-little n (Forget number) = quiet_little n n.volatile
+little n (Keep name bytes) = by_cases (own_has (state n.history).own name || meets_others n.history name bytes)
+    (λ k. rw k (quiet_little n n.volatile))
+    (λ k. rw k (grows_little n (kept_with (state n.history) name bytes) n.volatile))
+little n (Snap note) = grows_little n (snapped_with (state n.history) note) n.volatile
+little n (Forget number) = by_cases (has_snapshot (state n.history) number)
+    (λ k. rw k (grows_little n (Forgot number) n.volatile))
+    (λ k. rw k (quiet_little n n.volatile))
 
 pub tells_little : AllTellLittle
 tells_little n x = let o = little n x in record { most = o.most; dropped = λ is. record { letters = o.letters is; same = o.same is } }

@@ -1,20 +1,51 @@
 -- The laws of the machine, for each history and each input.
-use Rattle.std.specs.Prelude.{◌≡◌, ◌≤◌, true, [], length, is_some}
+use Rattle.std.specs.Prelude.{◌≡◌, ℕ, ◌≤◌, ◌<◌, ◌&&◌, true, List, [], length, is_some}
+use Rattle.std.specs.List.{list_all}
 use Rattle.psb_bytes.specs.Numbers.{AreBytes}
+use Rattle.psb_bytes.specs.Objects.{name_eq}
+use Rattle.psb_bytes.specs.Units.{longest_chunk}
+use Rattle.psb_digest.specs.Hashes.{sha}
+use Rattle.psb_model.specs.State.{State, own_has, snaps_made}
+use Rattle.psb_model.specs.Conditions.{names_ascend}
+use Rattle.psb_model.specs.Grammar.{is_u8, is_u32, is_u64, is_digest, is_ticket, ticket_fits}
+use Rattle.psb_model.specs.History.{state}
 use Rattle.psb_model.specs.Needed.{IsValid}
 use Rattle.psb_machine.specs.Machine.{Situation, Input, Datagram, Tick, Keep, Snap, Forget, react, next}
+use Rattle.psb_machine.specs.declared.snap_note.SnapNote.{SnapNote}
+
+-- sealed bytes as they are kept: under the name that is their SHA-256
+pub record KeepFits (name bytes : List ℕ) : Type 0 where
+  pub named : name_eq (sha bytes) name ≡ true
+  pub name_fits : is_digest name ≡ true
+  pub long : 1 ≤ length bytes
+  pub short : length bytes ≤ longest_chunk
+  pub bytes_fit : list_all is_u8 bytes ≡ true
+
+-- how many names a snapshot may list
+abbrev pub most_names : ℕ
+most_names = 1048576
+
+-- a snapshot that may be noted: its names ascend, the node has each for itself, and they are not too many;
+-- its ticket can be read; and there is a number left
+pub record SnapFits (s : State) (note : SnapNote) : Type 0 where
+  pub ascend : names_ascend note.names ≡ true
+  pub own : list_all (own_has s.own) note.names ≡ true
+  pub most : length note.names ≤ most_names
+  pub ticket : is_ticket note.ticket ≡ true
+  pub more : snaps_made s < 4294967295
+  pub widths : (ticket_fits note.ticket && is_u32 note.files && is_u32 note.folders && is_u64 note.bytes && is_u32 note.left && list_all is_digest note.names) ≡ true
 
 -- what an input has to be
-abbrev pub Fits : Input → Type 0
-Fits (Datagram x) = AreBytes x
-Fits (Tick p) = Unit {0}
-Fits (Keep name bytes) = AreBytes name × AreBytes bytes
-Fits (Snap note) = Unit {0}
-Fits (Forget number) = Unit {0}
+abbrev pub Fits : Situation → Input → Type 0
+Fits n (Datagram x) = AreBytes x
+Fits n (Tick p) = Unit {0}
+Fits n (Keep name bytes) = KeepFits name bytes
+Fits n (Snap note) = SnapFits (state n.history) note
+Fits n (Forget number) = is_u32 number ≡ true
 
 -- what is made of a valid history is valid
 abbrev pub KeepsValid : Type 0
-KeepsValid = (n : Situation) (x : Input) → IsValid n.history → Fits x → IsValid (next n x).history
+KeepsValid = (n : Situation) (x : Input) → IsValid n.history → Fits n x → IsValid (next n x).history
 
 -- There are at most two letters. A datagram that is dropped gives none, makes no change and leaves what
 -- a restart forgets.

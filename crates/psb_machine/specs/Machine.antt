@@ -1,20 +1,22 @@
 -- The machine: what a node makes of an input, by its history and by what a restart forgets.
 -- It is a function of the whole history; a node computes the same from the state that it keeps.
-use Rattle.std.specs.Prelude.{ℕ, ◌+◌, ◌^◌, ◌==◌, if◌then◌else◌, min, List, [], ◌∷◌, ◌++◌, map, slice_get, option_map, option_to_list, Option, Some, None, Result, Ok, Err}
-use Rattle.psb_bytes.specs.declared.ids.Ticket.{Ticket}
+use Rattle.std.specs.Prelude.{ℕ, ◌+◌, ◌^◌, Bool, not, ◌||◌, ◌==◌, if◌then◌else◌, min, List, [], ◌∷◌, ◌++◌, length, map, slice_get, option_map, option_to_list, Option, Some, None, Result, Ok, Err}
+use Rattle.std.specs.List.{list_any}
 use Rattle.psb_settings.specs.declared.settings.PeerRow.{PeerRow}
 use Rattle.psb_settings.specs.declared.settings.Settings.{Settings}
-use Rattle.psb_model.specs.State.{State, row}
+use Rattle.psb_model.specs.declared.entries.Snapshot.{Snapshot}
+use Rattle.psb_model.specs.State.{State, row, own_has, is_held, snaps_made}
 use Rattle.psb_model.specs.History.{state}
 use Rattle.psb_model.specs.declared.change.Change.{Change}
-use Rattle.psb_model.specs.declared.change.Change.TheVariants.{Snapped, Forgot}
+use Rattle.psb_model.specs.declared.change.Change.TheVariants.{Kept, Snapped, Forgot}
 use Rattle.wire_codec.specs.Frames.{Incoming, read_frame, key_in}
 use Rattle.wire_codec.specs.declared.frame.Dropped.{Dropped}
 use Rattle.wire_codec.specs.declared.frame.Frame.{Frame}
-use Rattle.psb_machine.specs.Deals.{standing, Deal, deal_of, judged_at}
+use Rattle.psb_machine.specs.Deals.{standing, Deal, deal_of, judged_at, meets_others}
 use Rattle.psb_machine.specs.Replies.{reply}
 use Rattle.psb_machine.specs.declared.deals.Standing.{Standing}
 use Rattle.psb_machine.specs.declared.deals.Standing.TheVariants.{Fresh, Repeat, Stale, Gap}
+use Rattle.psb_machine.specs.declared.snap_note.SnapNote.{SnapNote}
 
 -- What a restart forgets. So far these are the clocks of the peers, each the ticks of that peer that
 -- were absorbed, and of which peers a sample is kept.
@@ -61,15 +63,6 @@ pub record Situation : Type 0 where
 abbrev pub fresh : List Change → Situation
 fresh h = record { history = h; volatile = empty }
 
--- what a snapshot is noted with
-pub record SnapNote : Type 0 where
-  pub ticket : Ticket
-  pub files : ℕ
-  pub folders : ℕ
-  pub bytes : ℕ
-  pub left : ℕ
-  pub names : List (List ℕ)
-
 -- What a node is given: a datagram, a tick of a peer, sealed bytes under their name, the note of a
 -- snapshot, or the number of one to forget.
 pub data Input : Type 0 where
@@ -99,6 +92,10 @@ drops why v = record { grown = None; letters = []; volatile = v; dropped = Some 
 -- a change is made, and the letter tells of it
 abbrev pub makes : Change → ℕ × List ℕ → Volatile → Reaction
 makes c letter v = record { grown = Some c; letters = letter ∷ []; volatile = v; dropped = None }
+
+-- a change is made, of which no letter tells
+abbrev pub grows : Change → Volatile → Reaction
+grows c v = record { grown = Some c; letters = []; volatile = v; dropped = None }
 
 -- a change that was made before is told of again
 abbrev pub tells_again : Option (ℕ × List ℕ) → Volatile → Reaction
@@ -146,13 +143,41 @@ abbrev pub on_datagram : Option Settings → Situation → List ℕ → Reaction
 on_datagram None n x = quiet n.volatile
 on_datagram (Some settings) n x = on_read settings n (read_frame settings.id (keys_of settings) x)
 
--- So far nothing comes of a tick but that the peer's clock goes on, and nothing of what commands ask.
+-- ---- the node's own chunks and snapshots
+
+-- the change that keeps sealed bytes under their name: its body part carries them where none are held
+abbrev pub kept_with : State → List ℕ → List ℕ → Change
+kept_with s name bytes = let new = not (is_held s name) in Kept name (length bytes) new (Some (if new then bytes else []))
+
+-- the change that a snapshot is
+abbrev pub snapped_with : State → SnapNote → Change
+snapped_with s note = Snapped (snaps_made s + 1) note.ticket note.files note.folders note.bytes note.left note.names
+
+-- a kept snapshot has the number
+abbrev pub has_snapshot : State → ℕ → Bool
+has_snapshot s number = list_any (λ (k : Snapshot). k.number == number) s.kept
+
+-- Sealed bytes that the node has for itself already change nothing. Where other bytes are held under their
+-- name they are refused.
+abbrev pub on_keep : Situation → List ℕ → List ℕ → Reaction
+on_keep n name bytes =
+    if own_has (state n.history).own name || meets_others n.history name bytes then quiet n.volatile
+    else grows (kept_with (state n.history) name bytes) n.volatile
+
+abbrev pub on_snap : Situation → SnapNote → Reaction
+on_snap n note = grows (snapped_with (state n.history) note) n.volatile
+
+-- a number that no kept snapshot has is refused
+abbrev pub on_forget : Situation → ℕ → Reaction
+on_forget n number = if has_snapshot (state n.history) number then grows (Forgot number) n.volatile else quiet n.volatile
+
+-- So far nothing comes of a tick but that the peer's clock goes on.
 abbrev pub react : Situation → Input → Reaction
 react n (Datagram x) = on_datagram (state n.history).settings n x
 react n (Tick p) = quiet (ticked p n.volatile)
-react n (Keep name bytes) = quiet n.volatile
-react n (Snap note) = quiet n.volatile
-react n (Forget number) = quiet n.volatile
+react n (Keep name bytes) = on_keep n name bytes
+react n (Snap note) = on_snap n note
+react n (Forget number) = on_forget n number
 
 -- The node after a reaction. What a change does to what a restart forgets is said here alone.
 abbrev pub settled : Situation → Reaction → Situation

@@ -1,7 +1,10 @@
--- The histories of the kinds that the program has: what they leave empty, and which bodies they need.
-use Rattle.std.proofs.Common.{◌≡◌, ℕ, suc, ◌+◌, ◌≤◌, Bool, true, false, not, ◌&&◌, ◌||◌, cond, List, [], ◌∷◌, ◌++◌, length, sum_by, Option, Some, None, refl, sym, ap, ◌∙◌, subst, arith}
+-- The histories of the kinds that the program has: what they leave empty, what they hold, and which bodies
+-- they need.
+use Rattle.std.proofs.Common.{◌≡◌, ℕ, suc, ◌+◌, ◌≤◌, Bool, true, false, not, ◌&&◌, ◌||◌, cond, List, [], ◌∷◌, ◌++◌, length, sum_by, filter, Option, Some, None, refl, sym, ap, ◌∙◌, subst, arith}
 use Rattle.std.specs.Prelude.{◌==◌, nat_lt, take}
 use Rattle.std.specs.List.{list_any, list_all}
+use Rattle.std.specs.Ordering.{is_lt, nat_cmp}
+use Rattle.std.specs.Cmp.Lexicographic.{slice_cmp}
 use Rattle.std.proofs.lemmas.Bool.{false≢true, eqb-true, ltb-true, and_parts}
 use Rattle.std.proofs.lemmas.List.{length-append}
 use Rattle.std.proofs.lemmas.List.Sums.{sum_by-cons}
@@ -11,20 +14,25 @@ use Rattle.psb_settings.specs.declared.settings.Settings.{Settings}
 use Rattle.psb_settings.specs.declared.settings.PeerRow.{PeerRow}
 use Rattle.psb_settings.specs.Settings.{settings_of}
 use Rattle.psb_model.specs.declared.entries.InEntry.{InEntry}
+use Rattle.psb_model.specs.declared.entries.OutEntry.{OutEntry}
+use Rattle.psb_model.specs.declared.entries.OwnEntry.{OwnEntry}
+use Rattle.psb_model.specs.declared.entries.DebtEntry.{DebtEntry}
+use Rattle.psb_model.specs.declared.entries.Snapshot.{Snapshot}
 use Rattle.psb_model.specs.declared.change.Change.{Change}
-use Rattle.psb_model.specs.declared.change.Change.TheVariants.{Begun, TookFresh, Refused}
-use Rattle.psb_model.specs.Words.{units, name_eq, object_eq, all_of, has, only, without}
-use Rattle.psb_model.specs.State.{Row, State, blank, nothing_yet, row, row_in, has_row, is_peer, at_row, in_key, in_size, held_units, own_has, is_held, coming, used}
+use Rattle.psb_model.specs.declared.change.Change.TheVariants.{Begun, Kept, Snapped, Forgot, TookFresh, Refused}
+use Rattle.psb_model.specs.Words.{units, name_eq, name_listed, object_eq, object_cmp, all_of, has, only, without, with_one, with_all}
+use Rattle.psb_model.specs.State.{Row, State, blank, nothing_yet, row, row_in, has_row, is_peer, at_row, in_key, in_size, out_key, debt_key, held_units, own_has, own_marked, is_held, coming, used}
 use Rattle.psb_model.specs.Grammar.{in_grammar, is_u8, fits_widths}
 use Rattle.psb_model.specs.Conditions.{settings_of_body, peer_of, is_begun, of_a_peer, tests, allowed}
 use Rattle.psb_model.specs.Move.{after_move}
-use Rattle.psb_model.specs.Effects.{move_of, note_of, loosen, blank_rows, first_rows, all_rows_after, after}
+use Rattle.psb_model.specs.Effects.{move_of, note_of, loosen, blank_rows, first_rows, all_rows_after, after, chunk_in, own_slots, own_after, own_with, set_marks, given_up, is_named, kept_lists, kept_without, kept_after}
 use Rattle.psb_model.specs.History.{state_from, lawful_from, state, is_lawful, is_built}
-use Rattle.psb_model.specs.Needed.{brings_name, is_needed_by, body_is_right, bodies_right, is_sound, brings_right, IsValid}
+use Rattle.psb_model.specs.Needed.{brings, brings_name, slots_given, needs_name, needs_slot, is_needed_by, body_is_right, bodies_right, is_sound, brings_right, IsValid}
 use Rattle.psb_model.proofs.ByObject.{by_cases, occurs, units_at-with_all, sum_by-with_all, lacks-units_at, has-occurs, object_eq-refl}
+use Rattle.psb_model.proofs.Parts.{own_slots-chunk}
 use Rattle.psb_model.proofs.Steps.{parts}
-use Rattle.psb_model.proofs.Own.{name_same}
-use Rattle.psb_model.proofs.Prefixes.{lawful_snoc, lawful_cons, lawful_prefix, all_prefix, all_snoc}
+use Rattle.psb_model.proofs.Own.{name_same, name_refl, own_with_other, IsUnmarked, unmarked_stays}
+use Rattle.psb_model.proofs.Prefixes.{lawful_snoc, lawful_cons, all_snoc, changes_counted, state_snoc}
 
 -- THE PARTS OF A CONDITION
 
@@ -49,13 +57,14 @@ pub record IsPlainRow (r : Row) : Type 0 where
   pub due : r.due ≡ false
   pub barred : r.barred ≡ []
   pub turned : r.turned_cancels ≡ []
+  pub slots : (n : List ℕ) → has out_key r.outs (Chunk n) ≡ false
 
 abbrev pub AllPlain : List (ℕ × Row) → Type 0
 AllPlain [] = Unit {0}
 AllPlain (x ∷ xs) = IsPlainRow x.1 × AllPlain xs
 
 pub plain_blank : IsPlainRow blank
-plain_blank = record { pending = refl; debts = refl; asked = refl; mine = refl; fails = refl; due = refl; barred = refl; turned = refl }
+plain_blank = record { pending = refl; debts = refl; asked = refl; mine = refl; fails = refl; due = refl; barred = refl; turned = refl; slots = λ n. refl }
 
 pub plain_row_in : (rows : List (ℕ × Row)) (p : ℕ) → AllPlain rows → IsPlainRow (row_in rows p)
 plain_row_in [] p h = plain_blank
@@ -141,54 +150,218 @@ held_refused s p deal why detail r =
     let b : sum_by in_size (without in_key [] r.ins) ≡ sum_by in_size r.ins = ap (sum_by in_size) (without_none r.ins) in
     omega (arith, b)
 
+-- WHAT IS HELD
+
+abbrev pub held_in : List (ℕ × Row) → List ℕ → Bool
+held_in rows n = list_any (λ (x : ℕ × Row). has in_key x.1.ins (Chunk n)) rows
+
+or_none : (a : Bool) → (a || false) ≡ a
+or_none true = refl
+or_none false = refl
+
+or_true : (a : Bool) → (a || true) ≡ true
+or_true true = refl
+or_true false = refl
+
+or_swap : (a b : Bool) → (a || b) ≡ (b || a)
+or_swap true true = refl
+or_swap true false = refl
+or_swap false true = refl
+or_swap false false = refl
+
+or_last : (a b c : Bool) → (a || (b || c)) ≡ ((a || b) || c)
+or_last true b c = refl
+or_last false b c = refl
+
+or_middle : (a b c : Bool) → ((a || b) || c) ≡ ((a || c) || b)
+or_middle true b c = refl
+or_middle false b c = or_swap b c
+
+has_more : (e : InEntry) (l : List InEntry) (o : Object) → has in_key (with_one in_key e l) o ≡ (has in_key l o || object_eq e.object o)
+has_more e [] o = or_none (object_eq e.object o)
+has_more e (x ∷ xs) o = by_cases (is_lt (object_cmp e.object x.object))
+    (λ k. rw k (or_swap (object_eq e.object o) (object_eq x.object o || has in_key xs o)))
+    (λ k. rw k (ap (λ (b : Bool). object_eq x.object o || b) (has_more e xs o) ∙ or_last (object_eq x.object o) (has in_key xs o) (object_eq e.object o)))
+
+-- a row gained the chunk, if b
+abbrev pub Gains : (Row → Row) → List ℕ → Bool → Type 0
+Gains f name b = (r : Row) → has in_key (f r).ins (Chunk name) ≡ (has in_key r.ins (Chunk name) || b)
+
+pub fresh_gains : (s : State) (p deal : ℕ) (name : List ℕ) (first len : ℕ) (new : Bool) (body : Option (List ℕ)) (q : List ℕ) → Gains (changed s (TookFresh p deal name first len new body)) q (name_eq name q)
+fresh_gains s p deal name first len new body q r =
+    ap (λ (l : List InEntry). has in_key (with_one in_key (chunk_in name (units len)) l) (Chunk q)) (without_none r.ins) ∙ has_more (chunk_in name (units len)) r.ins (Chunk q)
+
+pub refused_gains : (s : State) (p deal why detail : ℕ) (q : List ℕ) → Gains (changed s (Refused p deal why detail)) q false
+refused_gains s p deal why detail q r = ap (λ (l : List InEntry). has in_key l (Chunk q)) (without_none r.ins) ∙ sym (or_none (has in_key r.ins (Chunk q)))
+
+pub all_gain : (p : ℕ) (f : Row → Row) (q : List ℕ) (b : Bool) (rows : List (ℕ × Row)) → has_row rows p ≡ true → Gains f q b → held_in (at_row p f rows) q ≡ (held_in rows q || b)
+all_gain p f q b [] here gains = absurd (false≢true here)
+all_gain p f q b (x ∷ xs) here gains = by_cases (x.0 == p)
+    (λ k. rw k (ap (λ (c : Bool). c || held_in xs q) (gains x.1) ∙ or_middle (has in_key x.1.ins (Chunk q)) b (held_in xs q)))
+    (λ k. let rest = rw k at here in rw k (ap (λ (c : Bool). has in_key x.1.ins (Chunk q) || c) (all_gain p f q b xs rest gains) ∙ or_last (has in_key x.1.ins (Chunk q)) (held_in xs q) b))
+
+none_blank : (ps : List PeerRow) (q : List ℕ) → held_in (blank_rows ps) q ≡ false
+none_blank [] q = refl
+none_blank (p ∷ ps) q = none_blank ps q
+
+pub none_first : (o : Option Settings) (q : List ℕ) → held_in (first_rows o) q ≡ false
+none_first None q = refl
+none_first (Some x) q = none_blank x.peers q
+
+-- what the peers have here after a change
+pub held_begun : (s : State) (body : Option (List ℕ)) (q : List ℕ) → held_in (after s (Begun body)).rows q ≡ false
+held_begun s body q = none_first (settings_of_body body) q
+
+pub held_fresh_in : (s : State) (p deal : ℕ) (name : List ℕ) (first len : ℕ) (new : Bool) (body : Option (List ℕ)) (q : List ℕ) → is_peer s p ≡ true → held_in (after s (TookFresh p deal name first len new body)).rows q ≡ (held_in s.rows q || name_eq name q)
+held_fresh_in s p deal name first len new body q peer =
+    ap (λ (l : List (ℕ × Row)). held_in l q) (rows_fresh s p deal name first len new body)
+    ∙ all_gain p (changed s (TookFresh p deal name first len new body)) q (name_eq name q) s.rows peer (fresh_gains s p deal name first len new body q)
+
+pub held_refused_in : (s : State) (p deal why detail : ℕ) (q : List ℕ) → is_peer s p ≡ true → held_in (after s (Refused p deal why detail)).rows q ≡ held_in s.rows q
+held_refused_in s p deal why detail q peer =
+    ap (λ (l : List (ℕ × Row)). held_in l q) (rows_refused s p deal why detail)
+    ∙ all_gain p (changed s (Refused p deal why detail)) q false s.rows peer (refused_gains s p deal why detail q)
+    ∙ or_none (held_in s.rows q)
+
+-- OWN CHUNKS
+
+-- an entry that passes a test was one of the list
+filter_has : (t : OwnEntry → Bool) (l : List OwnEntry) (n : List ℕ) → own_has (filter t l) n ≡ true → own_has l n ≡ true
+filter_has t [] n h = h
+filter_has t (e ∷ es) n h = by_cases (name_eq e.name n)
+    (λ k. rw k refl)
+    (λ k. rw k (filter_has t es n (by_cases (t e) (λ j. let h' = rw j at h in rw k at h') (λ j. rw j at h))))
+
+marks_has : (mark : OwnEntry → Bool) (l : List OwnEntry) (n : List ℕ) → own_has (set_marks mark l) n ≡ own_has l n
+marks_has mark [] n = refl
+marks_has mark (e ∷ es) n = ap (λ b. name_eq e.name n || b) (marks_has mark es n)
+
+-- no own chunk is marked: of the kinds that are built, each change gives up what it marks
+abbrev pub AllFree : List OwnEntry → Type 0
+AllFree [] = Unit {0}
+AllFree (e ∷ es) = (e.marked ≡ false) × AllFree es
+
+filter_free : (t : OwnEntry → Bool) (l : List OwnEntry) → AllFree l → AllFree (filter t l)
+filter_free t [] f = tt
+filter_free t (e ∷ es) f = by_cases (t e) (λ k. rw k (f.0, filter_free t es f.1)) (λ k. rw k (filter_free t es f.1))
+
+with_free : (e : OwnEntry) (l : List OwnEntry) → e.marked ≡ false → AllFree l → AllFree (own_with e l)
+with_free e [] k f = (k, tt)
+with_free e (x ∷ xs) k f = by_cases (is_lt (slice_cmp nat_cmp e.name x.name)) (λ j. rw j (k, f)) (λ j. rw j (f.0, with_free e xs k f.1))
+
+-- what is not marked stays
+given_free : (rows : List (ℕ × Row)) (l : List OwnEntry) → AllFree l → given_up rows l ≡ l
+given_free rows [] f = refl
+given_free rows (e ∷ es) f =
+    ap (λ (m : Bool). cond (not m || is_named rows e.name) (e ∷ given_up rows es) (given_up rows es)) f.0
+    ∙ ap (λ l. e ∷ l) (given_free rows es f.1)
+
+-- marks that are lifted where there are none
+lifted_free : (names : List (List ℕ)) (l : List OwnEntry) → AllFree l → set_marks (λ e. e.marked && not (name_listed names e.name)) l ≡ l
+lifted_free names [] f = refl
+lifted_free names (e ∷ es) f = λ i. one e (f.0) i ∷ lifted_free names es f.1 i
+  where
+    one : (e : OwnEntry) → e.marked ≡ false → record e { marked = e.marked && not (name_listed names e.name) } ≡ e
+    one e k = λ i. record { name = e.name; len = e.len; marked = (ap (λ m. m && not (name_listed names e.name)) k ∙ sym k) i }
+
+-- the marked ones go, where no row names them
+marked_go : (rows : List (ℕ × Row)) (lists : List ℕ → Bool) (l : List OwnEntry) → ((n : List ℕ) → is_named rows n ≡ false) → AllFree l → given_up rows (set_marks (λ e. e.marked || not (lists e.name)) l) ≡ filter (λ e. lists e.name) l
+marked_go rows lists [] none f = refl
+marked_go rows lists (e ∷ es) none f = by_cases (lists e.name)
+    (λ k. let free = f.0 in
+    let mark : (e.marked || not (lists e.name)) ≡ false = rw (free, k) refl in
+    rw (mark, k) (λ i. (record { name = e.name; len = e.len; marked = sym free i }) ∷ marked_go rows lists es none f.1 i))
+    (λ k. let free = f.0 in
+    let mark : (e.marked || not (lists e.name)) ≡ true = rw (free, k) refl in
+    rw (mark, none e.name, k) (marked_go rows lists es none f.1))
+
 -- PLAIN STATES
 
 pub record IsPlain (s : State) : Type 0 where
   pub rows : AllPlain s.rows
-  pub own : s.own ≡ []
-  pub kept : s.kept ≡ []
-  pub snapped : s.snapped ≡ None
+  pub own : AllFree s.own
   pub chosen : s.chosen ≡ []
   pub issued : held_total s.rows ≡ s.issued
   pub before : s.changes ≡ 0 → s.issued ≡ 0
 
 pub plain_nothing : IsPlain nothing_yet
-plain_nothing = record { rows = tt; own = refl; kept = refl; snapped = refl; chosen = refl; issued = refl; before = λ e. refl }
+plain_nothing = record { rows = tt; own = tt; chosen = refl; issued = refl; before = λ e. refl }
 
--- own loses what is marked, and there is none
-given_none : (s s' : State) → s.own ≡ [] → s'.own ≡ s.own → s'.own ≡ []
-given_none s s' a b = b ∙ a
+-- no row of a plain state names an own chunk
+pub none_named : (rows : List (ℕ × Row)) (n : List ℕ) → AllPlain rows → is_named rows n ≡ false
+none_named [] n h = refl
+none_named (x ∷ xs) n h = rw (h.0.slots n, h.0.debts, h.0.pending, none_named xs n h.1) refl
+
+-- own after a change of the kinds that are built: a kept chunk comes, and one goes when no snapshot that is
+-- left lists it
+abbrev pub own_next : State → Change → List OwnEntry
+own_next s (Kept name len new body) = own_with (record { name = name; len = len; marked = false }) s.own
+own_next s (Forgot number) = filter (λ (e : OwnEntry). kept_lists (kept_without number s.kept) e.name) s.own
+own_next s _ = s.own
+
+pub own_is : (s : State) (c : Change) → IsPlain s → is_built c ≡ true → (after s c).own ≡ own_next s c
+own_is s (Begun body) p b = given_free (first_rows (settings_of_body body)) s.own p.own
+own_is s (Kept name len new body) p b = given_free s.rows (own_with (record { name = name; len = len; marked = false }) s.own) (with_free (record { name = name; len = len; marked = false }) s.own refl p.own)
+own_is s (Snapped number ticket files folders bytes left names) p b = ap (given_up s.rows) (lifted_free names s.own p.own) ∙ given_free s.rows s.own p.own
+own_is s (Forgot number) p b = marked_go s.rows (kept_lists (kept_without number s.kept)) s.own (λ n. none_named s.rows n p.rows) p.own
+own_is s (TookFresh q deal name first len new body) p b = given_free (after s (TookFresh q deal name first len new body)).rows s.own p.own
+own_is s (Refused q deal why detail) p b = given_free (after s (Refused q deal why detail)).rows s.own p.own
+own_is s _ p b = absurd (false≢true b)
+
+own_next_free : (s : State) (c : Change) → AllFree s.own → AllFree (own_next s c)
+own_next_free s (Kept name len new body) f = with_free (record { name = name; len = len; marked = false }) s.own refl f
+own_next_free s (Forgot number) f = filter_free (λ e. kept_lists (kept_without number s.kept) e.name) s.own f
+own_next_free s _ f = f
+
+own_free : (s : State) (c : Change) → IsPlain s → is_built c ≡ true → AllFree (after s c).own
+own_free s c p b = subst AllFree (sym (own_is s c p b)) (own_next_free s c p.own)
 
 plain_begun : (s : State) (body : Option (List ℕ)) → IsPlain s → all_of (tests s (Begun body)) ≡ true → IsPlain (after s (Begun body))
 plain_begun s body p h =
     let ts = parts (tests s (Begun body)) h in
     record {
       rows = plain_first_rows (settings_of_body body);
-      own = rw p.own refl;
-      kept = p.kept;
-      snapped = p.snapped;
+      own = own_free s (Begun body) p refl;
       chosen = p.chosen;
       issued = omega (arith, held_first_rows (settings_of_body body), p.before (eqb-true s.changes 0 ts.0));
       before = λ e. absurd (omega (arith, e));
     }
 
+-- one more step that leaves the rows
+plain_same : (s s' : State) → IsPlain s → s'.rows ≡ s.rows → AllFree s'.own → s'.chosen ≡ s.chosen → s'.issued ≡ s.issued → s'.changes ≡ s.changes + 1 → IsPlain s'
+plain_same s s' was rows own chosen issued changes = record {
+  rows = subst AllPlain (sym rows) was.rows;
+  own = own;
+  chosen = chosen ∙ was.chosen;
+  issued = ap held_total rows ∙ was.issued ∙ sym issued;
+  before = λ e. absurd (omega (arith, e, changes));
+}
+
 -- one more step over one row
-plain_changed : (s s' : State) (p u : ℕ) (f : Row → Row) → IsPlain s → s'.rows ≡ at_row p f s.rows → s'.own ≡ [] → s'.kept ≡ s.kept → s'.snapped ≡ s.snapped → s'.chosen ≡ s.chosen → s'.issued ≡ s.issued + u → s'.changes ≡ s.changes + 1 → has_row s.rows p ≡ true → ((r : Row) → IsPlainRow r → IsPlainRow (f r)) → ((r : Row) → held_units (f r) ≡ held_units r + u) → IsPlain s'
-plain_changed s s' p u f was rows own kept snapped chosen issued changes here plain held = record {
+plain_changed : (s s' : State) (p u : ℕ) (f : Row → Row) → IsPlain s → s'.rows ≡ at_row p f s.rows → AllFree s'.own → s'.chosen ≡ s.chosen → s'.issued ≡ s.issued + u → s'.changes ≡ s.changes + 1 → has_row s.rows p ≡ true → ((r : Row) → IsPlainRow r → IsPlainRow (f r)) → ((r : Row) → held_units (f r) ≡ held_units r + u) → IsPlain s'
+plain_changed s s' p u f was rows own chosen issued changes here plain held = record {
   rows = subst AllPlain (sym rows) (plain_at_row p f s.rows plain was.rows);
   own = own;
-  kept = kept ∙ was.kept;
-  snapped = snapped ∙ was.snapped;
   chosen = chosen ∙ was.chosen;
   issued = omega (arith, ap held_total rows, held_at_row p f u s.rows here held, was.issued, issued);
   before = λ e. absurd (omega (arith, e, changes));
 }
 
+outs_none : (l : List OutEntry) → without out_key [] l ≡ l
+outs_none [] = refl
+outs_none (e ∷ es) = ap (λ l. e ∷ l) (outs_none es)
+
+-- new slots bring no chunk
+slots_only : (first u : ℕ) (l : List OutEntry) (n : List ℕ) → has out_key l (Chunk n) ≡ false → has out_key (with_all out_key (own_slots first u) (without out_key [] l)) (Chunk n) ≡ false
+slots_only first u l n h = by_cases (has out_key (with_all out_key (own_slots first u) (without out_key [] l)) (Chunk n))
+    (λ k. absurd (omega (arith, has-occurs out_key (with_all out_key (own_slots first u) (without out_key [] l)) (Chunk n) k, units_at-with_all out_key (λ _. 1) (own_slots first u) (without out_key [] l) (Chunk n), own_slots-chunk first u n, ap (λ m. occurs out_key m (Chunk n)) (outs_none l), lacks-units_at out_key (λ _. 1) l (Chunk n) h)))
+    (λ k. k)
+
 plain_row_fresh : (s : State) (p deal : ℕ) (name : List ℕ) (first len : ℕ) (new : Bool) (body : Option (List ℕ)) (r : Row) → IsPlainRow r → IsPlainRow (changed s (TookFresh p deal name first len new body) r)
-plain_row_fresh s p deal name first len new body r h = record { pending = h.pending; debts = rw h.debts refl; asked = h.asked; mine = h.mine; fails = h.fails; due = h.due; barred = h.barred; turned = h.turned }
+plain_row_fresh s p deal name first len new body r h = record { pending = h.pending; debts = rw h.debts refl; asked = h.asked; mine = h.mine; fails = h.fails; due = h.due; barred = h.barred; turned = h.turned; slots = λ n. slots_only first (units len) r.outs n (h.slots n) }
 
 plain_row_refused : (s : State) (p deal why detail : ℕ) (r : Row) → IsPlainRow r → IsPlainRow (changed s (Refused p deal why detail) r)
-plain_row_refused s p deal why detail r h = record { pending = h.pending; debts = rw h.debts refl; asked = h.asked; mine = h.mine; fails = h.fails; due = h.due; barred = h.barred; turned = h.turned }
+plain_row_refused s p deal why detail r h = record { pending = h.pending; debts = rw h.debts refl; asked = h.asked; mine = h.mine; fails = h.fails; due = h.due; barred = h.barred; turned = h.turned; slots = λ n. ap (λ l. has out_key l (Chunk n)) (outs_none r.outs) ∙ h.slots n }
 
 -- every kind but Begun comes after another change
 pub begun_before : (s : State) (c : Change) → is_begun c ≡ false → allowed s c ≡ true → 1 ≤ s.changes
@@ -201,12 +374,15 @@ begun_before s c none h =
 
 pub plain_after : (s : State) (c : Change) → IsPlain s → is_built c ≡ true → allowed s c ≡ true → IsPlain (after s c)
 plain_after s (Begun body) p b h = plain_begun s body p (allows s (Begun body) h).tests
+plain_after s (Kept name len new body) p b h = plain_same s (after s (Kept name len new body)) p refl (own_free s (Kept name len new body) p refl) refl refl refl
+plain_after s (Snapped number ticket files folders bytes left names) p b h = plain_same s (after s (Snapped number ticket files folders bytes left names)) p refl (own_free s (Snapped number ticket files folders bytes left names) p refl) refl refl refl
+plain_after s (Forgot number) p b h = plain_same s (after s (Forgot number)) p refl (own_free s (Forgot number) p refl) refl refl refl
 plain_after s (TookFresh q deal name first len new body) p b h =
     let c : Change = TookFresh q deal name first len new body in
-    plain_changed s (after s c) q (units len) (changed s c) p (rows_fresh s q deal name first len new body) (rw p.own refl) refl refl refl refl refl (allows s c h).peer (plain_row_fresh s q deal name first len new body) (held_fresh s q deal name first len new body)
+    plain_changed s (after s c) q (units len) (changed s c) p (rows_fresh s q deal name first len new body) (own_free s c p refl) refl refl refl (allows s c h).peer (plain_row_fresh s q deal name first len new body) (held_fresh s q deal name first len new body)
 plain_after s (Refused q deal why detail) p b h =
     let c : Change = Refused q deal why detail in
-    plain_changed s (after s c) q 0 (changed s c) p (rows_refused s q deal why detail) (rw p.own refl) refl refl refl (omega arith) refl (allows s c h).peer (plain_row_refused s q deal why detail) (held_refused s q deal why detail)
+    plain_changed s (after s c) q 0 (changed s c) p (rows_refused s q deal why detail) (own_free s c p refl) refl (omega arith) refl (allows s c h).peer (plain_row_refused s q deal why detail) (held_refused s q deal why detail)
 plain_after s _ p b h = absurd (false≢true b)
 
 pub plain_from : (s : State) (h : List Change) → IsPlain s → lawful_from s h ≡ true → list_all is_built h ≡ true → IsPlain (state_from s h)
@@ -216,7 +392,7 @@ plain_from s (c ∷ cs) p v b =
     let built = and_parts (is_built c) (list_all is_built cs) b in
     plain_from (after s c) cs (plain_after s c p built.0 l.allows) l.rest built.1
 
--- so far no history leaves a debt, a deal under way or a chunk of one's own
+-- so far no history leaves a debt, a deal under way or a mark
 pub plain_state : (h : List Change) → is_lawful h ≡ true → list_all is_built h ≡ true → IsPlain (state h)
 plain_state h v b = plain_from nothing_yet h plain_nothing v b
 
@@ -227,162 +403,234 @@ plain_row h p v b = plain_row_in (state h).rows p (plain_state h v b).rows
 pub used_plain : (s : State) → IsPlain s → used s ≡ s.issued
 used_plain s p = used_in s s.rows p.rows ∙ p.issued
 
--- WHAT IS HELD
+-- WHAT A CHANGE HOLDS
 
-abbrev pub held_in : List (ℕ × Row) → List ℕ → Bool
-held_in rows n = list_any (λ (x : ℕ × Row). has in_key x.1.ins (Chunk n)) rows
+own_with_has : (e : OwnEntry) (l : List OwnEntry) → own_has (own_with e l) e.name ≡ true
+own_with_has e [] = rw (name_refl e.name) refl
+own_with_has e (x ∷ xs) = by_cases (is_lt (slice_cmp nat_cmp e.name x.name))
+    (λ j. rw (j, name_refl e.name) refl)
+    (λ j. rw j (by_cases (name_eq x.name e.name) (λ k. rw k refl) (λ k. rw k (own_with_has e xs))))
 
-pub held_plain : (s : State) (n : List ℕ) → IsPlain s → is_held s n ≡ held_in s.rows n
-held_plain s n p = ap (λ own. own_has own n || held_in s.rows n) p.own
+-- own has a kept chunk, and what it had
+pub own_with_is : (e : OwnEntry) (l : List OwnEntry) (n : List ℕ) → own_has (own_with e l) n ≡ (own_has l n || name_eq e.name n)
+own_with_is e l n = by_cases (name_eq e.name n)
+    (λ k. ap (own_has (own_with e l)) (sym (name_same e.name n k)) ∙ own_with_has e l ∙ sym (ap (λ b. own_has l n || b) k ∙ or_true (own_has l n)))
+    (λ k. (own_with_other e l n k).0 ∙ sym (ap (λ b. own_has l n || b) k ∙ or_none (own_has l n)))
 
-occurs_has : (l : List InEntry) (o : Object) → 1 ≤ occurs in_key l o → has in_key l o ≡ true
-occurs_has l o h = by_cases (has in_key l o) (λ k. k) (λ k. absurd (omega (arith, h, lacks-units_at in_key (λ _. 1) l o k)))
+-- the change's chunk is held after it
+pub brought_held : (s : State) (c : Change) (n : List ℕ) → IsPlain s → is_built c ≡ true → allowed s c ≡ true → brings_name n c ≡ true → is_held (after s c) n ≡ true
+brought_held s (Begun body) n p b h is = absurd (false≢true is)
+brought_held s (Kept name len true body) n p b h is =
+    let c : Change = Kept name len true body in
+    let e : OwnEntry = record { name = name; len = len; marked = false } in
+    let here : own_has (after s c).own n ≡ true = ap (λ own. own_has own n) (own_is s c p refl) ∙ own_with_is e s.own n ∙ ap (λ x. own_has s.own n || x) is ∙ or_true (own_has s.own n) in
+    rw here refl
+brought_held s (Kept name len false body) n p b h is = absurd (false≢true is)
+brought_held s (Snapped number ticket files folders bytes left names) n p b h is = absurd (false≢true is)
+brought_held s (Forgot number) n p b h is = absurd (false≢true is)
+brought_held s (TookFresh q deal name first len true body) n p b h is =
+    let c : Change = TookFresh q deal name first len true body in
+    let here : held_in (after s c).rows n ≡ true = held_fresh_in s q deal name first len true body n (allows s c h).peer ∙ ap (λ x. held_in s.rows n || x) is ∙ or_true (held_in s.rows n) in
+    ap (λ x. own_has (after s c).own n || x) here ∙ or_true (own_has (after s c).own n)
+brought_held s (TookFresh q deal name first len false body) n p b h is = absurd (false≢true is)
+brought_held s (Refused q deal why detail) n p b h is = absurd (false≢true is)
+brought_held s _ n p b h is = absurd (false≢true b)
 
-held_at : (p : ℕ) (f : Row → Row) (n : List ℕ) (rows : List (ℕ × Row)) → ((r : Row) → has in_key r.ins (Chunk n) ≡ true → has in_key (f r).ins (Chunk n) ≡ true) → held_in rows n ≡ true → held_in (at_row p f rows) n ≡ true
-held_at p f n [] g h = h
-held_at p f n (x ∷ xs) g h =
-    by_cases (has in_key x.1.ins (Chunk n))
-    (λ k. by_cases (x.0 == p) (λ j. rw j (rw (g x.1 k) refl)) (λ j. rw j (rw k refl)))
-    (λ k. let h' = rw k at h in
-    by_cases (x.0 == p)
-    (λ j. rw j (either (has in_key (f x.1).ins (Chunk n)) (held_in xs n) h'))
-    (λ j. rw j (rw k (held_at p f n xs g h'))))
+-- either of two is not both not
+either_was : (a b a' b' : Bool) → (a || b) ≡ true → (a ≡ true → a' ≡ true) → (b ≡ true → b' ≡ true) → (a' || b') ≡ true
+either_was true b a' b' h f g = rw (f refl) refl
+either_was false b a' b' h f g = rw (g h) (or_true a')
+
+not_new : (held new : Bool) → (cond held (not new) new) ≡ true → new ≡ false → held ≡ true
+not_new true new t e = refl
+not_new false new t e = sym e ∙ t
+
+-- a held name was held before, or the change brings its bytes
+pub was_held : (s : State) (c : Change) (n : List ℕ) → 1 ≤ s.changes → IsPlain s → is_built c ≡ true → allowed s c ≡ true → is_held (after s c) n ≡ true → brings_name n c ≡ false → is_held s n ≡ true
+was_held s (Begun body) n some p b h held none = let ts = parts (tests s (Begun body)) (allows s (Begun body) h).tests in absurd (omega (arith, some, eqb-true s.changes 0 ts.0))
+was_held s (Kept name len new body) n some p b h held none =
+    let c : Change = Kept name len new body in
+    let ts = parts (tests s c) (allows s c h).tests in
+    by_cases (name_eq name n)
+    (λ k. ap (is_held s) (sym (name_same name n k)) ∙ not_new (is_held s name) new ts.1.0 (flag new k none))
+    (λ k. either_was (own_has (after s c).own n) (held_in s.rows n) (own_has s.own n) (held_in s.rows n) held
+    (λ a. sym (own_with_is (record { name = name; len = len; marked = false }) s.own n ∙ ap (λ x. own_has s.own n || x) k ∙ or_none (own_has s.own n)) ∙ sym (ap (λ own. own_has own n) (own_is s c p refl)) ∙ a)
+    (λ a. a))
   where
-    either : (a b : Bool) → b ≡ true → (a || b) ≡ true
-    either true b h = refl
-    either false b h = h
-
-held_here : (p : ℕ) (f : Row → Row) (n : List ℕ) (rows : List (ℕ × Row)) → has_row rows p ≡ true → ((r : Row) → has in_key (f r).ins (Chunk n) ≡ true) → held_in (at_row p f rows) n ≡ true
-held_here p f n [] here g = absurd (false≢true here)
-held_here p f n (x ∷ xs) here g =
-    by_cases (x.0 == p)
-    (λ k. rw k (rw (g x.1) refl))
-    (λ k. let here' = rw k at here in let rest = held_here p f n xs here' g in rw k (by_cases (has in_key x.1.ins (Chunk n)) (λ j. rw j refl) (λ j. rw j rest)))
-
--- what the ins of a row have after a fresh chunk
-ins_fresh : (s : State) (p deal : ℕ) (name : List ℕ) (first len : ℕ) (new : Bool) (body : Option (List ℕ)) (r : Row) (o : Object) → occurs in_key (changed s (TookFresh p deal name first len new body) r).ins o ≡ (cond (object_eq (Chunk name) o) 1 0 + 0) + occurs in_key r.ins o
-ins_fresh s p deal name first len new body r o =
-    let c : Change = TookFresh p deal name first len new body in
-    let m = move_of s c in
-    units_at-with_all in_key (λ _. 1) m.in_new (without in_key [] r.ins) o ∙ ap (λ n. (cond (object_eq (Chunk name) o) 1 0 + 0) + n) (ap (λ l. occurs in_key l o) (without_none r.ins))
-
--- the name of a fresh chunk is held after it
-held_new : (s : State) (p deal : ℕ) (name : List ℕ) (first len : ℕ) (new : Bool) (body : Option (List ℕ)) → is_peer s p ≡ true → held_in (all_rows_after s (TookFresh p deal name first len new body)) name ≡ true
-held_new s p deal name first len new body peer =
-    let c : Change = TookFresh p deal name first len new body in
-    let f = changed s c in
-    subst (λ rows. held_in rows name ≡ true) (sym (rows_fresh s p deal name first len new body))
-    (held_here p f name s.rows peer (λ r. occurs_has (f r).ins (Chunk name) (let is = rw (object_eq-refl (Chunk name)) at (ins_fresh s p deal name first len new body r (Chunk name)) in omega (arith, is))))
-
--- a held name stays held
-held_after : (s : State) (c : Change) (n : List ℕ) → 1 ≤ s.changes → is_built c ≡ true → allowed s c ≡ true → held_in s.rows n ≡ true → held_in (all_rows_after s c) n ≡ true
-held_after s (Begun body) n some b h held = let ts = parts (tests s (Begun body)) (allows s (Begun body) h).tests in absurd (omega (arith, some, eqb-true s.changes 0 ts.0))
-held_after s (TookFresh p deal name first len new body) n some b h held =
-    let c : Change = TookFresh p deal name first len new body in
-    let f = changed s c in
-    subst (λ rows. held_in rows n ≡ true) (sym (rows_fresh s p deal name first len new body))
-    (held_at p f n s.rows (λ r k. occurs_has (f r).ins (Chunk n) (omega (arith, ins_fresh s p deal name first len new body r (Chunk n), has-occurs in_key r.ins (Chunk n) k))) held)
-held_after s (Refused p deal why detail) n some b h held =
-    let c : Change = Refused p deal why detail in
-    let f = changed s c in
-    subst (λ rows. held_in rows n ≡ true) (sym (rows_refused s p deal why detail))
-    (held_at p f n s.rows (λ r k. ap (λ l. has in_key l (Chunk n)) (without_none r.ins) ∙ k) held)
-held_after s _ n some b h held = absurd (false≢true b)
+    flag : (new : Bool) → name_eq name n ≡ true → brings_name n (Kept name len new body) ≡ false → new ≡ false
+    flag true k e = absurd (false≢true (sym e ∙ k))
+    flag false k e = refl
+was_held s (Snapped number ticket files folders bytes left names) n some p b h held none =
+    let c : Change = Snapped number ticket files folders bytes left names in
+    ap (λ own. own_has own n || held_in s.rows n) (sym (own_is s c p refl)) ∙ held
+was_held s (Forgot number) n some p b h held none =
+    let c : Change = Forgot number in
+    either_was (own_has (after s c).own n) (held_in s.rows n) (own_has s.own n) (held_in s.rows n) held
+    (λ a. filter_has (λ e. kept_lists (kept_without number s.kept) e.name) s.own n (sym (ap (λ own. own_has own n) (own_is s c p refl)) ∙ a))
+    (λ a. a)
+was_held s (TookFresh q deal name first len new body) n some p b h held none =
+    let c : Change = TookFresh q deal name first len new body in
+    let ts = parts (tests s c) (allows s c h).tests in
+    by_cases (name_eq name n)
+    (λ k. ap (is_held s) (sym (name_same name n k)) ∙ not_new (is_held s name) new ts.1.1.0 (flag new k none))
+    (λ k. either_was (own_has (after s c).own n) (held_in (after s c).rows n) (own_has s.own n) (held_in s.rows n) held
+    (λ a. sym (ap (λ own. own_has own n) (own_is s c p refl)) ∙ a)
+    (λ a. sym (held_fresh_in s q deal name first len new body n (allows s c h).peer ∙ ap (λ x. held_in s.rows n || x) k ∙ or_none (held_in s.rows n)) ∙ a))
+  where
+    flag : (new : Bool) → name_eq name n ≡ true → brings_name n (TookFresh q deal name first len new body) ≡ false → new ≡ false
+    flag true k e = absurd (false≢true (sym e ∙ k))
+    flag false k e = refl
+was_held s (Refused q deal why detail) n some p b h held none =
+    let c : Change = Refused q deal why detail in
+    either_was (own_has (after s c).own n) (held_in (after s c).rows n) (own_has s.own n) (held_in s.rows n) held
+    (λ a. sym (ap (λ own. own_has own n) (own_is s c p refl)) ∙ a)
+    (λ a. sym (held_refused_in s q deal why detail n (allows s c h).peer) ∙ a)
+was_held s _ n some p b h held none = absurd (false≢true b)
 
 -- a held name is not brought again
-pub brings_none : (s : State) (c : Change) (n : List ℕ) → IsPlain s → is_built c ≡ true → allowed s c ≡ true → held_in s.rows n ≡ true → brings_name n c ≡ false
-brings_none s (Begun body) n p b h held = refl
-brings_none s (TookFresh q deal name first len true body) n p b h held =
+pub brings_none : (s : State) (c : Change) (n : List ℕ) → is_built c ≡ true → allowed s c ≡ true → is_held s n ≡ true → brings_name n c ≡ false
+brings_none s (Begun body) n b h held = refl
+brings_none s (Kept name len true body) n b h held =
+    let c : Change = Kept name len true body in
+    let ts = parts (tests s c) (allows s c h).tests in
+    by_cases (name_eq name n)
+    (λ k. let here : is_held s name ≡ true = ap (is_held s) (name_same name n k) ∙ held in
+    let bad = rw here at ts.1.0 in
+    absurd (false≢true bad))
+    (λ k. k)
+brings_none s (Kept name len false body) n b h held = refl
+brings_none s (Snapped number ticket files folders bytes left names) n b h held = refl
+brings_none s (Forgot number) n b h held = refl
+brings_none s (TookFresh q deal name first len true body) n b h held =
     let c : Change = TookFresh q deal name first len true body in
     let ts = parts (tests s c) (allows s c h).tests in
     by_cases (name_eq name n)
-    (λ k. let here : is_held s name ≡ true = ap (is_held s) (name_same name n k) ∙ held_plain s n p ∙ held in
+    (λ k. let here : is_held s name ≡ true = ap (is_held s) (name_same name n k) ∙ held in
     let bad = rw here at ts.1.1.0 in
     absurd (false≢true bad))
     (λ k. k)
-brings_none s (TookFresh q deal name first len false body) n p b h held = refl
-brings_none s (Refused q deal why detail) n p b h held = refl
-brings_none s _ n p b h held = absurd (false≢true b)
-
-pub record Lasts (s : State) (cs : List Change) (n : List ℕ) : Type 0 where
-  pub held : held_in (state_from s cs).rows n ≡ true
-  pub once : list_any (brings_name n) cs ≡ false
-
-pub held_lasts : (s : State) (cs : List Change) (n : List ℕ) → IsPlain s → 1 ≤ s.changes → lawful_from s cs ≡ true → list_all is_built cs ≡ true → held_in s.rows n ≡ true → Lasts s cs n
-held_lasts s [] n p some v b held = record { held = held; once = refl }
-held_lasts s (c ∷ cs) n p some v b held =
-    let l = lawful_cons s c cs v in
-    let built = and_parts (is_built c) (list_all is_built cs) b in
-    let ih = held_lasts (after s c) cs n (plain_after s c p built.0 l.allows) (omega arith) l.rest built.1 (held_after s c n some built.0 l.allows held) in
-    record { held = ih.held; once = rw (brings_none s c n p built.0 l.allows held) ih.once }
+brings_none s (TookFresh q deal name first len false body) n b h held = refl
+brings_none s (Refused q deal why detail) n b h held = refl
+brings_none s _ n b h held = absurd (false≢true b)
 
 -- WHICH BODIES ARE NEEDED
 
--- the body of the first change of a history is right where what it brings is
-one_right : (s : State) (c : Change) (cs : List Change) → IsPlain s → is_built c ≡ true → in_grammar c ≡ true → allowed s c ≡ true → lawful_from (after s c) cs ≡ true → list_all is_built cs ≡ true → (not (is_needed_by (state_from (after s c) cs) c cs) || body_is_right c) ≡ brings_right c
-one_right s (Begun None) cs p b g h v bs = absurd (false≢true g)
-one_right s (Begun (Some text)) cs p b g h v bs = refl
-one_right s (TookFresh q deal name first len true body) cs p b g h v bs =
-    let c : Change = TookFresh q deal name first len true body in
-    let next = plain_after s c p b h in
-    let last = plain_from (after s c) cs next v bs in
-    let all = held_lasts (after s c) cs name next (omega arith) v bs (held_new s q deal name first len true body (allows s c h).peer) in
-    let held : is_held (state_from (after s c) cs) name ≡ true = held_plain (state_from (after s c) cs) name last ∙ all.held in
-    needed (is_held (state_from (after s c) cs) name) (list_any (brings_name name) cs) (body_is_right c) held all.once
+-- the kinds that are built give no slot
+gives_none : (c : Change) → is_built c ≡ true → slots_given c ≡ []
+gives_none (Begun body) b = refl
+gives_none (Kept name len new body) b = refl
+gives_none (Snapped number ticket files folders bytes left names) b = refl
+gives_none (Forgot number) b = refl
+gives_none (TookFresh q deal name first len new body) b = refl
+gives_none (Refused q deal why detail) b = refl
+gives_none _ b = absurd (false≢true b)
+
+no_slot : (s : State) (o : Option ℕ) (later : List Change) → needs_slot s o [] later ≡ false
+no_slot s None later = refl
+no_slot s (Some p) later = refl
+
+-- so what they need is the beginning, and the bytes of a name
+pub needs_names : (s : State) (c : Change) (later : List Change) → is_built c ≡ true → is_needed_by s c later ≡ (is_begun c || needs_name s (brings c) later)
+needs_names s c later b =
+    ap (λ l. is_begun c || needs_name s (brings c) later || needs_slot s (peer_of c) l later) (gives_none c b)
+    ∙ ap (λ x. is_begun c || needs_name s (brings c) later || x) (no_slot s (peer_of c) later)
+    ∙ or_none (is_begun c || needs_name s (brings c) later)
+
+-- what is needed with one change more was needed before it
+needed_before : (s s' : State) (d c : Change) (later : List Change) → is_built d ≡ true → ((n : List ℕ) → is_held s' n ≡ true → brings_name n c ≡ false → is_held s n ≡ true) → is_needed_by s' d (later ++ c ∷ []) ≡ true → is_needed_by s d later ≡ true
+needed_before s s' d c later b law h = needs_names s d later b ∙ either_was (is_begun d) (needs_name s' (brings d) (later ++ c ∷ [])) (is_begun d) (needs_name s (brings d) later) (sym (needs_names s' d (later ++ c ∷ []) b) ∙ h) (λ a. a) (name_before (brings d))
   where
-    needed : (a d r : Bool) → a ≡ true → d ≡ false → (not ((false || (a && not d)) || false) || r) ≡ r
-    needed a d r x y = rw (x, y) refl
-one_right s (TookFresh q deal name first len false body) cs p b g h v bs = refl
-one_right s (Refused q deal why detail) cs p b g h v bs = refl
-one_right s _ cs p b g h v bs = absurd (false≢true b)
+    any_end : (f : Change → Bool) (l : List Change) (x : Change) → list_any f (l ++ x ∷ []) ≡ (list_any f l || f x)
+    any_end f [] x = or_none (f x)
+    any_end f (y ∷ l) x = ap (λ a. f y || a) (any_end f l x) ∙ or_last (f y) (list_any f l) (f x)
 
-pub sound_from : (s : State) (h : List Change) → IsPlain s → lawful_from s h ≡ true → list_all is_built h ≡ true → bodies_right (state_from s h) h ≡ list_all brings_right h
-sound_from s [] p v b = refl
-sound_from s (c ∷ cs) p v b =
-    let l = lawful_cons s c cs v in
+    neither : (a b : Bool) → not (a || b) ≡ true → (a ≡ false) × (b ≡ false)
+    neither true b k = absurd (false≢true k)
+    neither false true k = absurd (false≢true k)
+    neither false false k = (refl, refl)
+
+    name_before : (o : Option (List ℕ)) → needs_name s' o (later ++ c ∷ []) ≡ true → needs_name s o later ≡ true
+    name_before None k = k
+    name_before (Some n) k =
+        let two = and_parts (is_held s' n) (not (list_any (brings_name n) (later ++ c ∷ []))) k in
+        let none = neither (list_any (brings_name n) later) (brings_name n c) (ap not (sym (any_end (brings_name n) later c)) ∙ two.1) in
+        rw (law n two.0 none.1, none.0) refl
+
+-- each body that is needed is right after one change more, if that of the change is where it is needed
+right_more : (s s' : State) (c : Change) (l : List Change) → list_all is_built l ≡ true → ((n : List ℕ) → is_held s' n ≡ true → brings_name n c ≡ false → is_held s n ≡ true) → (not (is_needed_by s' c []) || body_is_right c) ≡ true → bodies_right s l ≡ true → bodies_right s' (l ++ c ∷ []) ≡ true
+right_more s s' c [] b law last r = rw last refl
+right_more s s' c (d ∷ ds) b law last r =
+    let built = and_parts (is_built d) (list_all is_built ds) b in
+    let right = and_parts (not (is_needed_by s d ds) || body_is_right d) (bodies_right s ds) r in
+    rw (was (is_needed_by s' d (ds ++ c ∷ [])) (is_needed_by s d ds) (body_is_right d) (needed_before s s' d c ds built.0 law) right.0, right_more s s' c ds built.1 law last right.1) refl
+  where
+    was : (a b r : Bool) → (a ≡ true → b ≡ true) → (not b || r) ≡ true → (not a || r) ≡ true
+    was true b r f h = let k = f refl in rw k at h
+    was false b r f h = refl
+
+-- a change that brings bytes has them, and the beginning has its text
+right_here : (s : State) (c : Change) (later : List Change) → is_built c ≡ true → in_grammar c ≡ true → brings_right c ≡ true → (not (is_needed_by s c later) || body_is_right c) ≡ true
+right_here s (Begun None) later b g r = absurd (false≢true g)
+right_here s (Begun (Some text)) later b g r = refl
+right_here s (Kept name len true body) later b g r = rw r (or_true (not (is_needed_by s (Kept name len true body) later)))
+right_here s (Kept name len false body) later b g r = refl
+right_here s (Snapped number ticket files folders bytes left names) later b g r = refl
+right_here s (Forgot number) later b g r = refl
+right_here s (TookFresh q deal name first len true body) later b g r = rw r (or_true (not (is_needed_by s (TookFresh q deal name first len true body) later)))
+right_here s (TookFresh q deal name first len false body) later b g r = refl
+right_here s (Refused q deal why detail) later b g r = refl
+right_here s _ later b g r = absurd (false≢true b)
+
+-- a history has the bodies that it needs where each change has those that it brings
+pub all_right : (s : State) (l : List Change) → list_all is_built l ≡ true → list_all in_grammar l ≡ true → list_all brings_right l ≡ true → bodies_right s l ≡ true
+all_right s [] b g r = refl
+all_right s (c ∷ cs) b g r =
     let built = and_parts (is_built c) (list_all is_built cs) b in
-    let first = one_right s c cs p built.0 l.grammar l.allows l.rest built.1 in
-    let rest = sound_from (after s c) cs (plain_after s c p built.0 l.allows) l.rest built.1 in
-    ap (λ x. x && bodies_right (state_from (after s c) cs) cs) first ∙ ap (λ x. brings_right c && x) rest
-
--- so far a history has the bodies that it needs exactly where each change has those that it brings
-pub sound_is : (h : List Change) → is_lawful h ≡ true → list_all is_built h ≡ true → is_sound h ≡ list_all brings_right h
-sound_is h v b = sound_from nothing_yet h plain_nothing v b
+    let grammar = and_parts (in_grammar c) (list_all in_grammar cs) g in
+    let right = and_parts (brings_right c) (list_all brings_right cs) r in
+    rw (right_here s c cs built.0 grammar.0 right.0, all_right s cs built.1 grammar.1 right.1) refl
 
 -- VALID HISTORIES
 
-pub brings_of : (h : List Change) → IsValid h → list_all brings_right h ≡ true
-brings_of h v = sym (sound_is h v.lawful v.built) ∙ v.sound
+-- a valid history has a change
+some_changes : (h : List Change) → IsValid h → 1 ≤ (state h).changes
+some_changes h v = omega (arith, changes_counted h, v.some)
 
 -- one change more
 pub valid_snoc : (h : List Change) (c : Change) → IsValid h → in_grammar c ≡ true → allowed (state h) c ≡ true → fits_widths c ≡ true → is_built c ≡ true → brings_right c ≡ true → IsValid (h ++ c ∷ [])
 valid_snoc h c v g a f b r =
-    let lawful : is_lawful (h ++ c ∷ []) ≡ true = lawful_snoc h c ∙ rw (v.lawful, g, a) refl in
-    let built : list_all is_built (h ++ c ∷ []) ≡ true = all_snoc is_built h c ∙ rw (v.built, b) refl in
+    let s = state h in
+    let law : (n : List ℕ) → is_held (after s c) n ≡ true → brings_name n c ≡ false → is_held s n ≡ true = λ n held none. was_held s c n (some_changes h v) (plain_state h v.lawful v.built) b a held none in
     record {
-      lawful = lawful;
+      lawful = lawful_snoc h c ∙ rw (v.lawful, g, a) refl;
       fit = all_snoc fits_widths h c ∙ rw (v.fit, f) refl;
-      built = built;
+      built = all_snoc is_built h c ∙ rw (v.built, b) refl;
       some = omega (arith, length-append h (c ∷ []));
-      sound = sound_is (h ++ c ∷ []) lawful built ∙ all_snoc brings_right h c ∙ rw (brings_of h v, r) refl;
+      sound = subst (λ t. bodies_right t (h ++ c ∷ []) ≡ true) (sym (state_snoc h c)) (right_more s (after s c) c h v.built law (right_here (after s c) c [] b g r) v.sound);
     }
 
--- a prefix with one change or more
-pub valid_prefix : (n : ℕ) (h : List Change) → IsValid h → IsValid (take (suc n) h)
-valid_prefix n h v =
-    let lawful = lawful_prefix (suc n) h v.lawful in
-    let built = all_prefix is_built (suc n) h v.built in
-    record {
-      lawful = lawful;
-      fit = all_prefix fits_widths (suc n) h v.fit;
-      built = built;
-      some = some_left h v.some;
-      sound = sound_is (take (suc n) h) lawful built ∙ all_prefix brings_right (suc n) h (brings_of h v);
-    }
+-- the last change of a valid history has the bytes that it brings
+pub last_brings : (h : List Change) (c : Change) → is_lawful h ≡ true → list_all is_built h ≡ true → allowed (state h) c ≡ true → is_built c ≡ true → bodies_right (state (h ++ c ∷ [])) (h ++ c ∷ []) ≡ true → brings_right c ≡ true
+last_brings h c lawful built a b right = by_name (brings c) refl
   where
-    some_left : (h : List Change) → 1 ≤ length h → 1 ≤ length (take (suc n) h)
-    some_left [] k = k
-    some_left (c ∷ cs) k = omega arith
+    at_end : (t : State) (l : List Change) → bodies_right t (l ++ c ∷ []) ≡ true → (not (is_needed_by t c []) || body_is_right c) ≡ true
+    at_end t [] r = (and_parts (not (is_needed_by t c []) || body_is_right c) true r).0
+    at_end t (d ∷ ds) r = at_end t ds (and_parts (not (is_needed_by t d (ds ++ c ∷ [])) || body_is_right d) (bodies_right t (ds ++ c ∷ [])) r).1
+
+    here : (not (is_needed_by (after (state h) c) c []) || body_is_right c) ≡ true
+    here = subst (λ t. (not (is_needed_by t c []) || body_is_right c) ≡ true) (state_snoc h c) (at_end (state (h ++ c ∷ [])) h right)
+
+    if_needed : (a r : Bool) → a ≡ true → (not a || r) ≡ true → r ≡ true
+    if_needed a r k h = rw k at h
+
+    by_name : (o : Option (List ℕ)) → brings c ≡ o → brings_right c ≡ true
+    by_name None e = ap (λ (o : Option (List ℕ)). elim o [ None ↦ true | Some name ↦ body_is_right c ]) e
+    by_name (Some n) e =
+        let it : brings_name n c ≡ true = ap (λ (o : Option (List ℕ)). elim o [ None ↦ false | Some m ↦ name_eq m n ]) e ∙ name_refl n in
+        let held = brought_held (state h) c n (plain_state h lawful built) b a it in
+        let name_needed : needs_name (after (state h) c) (brings c) [] ≡ true = ap (λ o. needs_name (after (state h) c) o []) e ∙ rw held refl in
+        let needed : is_needed_by (after (state h) c) c [] ≡ true = needs_names (after (state h) c) c [] b ∙ ap (λ x. is_begun c || x) name_needed ∙ or_true (is_begun c) in
+        ap (λ (o : Option (List ℕ)). elim o [ None ↦ true | Some name ↦ body_is_right c ]) e ∙ if_needed (is_needed_by (after (state h) c) c []) (body_is_right c) needed here
 
 -- the history of a beginning alone
 pub valid_begun : (text : List ℕ) (x : Settings) → settings_of text ≡ Some x → list_all is_u8 text ≡ true → IsValid (Begun (Some text) ∷ [])

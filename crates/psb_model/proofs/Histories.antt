@@ -3,10 +3,10 @@ use Rattle.std.proofs.Common.{◌≡◌, ℕ, true, List, Some, length, refl, �
 use Rattle.std.specs.List.{list_all}
 use Rattle.psb_settings.specs.Settings.{settings_of}
 use Rattle.psb_digest.specs.Hashes.{sha}
-use Rattle.psb_model.specs.Grammar.{is_u8, is_digest}
-use Rattle.psb_model.specs.History.{is_lawful, is_built}
+use Rattle.psb_model.specs.Grammar.{is_u8, is_digest, in_grammar}
+use Rattle.psb_model.specs.History.{state, is_lawful, is_built}
 use Rattle.psb_model.specs.Worked.{one_peer, two_peers, first_deals, shared_deals, FirstWorked, SharedWorked, Worked, WorkedRows}
-use Rattle.psb_model.proofs.Built.{sound_is}
+use Rattle.psb_model.proofs.Built.{all_right}
 use Rattle.psb_model.proofs.Own.{name_refl}
 
 first_worked : (text chunk : List ℕ) → settings_of text ≡ Some one_peer → list_all is_u8 text ≡ true → length chunk ≡ 512 → list_all is_u8 chunk ≡ true → is_digest (sha chunk) ≡ true → FirstWorked text chunk
@@ -19,7 +19,7 @@ first_worked text chunk says text_fits long chunk_fits name_fits =
         fit = rw (text_fits, chunk_fits, name_fits) (refl {a = true});
         built = built;
         some = omega arith;
-        sound = sound_is (first_deals text chunk) lawful built ∙ rw (name_refl (sha chunk)) refl;
+        sound = all_right (state (first_deals text chunk)) (first_deals text chunk) built (rw long refl) (rw (name_refl (sha chunk)) refl);
       };
       numbers = record { held_is = rw says refl; back_is = rw says refl; debt_is = rw says refl };
     }
@@ -35,7 +35,7 @@ shared_worked text chunk says text_fits long chunk_fits name_fits =
         fit = rw (text_fits, chunk_fits, name_fits) (refl {a = true});
         built = built;
         some = omega arith;
-        sound = sound_is (shared_deals text chunk) lawful built ∙ rw same refl;
+        sound = all_right (state (shared_deals text chunk)) (shared_deals text chunk) built (rw long refl) (rw same refl);
       };
       first_numbers = record { held_is = rw says refl; back_is = rw says refl; debt_is = rw says refl };
       second_numbers = record { held_is = rw says refl; back_is = rw says refl; debt_is = rw says refl };

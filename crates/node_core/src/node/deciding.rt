@@ -1,32 +1,33 @@
 //! What a node makes of an input. Nothing is written here.
 
-ghost use Rattle.std.specs.Prelude.{◌≡◌, ◌⊎◌, ◌≤◌, ◌<◌, ◌^◌, List, Bool, ℕ, true, false, length, Some, None, is_some, IfSome, IfOk, OnErr};
+ghost use Rattle.std.specs.Prelude.{◌≡◌, ◌⊎◌, ◌≤◌, ◌<◌, ◌^◌, [], List, Bool, ℕ, true, false, length, Some, None, is_some, IfSome, IfOk, OnOk, OnErr};
+ghost use Rattle.psb_digest.specs.Clashes.{Pair};
 ghost use Rattle.psb_model.specs.State.{is_held};
 ghost use Rattle.psb_model.specs.History.{state};
-ghost use Rattle.psb_model.specs.declared.change.Change.{Change};
 ghost use Rattle.psb_station.specs.Span.{Tells_bytes, Looked};
-ghost use Rattle.psb_machine.specs.Machine.{Situation, react};
+ghost use Rattle.psb_machine.specs.Machine.{Situation, Datagram, Forget, react};
 ghost use Rattle.psb_machine.specs.Deals.{is_compared};
 ghost use Rattle.psb_machine.specs.Stores.{IsShort};
 
-use super::{Input, Node};
-use crate::Fault;
+use super::Node;
 use crate::decision::Decision;
 use crate::offer::{Offer, Reading};
 use crate::reaction::{Reaction, one_letter, quiet};
 use crate::refusal::refusal_of;
 use crate::replies::{brings_new, judged, letter_with, reply_again, reply_to};
+use crate::{Fault, Input};
 use node_journal::Log;
 use psb_machine::{Refusal, Standing};
 use psb_station::Disk;
 
 impl<L: Log> Node<L> {
     ghost use Rattle.chunk_store.specs.Store.{record_of};
-    ghost use Rattle.node_core.specs.Letters.{letters_of, input_of};
+    ghost use Rattle.node_core.specs.Letters.{letters_of, input_of, is_own};
     ghost use Rattle.node_core.specs.Offers.{deal_in};
     ghost use Rattle.node_core.specs.Making.{CanMake, CanTell, made_of, made_in, why_refused};
     ghost use Rattle.node_core.specs.Stored.{Knows, Stored, IsCounted};
-    ghost use Rattle.node_core.specs.Unread.{IsUnread};
+    ghost use Rattle.node_core.specs.Unread.{IsUnread, IsCertain};
+    ghost use Rattle.node_core.specs.Refusing.{IsApt, is_refused, IsHeldAs, Refuses};
     ghost use Rattle.node_core.specs.Reacting.{Decides, CanDo, Makes, MakesNone, IsToldAgain, Reacts, ReactsSo, MayCome, IsSame};
 
     /// What the machine makes of an input. Nothing is written.
@@ -38,24 +39,55 @@ impl<L: Log> Node<L> {
         requires whole { L.is_broken self.old.log ≡ false }
         requires known { (n : Situation) × Knows self.old n }
         requires counted { IsCounted L.size L.keeps_body self.old }
+        requires apt { IsApt self.old.ledger.state input.now }
 
         // Where the disk tells its bytes, and on every disk where no record is read for the input.
         ensures exact { IfOk result (λ r. Tells_bytes (D.view disk.new) → (n : Situation) → Knows self.old n → Stored L.holds self.old n.history (D.view disk.old)
             → Reacts r (react n (input_of input.now))) }
         ensures unread { IfOk result (λ r. (n : Situation) → Knows self.old n → IsUnread n (input_of input.now) → Reacts r (react n (input_of input.now))) }
-        ensures so { IfOk result (λ r. (n : Situation) → Knows self.old n → ReactsSo r (react n (input_of input.now))) }
+        ensures so { IfOk result (λ r. (n : Situation) → Knows self.old n → ReactsSo r n (input_of input.now)) }
         ensures may { IfOk result (λ r. IfSome r.change (MayCome Knows self.old)) }
         ensures few { IfOk result (λ r. length r.out ≤ 2) }
+        ensures untold { IfOk result (λ r. is_own (input_of input.now) ≡ true → r.out ≡ []) }
         ensures rests { (n : Situation) → Knows self.old n → IsUnread n (input_of input.now) → (react n (input_of input.now)).grown ≡ None → disk.new ≡ disk.old }
+        ensures same { IsSame self.old self.new }
+        ensures looked { Looked (result ≡ Err Fault.DiskFault) (D.view disk.old) (D.view disk.new) }
+        ensures reads { (D.view disk.new).write_faults ≡ (D.view disk.old).write_faults }
+        ensures accepts { OnOk result ((n : Situation) → Knows self.old n → IsCertain n (input_of input.now) → is_refused n (input_of input.now) ≡ false) }
+        ensures told_accepts { OnOk result (Tells_bytes (D.view disk.new) → (n : Situation) → Knows self.old n → Stored L.holds self.old n.history (D.view disk.old)
+            → is_refused n (input_of input.now) ≡ false) }
+        ensures no_snapshot { (k : ℕ) → result ≡ Err (Fault.NoSnapshot k) → (n : Situation) → Knows self.old n → is_refused n (Forget k) ≡ true }
+        ensures clash { (c : Pair) → result ≡ Err (Fault.Clash c) → Tells_bytes (D.view disk.new) → (n : Situation) → Knows self.old n → Stored L.holds self.old n.history (D.view disk.old)
+            → (is_refused n (input_of input.now) ≡ true) × IsHeldAs n (input_of input.now) c.first }
+        ensures altered { (name : List ℕ) → result ≡ Err (Fault.Altered name) → Tells_bytes (D.view disk.new) → (n : Situation) → Knows self.old n → ¬ Stored L.holds self.old n.history (D.view disk.old) }
+        ensures only { OnErr result ((result ≡ Err Fault.DiskFault) ⊎ (result ≡ Err Fault.Memory) ⊎ Refuses (input_of input.now) result) }
+    {
+        match input {
+            Input::Frame(datagram) => self.on_datagram(disk, datagram),
+            Input::Tick(_) => Ok(quiet(self.alloc, None)),
+            Input::Keep(sealed) => self.on_keep(disk, &sealed.reference().name, sealed.body()),
+            Input::Snap(note) => self.on_snap(note),
+            Input::Forget(number) => self.on_forget(*number),
+        }
+    }
+
+    /// What the machine makes of a datagram.
+    fn on_datagram<D: Disk>(&mut self, disk: &mut D, datagram: &[u8]) -> Result<Reaction, Fault>
+        requires whole { L.is_broken self.old.log ≡ false }
+        requires known { (n : Situation) × Knows self.old n }
+        requires counted { IsCounted L.size L.keeps_body self.old }
+        ensures exact { IfOk result (λ r. Tells_bytes (D.view disk.new) → (n : Situation) → Knows self.old n → Stored L.holds self.old n.history (D.view disk.old)
+            → Reacts r (react n (Datagram datagram.now))) }
+        ensures unread { IfOk result (λ r. (n : Situation) → Knows self.old n → IsUnread n (Datagram datagram.now) → Reacts r (react n (Datagram datagram.now))) }
+        ensures so { IfOk result (λ r. (n : Situation) → Knows self.old n → ReactsSo r n (Datagram datagram.now)) }
+        ensures may { IfOk result (λ r. IfSome r.change (MayCome Knows self.old)) }
+        ensures few { IfOk result (λ r. length r.out ≤ 2) }
+        ensures rests { (n : Situation) → Knows self.old n → IsUnread n (Datagram datagram.now) → (react n (Datagram datagram.now)).grown ≡ None → disk.new ≡ disk.old }
         ensures same { IsSame self.old self.new }
         ensures looked { Looked (result ≡ Err Fault.DiskFault) (D.view disk.old) (D.view disk.new) }
         ensures reads { (D.view disk.new).write_faults ≡ (D.view disk.old).write_faults }
         ensures only { OnErr result ((result ≡ Err Fault.DiskFault) ⊎ (result ≡ Err Fault.Memory)) }
     {
-        let datagram = match input {
-            Input::Frame(datagram) => datagram,
-            Input::Tick(_) => return Ok(quiet(self.alloc, None)),
-        };
         match self.decide(datagram) {
             Decision::Drop(why) => Ok(quiet(self.alloc, Some(why))),
             Decision::Pass => Ok(quiet(self.alloc, None)),

@@ -1,20 +1,56 @@
-ghost use Rattle.std.specs.Prelude.{◌≡◌, IfOk, IsTrue, None};
+ghost use Rattle.std.specs.Prelude.{◌≡◌, ◌+◌, ◌*◌, ◌<◌, ◌≤◌, ◌^◌, ◌++◌, length, flat_map, IfOk, IsTrue, None};
 ghost use Rattle.psb_model.specs.Heads.{head_of};
-ghost use Rattle.psb_model.specs.declared.change.Change.TheVariants.{Begun, TookFresh, Refused};
+ghost use Rattle.psb_model.specs.Grammar.{in_grammar};
+ghost use Rattle.psb_model.specs.declared.change.Change.TheVariants.{Begun, Kept, Snapped, Forgot, TookFresh, Refused};
 ghost use Rattle.psb_model.specs.History.{is_built};
 
-use super::fields::{FreshFields, RefusedFields};
-use psb_bytes::{Memory, Page};
+use super::fields::{FreshFields, KeptFields, RefusedFields, SnappedFields};
+use psb_bytes::{Digest, Memory, Page};
 use psb_model::Change;
 use std::alloc::Global;
 
 /// The head of a change: its kind, and its fields in order, numbers high byte first.
 pub fn encode_change(alloc: Global, c: &Change) -> Result<Vec<u8>, Memory>
-    requires { IsTrue (is_built c.now) }
+    requires kind { IsTrue (is_built c.now) }
+    requires grammar { IsTrue (in_grammar c.now) }
     ensures { IfOk result (λ v. v.items ≡ head_of c.now) }
 {
     match c {
         Change::Begun { .. } => begun(alloc),
+        Change::Kept {
+            name,
+            len,
+            new,
+            body: _,
+        } => kept(
+            alloc,
+            KeptFields {
+                name: *name,
+                len: *len,
+                new: *new,
+            },
+        ),
+        Change::Snapped {
+            number,
+            ticket,
+            files,
+            folders,
+            bytes,
+            left,
+            names,
+        } => snapped(
+            alloc,
+            SnappedFields {
+                number: *number,
+                ticket: *ticket,
+                files: *files,
+                folders: *folders,
+                bytes: *bytes,
+                left: *left,
+            },
+            names.as_slice(),
+        ),
+        Change::Forgot { number } => forgot(alloc, *number),
         Change::TookFresh {
             peer,
             deal,
@@ -57,6 +93,52 @@ fn begun(alloc: Global) -> Result<Vec<u8>, Memory>
 {
     let mut page = Page::with_room(alloc, 1)?;
     page.put_u8(1);
+    Ok(page.done())
+}
+
+fn kept(alloc: Global, x: KeptFields) -> Result<Vec<u8>, Memory>
+    ensures { IfOk result (λ v. v.items ≡ head_of (Kept x.name x.len x.new None)) }
+{
+    let mut page = Page::with_room(alloc, 38)?;
+    page.put_u8(2);
+    page.put_slice(&x.name.0);
+    page.put_u32(x.len);
+    page.put_u8(x.new as u8);
+    Ok(page.done())
+}
+
+fn snapped(alloc: Global, x: SnappedFields, names: &[Digest]) -> Result<Vec<u8>, Memory>
+    requires { length names.now < 2 ^ 32 }
+    ensures { IfOk result (λ v. v.items ≡ head_of (Snapped x.number x.ticket x.files x.folders x.bytes x.left names.now)) }
+{
+    let mut page = Page::with_room(alloc, 98 + 32 * names.len())?;
+    page.put_u8(3);
+    page.put_u32(x.number);
+    page.put_slice(&x.ticket.bytes());
+    page.put_u32(x.files);
+    page.put_u32(x.folders);
+    page.put_u64(x.bytes);
+    page.put_u32(x.left);
+    page.put_u32(names.len() as u32);
+    put_names(&mut page, names);
+    Ok(page.done())
+}
+
+fn put_names(page: &mut Page, names: &[Digest])
+    requires { length page.old.bytes + 32 * length names.now ≤ page.old.room }
+    ensures { page.new.bytes ≡ page.old.bytes ++ flat_map (λ name. name) names.now }
+{
+    for name in names {
+        page.put_slice(&name.0);
+    }
+}
+
+fn forgot(alloc: Global, number: u32) -> Result<Vec<u8>, Memory>
+    ensures { IfOk result (λ v. v.items ≡ head_of (Forgot number)) }
+{
+    let mut page = Page::with_room(alloc, 5)?;
+    page.put_u8(4);
+    page.put_u32(number);
     Ok(page.done())
 }
 

@@ -1,4 +1,4 @@
-use psb_bytes::{Digest, PeerId};
+use psb_bytes::{Digest, PeerId, Ticket};
 
 /// A chunk that was stored for a peer against new slots there, as its change has it.
 #[derive(Clone, Copy)]
@@ -18,4 +18,23 @@ pub struct RefusedFields {
     pub deal: u64,
     pub why: u8,
     pub detail: u64,
+}
+
+/// A chunk that was kept as one of the node's own, as its change has it.
+#[derive(Clone, Copy)]
+pub struct KeptFields {
+    pub name: Digest,
+    pub len: u32,
+    pub new: bool,
+}
+
+/// A snapshot that was made, as its change has it in front of its names.
+#[derive(Clone, Copy)]
+pub struct SnappedFields {
+    pub number: u32,
+    pub ticket: Ticket,
+    pub files: u32,
+    pub folders: u32,
+    pub bytes: u64,
+    pub left: u32,
 }

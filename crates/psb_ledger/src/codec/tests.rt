@@ -1,5 +1,7 @@
 use super::*;
+use psb_bytes::{Digest, Memory, Ticket};
 use psb_model::Change;
+use std::alloc::Global;
 use std::test::Fail;
 
 const SETTINGS: &[u8; 274] =
@@ -19,6 +21,40 @@ const REFUSED: [u8; 22] = [
     10, 0, 0, 0, 2, 0, 0, 0, 0, 0, 0, 0, 2, 8, 0, 0, 0, 0, 0, 0, 0, 1,
 ];
 
+/// The same bytes, kept as an own chunk.
+const KEPT: [u8; 38] = [
+    2, 0xd8, 0x6e, 0x38, 0x62, 0x78, 0xa7, 0x17, 0x82, 0xa2, 0x83, 0xf9, 0x6a, 0xae, 0x4f, 0x4e,
+    0x74, 0x37, 0x47, 0x1a, 0xbe, 0xf7, 0x11, 0x36, 0xbd, 0x27, 0x11, 0xf9, 0x82, 0x45, 0x48, 0x8d,
+    0x89, 0, 0, 2, 0, 1,
+];
+
+/// Snapshot 1 was forgotten.
+const FORGOT: [u8; 5] = [4, 0, 0, 0, 1];
+
+/// Snapshot 1 of 3 files in 2 folders, with 256 bytes and two names; one file was left out.
+fn snapped(alloc: Global) -> Result<Vec<u8>, Memory> {
+    let parts: [&[u8]; 13] = [
+        &[3],
+        &[0, 0, 0, 1],
+        &[4; 32],
+        &[5; 32],
+        &[0, 0, 2, 0],
+        &[1],
+        &[0, 0, 0, 3],
+        &[0, 0, 0, 2],
+        &[0, 0, 0, 0, 0, 0, 1, 0],
+        &[0, 0, 0, 1],
+        &[0, 0, 0, 2],
+        &[6; 32],
+        &[7; 32],
+    ];
+    let mut head = Vec::new(alloc);
+    for part in parts {
+        head.extend_from_slice(part)?;
+    }
+    Ok(head)
+}
+
 /// The bytes that the peer stored: 0 to 250, over and over.
 fn stored() -> [u8; 512] {
     let mut bytes = [0; 512];
@@ -31,7 +67,15 @@ fn stored() -> [u8; 512] {
 #[test]
 fn records_of_a_first_path_are_read_and_written(rt: HostRuntime) -> Result<(), Fail> {
     let stored = stored();
-    let records: [(&[u8], &[u8]); 3] = [(&BEGUN, SETTINGS), (&FRESH, &stored), (&REFUSED, &[])];
+    let snapped = snapped(rt.alloc())?;
+    let records: [(&[u8], &[u8]); 6] = [
+        (&BEGUN, SETTINGS),
+        (&KEPT, &stored),
+        (snapped.as_slice(), &[]),
+        (&FORGOT, &[]),
+        (&FRESH, &stored),
+        (&REFUSED, &[]),
+    ];
     for (head, body) in records {
         let c = decode_change(rt.alloc(), head, Some(body))?;
         assert_eq!(rt; encode_change(rt.alloc(), &c)?.as_slice(), head);
@@ -64,9 +108,73 @@ fn the_fields_of_a_stored_chunk_are_those_of_its_head(rt: HostRuntime) -> Result
 }
 
 #[test]
+fn the_fields_of_a_snapshot_are_those_of_its_head(rt: HostRuntime) -> Result<(), Fail> {
+    let head = snapped(rt.alloc())?;
+    match decode_change(rt.alloc(), head.as_slice(), None)? {
+        Change::Snapped {
+            number,
+            ticket,
+            files,
+            folders,
+            bytes,
+            left,
+            names,
+        } => {
+            assert_eq!(rt; (number, files, folders, bytes, left), (1, 3, 2, 256, 1));
+            let Ticket { reference, levels } = ticket;
+            assert_eq!(rt;
+                (
+                    reference.name.0[0],
+                    reference.handle.0[0],
+                    reference.len,
+                    levels
+                ),
+                (4, 5, 512, 1)
+            );
+            assert!(rt;
+                names
+                    .as_slice()
+                    .iter()
+                    .eq(&[Digest([6; 32]), Digest([7; 32])])
+            );
+        }
+        _ => assert!(rt; false, "another kind"),
+    }
+    Ok(())
+}
+
+#[test]
+fn a_snapshot_outside_the_grammar_is_none(rt: HostRuntime) -> Result<(), Fail> {
+    let bytes = [
+        ("a ticket of no length", 71, 0),
+        ("5 levels", 73, 5),
+        ("a name too few", 97, 3),
+        ("a name too many", 97, 1),
+        ("names for more memory than there is", 94, 0xff),
+    ];
+    for (what, place, byte) in bytes {
+        let mut head = snapped(rt.alloc())?;
+        if place < head.len() {
+            head[place] = byte;
+        }
+        let answer = decode_change(rt.alloc(), head.as_slice(), None).err();
+        assert_eq!(rt; answer, Some(ChangeError::BadHead), "{what}");
+    }
+    Ok(())
+}
+
+#[test]
 fn a_head_that_is_cut_or_longer_is_none(rt: HostRuntime) -> Result<(), Fail> {
     let stored = stored();
-    let records: [(&[u8], &[u8]); 3] = [(&BEGUN, SETTINGS), (&FRESH, &stored), (&REFUSED, &[])];
+    let snapped = snapped(rt.alloc())?;
+    let records: [(&[u8], &[u8]); 6] = [
+        (&BEGUN, SETTINGS),
+        (&KEPT, &stored),
+        (snapped.as_slice(), &[]),
+        (&FORGOT, &[]),
+        (&FRESH, &stored),
+        (&REFUSED, &[]),
+    ];
     for (head, body) in records {
         for end in 0..head.len() {
             let cut = decode_change(rt.alloc(), &head[..end], Some(body)).err();
@@ -94,7 +202,7 @@ fn fields_and_bodies_outside_the_grammar_are_none(rt: HostRuntime) {
     let stored = stored();
     let whole: &[u8] = &stored;
     let heads = [
-        ("kind 2", with(&FRESH, 0, 2), Some(whole)),
+        ("kind 6", with(&FRESH, 0, 6), Some(whole)),
         ("flag 2", with(&FRESH, 53, 2), Some(whole)),
         (
             "held already, with a body",

@@ -3,7 +3,7 @@ ghost use Rattle.psb_model.specs.Grammar.{in_grammar};
 
 use super::*;
 use crate::Opening;
-use psb_bytes::Bytes;
+use psb_bytes::{Bytes, DigestList, Ref, Ticket};
 use std::process::Abort;
 use std::test::Fail;
 
@@ -54,7 +54,7 @@ fn make(rt: &impl Abort, ledger: &mut Ledger, c: Change) -> Result<Result<(), No
 {
     ledger.make_room(&c)?;
     assert!(rt; ledger.changes() < 1000);
-    Ok(ledger.apply(&c))
+    Ok(ledger.apply(c))
 }
 
 /// The change is not taken, and the sums and the last deal stay.
@@ -227,8 +227,132 @@ fn other_changes_whose_condition_fails_are_not_made(rt: HostRuntime) -> Result<(
         &rt,
         &mut ledger,
         "a kind that is not built",
-        Change::Forgot { number: 1 },
+        Change::Turned {
+            peer: PEER,
+            deal: 1,
+            why: 1,
+            detail: 0,
+        },
     )?;
+    Ok(())
+}
+
+/// An own chunk of 600 bytes, whose name has the byte `tag` 32 times.
+fn kept(tag: u8, new: bool) -> Change
+    ensures { IsTrue (in_grammar result) }
+{
+    Change::Kept {
+        name: Digest([tag; 32]),
+        len: 600,
+        new,
+        body: None,
+    }
+}
+
+/// A snapshot of two names.
+fn snapped(alloc: Global, number: u32, tags: [u8; 2]) -> Result<Change, Memory>
+    ensures { IfOk result (λ c. IsTrue (in_grammar c)) }
+{
+    let [first, second] = tags;
+    let names = [Digest([first; 32]), Digest([second; 32])];
+    let reference = Ref {
+        name: Digest([0; 32]),
+        handle: Digest([0; 32]),
+        len: 600,
+    };
+    Ok(Change::Snapped {
+        number,
+        ticket: Ticket {
+            reference,
+            levels: 0,
+        },
+        files: 2,
+        folders: 0,
+        bytes: 1000,
+        left: 0,
+        names: DigestList::copy(alloc, &names)?,
+    })
+}
+
+fn forgot(number: u32) -> Change
+    ensures { IsTrue (in_grammar result) }
+{
+    Change::Forgot { number }
+}
+
+/// A ledger with a peer's chunk 7, the own chunks 1, 2, 3 and 7, and snapshots of 1 and 2 and of 2
+/// and 3.
+fn with_snapshots(rt: &impl Abort, alloc: Global) -> Result<Ledger, Memory> {
+    let mut ledger = with_one_chunk(rt, alloc)?;
+    for tag in [2, 7, 1, 3] {
+        assert_eq!(rt; make(rt, &mut ledger, kept(tag, tag != 7))?, Ok(()));
+    }
+    for (number, tags) in [(1, [1, 2]), (2, [2, 3])] {
+        assert_eq!(rt;
+            make(rt, &mut ledger, snapped(alloc, number, tags)?)?,
+            Ok(())
+        );
+    }
+    Ok(ledger)
+}
+
+/// Whether the chunks 1, 2, 3 and 7 are own ones.
+fn are_own(ledger: &Ledger) -> [bool; 4] {
+    [1, 2, 3, 7].map(|tag| ledger.has_own(&Digest([tag; 32])))
+}
+
+#[test]
+fn a_name_that_two_snapshots_list_stays_when_one_is_forgotten(rt: HostRuntime) -> Result<(), Fail> {
+    let mut ledger = with_snapshots(&rt, rt.alloc())?;
+    assert_eq!(rt; are_own(&ledger), [true; 4]);
+    assert_eq!(rt; ledger.kept().len(), 2);
+    assert_eq!(rt;
+        ledger.snapped(),
+        Some(SnapMark {
+            number: 2,
+            change: 7
+        })
+    );
+    assert_eq!(rt; make(&rt, &mut ledger, forgot(1))?, Ok(()));
+    assert_eq!(rt; are_own(&ledger), [false, true, true, false]);
+    assert_eq!(rt; ledger.kept().len(), 1);
+    assert!(rt; ledger.is_held(&Digest([7; 32])));
+    assert_eq!(rt; ledger.own_len(&Digest([2; 32])), Some(600));
+    assert_eq!(rt; ledger.own_len(&Digest([1; 32])), None);
+    let walk = [
+        (None, Some(2)),
+        (Some(1), Some(2)),
+        (Some(2), Some(3)),
+        (Some(3), None),
+    ];
+    for (from, to) in walk {
+        let name = from.map(|tag| Digest([tag; 32]));
+        let next = ledger.own_after(name.as_ref()).map(|e| e.name.0[0]);
+        assert_eq!(rt; next, to);
+    }
+    Ok(())
+}
+
+#[test]
+fn own_changes_whose_condition_fails_are_not_made(rt: HostRuntime) -> Result<(), Fail> {
+    let mut ledger = with_snapshots(&rt, rt.alloc())?;
+    let chunks = [
+        ("a name that is there", 2),
+        ("a new name, said to be held", 4),
+    ];
+    for (what, tag) in chunks {
+        stays(&rt, &mut ledger, what, kept(tag, false))?;
+    }
+    let snapshots = [
+        ("a number again", 2, [1, 2]),
+        ("a name that is not own", 3, [1, 4]),
+        ("names that do not ascend", 3, [2, 1]),
+    ];
+    for (what, number, tags) in snapshots {
+        let c = snapped(rt.alloc(), number, tags)?;
+        stays(&rt, &mut ledger, what, c)?;
+    }
+    stays(&rt, &mut ledger, "no snapshot of the number", forgot(3))?;
     Ok(())
 }
 
@@ -238,7 +362,7 @@ fn read(rt: &impl Abort, opening: &mut Opening, c: Change) -> Result<Result<(), 
 {
     opening.make_room(&c)?;
     assert!(rt; opening.changes() < 1000);
-    Ok(opening.apply(&c))
+    Ok(opening.apply(c))
 }
 
 /// The chunk of 2 units that the deal behind `count` others of this length stores.

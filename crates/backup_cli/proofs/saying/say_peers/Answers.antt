@@ -4,7 +4,7 @@ use Rattle.psb_settings.specs.declared.settings.PeerRow.{PeerRow}
 use Rattle.psb_settings.specs.declared.settings.Settings.{Settings}
 use Rattle.backup_cli.specs.Commanded.{joined_lines}
 use Rattle.backup_cli.specs.Says.{Utters, SaysLines, line_of_row}
-use Rattle.backup_cli.proofs.LinesSaid.{peer_said, failed_line, all_said}
+use Rattle.backup_cli.proofs.LinesSaid.{item_said, failed_line, all_said}
 use Rattle.backup_cli.proofs.Utterances.{utters_none, only_said, either_says}
 use Rattle.backup_cli.proofs.saying.say_peers.Goals as goal
 
@@ -21,7 +21,7 @@ returns-in-Err-clause-says g c = λ settings present.
 
 pub loop-peer-preserved : goal.loop-peer-preserved
 loop-peer-preserved g c = record {
-  said = peer_said (line_of_row c.args.ledger.now.state) c.as_slice-peer-items.result.now (g.S.Disk.view c.args.station.now) (g.S.Disk.view c.loop-peer.station) (g.S.Disk.view c.say_peer.new.station) c.loop-peer.peer-index c.peer-item.result
+  said = item_said (line_of_row c.args.ledger.now.state) c.as_slice-peer-items.result.now (g.S.Disk.view c.args.station.now) (g.S.Disk.view c.loop-peer.station) (g.S.Disk.view c.say_peer.new.station) c.loop-peer.peer-index c.peer-item.result
       c.loop-peer-test.true (sym c.peer-item.is) c.loop-peer.invariant.said c.in-Ok.ensures.ok;
   steady = c.in-Ok.ensures.steady ∙ c.loop-peer.invariant.steady;
 }

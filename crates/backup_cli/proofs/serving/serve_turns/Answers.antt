@@ -47,8 +47,8 @@ returns-in-Err-Link-clause-fares g c = λ tells h settings k present st.
     fares_turns g.L.Log.holds g.L.Log.stands g.L.Log.is_broken g.met.L.Log.holds_stands LinkFault c.args.node.now c.serve.new.node h settings (g.S.Disk.view c.args.station.now) (g.S.Disk.view c.join_all.new.station) (g.S.Disk.view c.serve.new.station) c.args.turns _ r.0 r.2 _
     c.requires.whole by (ap is_fed by) (own_peers c.args.node.now h settings k present) st tells (c.serve.ensures.tells tells) (c.in-Ok.ensures.joined (fresh h) settings k present) r.3
 
-pub returns-in-Err-Memory-clause-fares : goal.returns-in-Err-Memory-clause-fares
-returns-in-Err-Memory-clause-fares g c = λ tells h settings k present st.
+pub returns-clause-fares : goal.returns-clause-fares
+returns-clause-fares g c = λ tells h settings k present st.
     let r = c.in-Err-Memory.ensures.ran in
     let by = subst (λ (f : ServeFault). IsEnd {A = Total} (Err f) r.0) c.in-Err-Memory.field-0-is r.1 in
     fares_turns g.L.Log.holds g.L.Log.stands g.L.Log.is_broken g.met.L.Log.holds_stands Memory c.args.node.now c.serve.new.node h settings (g.S.Disk.view c.args.station.now) (g.S.Disk.view c.join_all.new.station) (g.S.Disk.view c.serve.new.station) c.args.turns _ r.0 r.2 _

@@ -1,9 +1,10 @@
-use Rattle.std.proofs.Common.{◌≡◌, ⊎_elim, inl, inr, ℕ, ◌+◌, ◌++◌, List, [], ◌∷◌, take, drop, Option, Some, None, true, false, refl, sym, ap, subst, ◌∙◌, arith}
+use Rattle.std.proofs.Common.{◌≡◌, ⊎_elim, inl, inr, ℕ, ◌+◌, ◌++◌, List, [], ◌∷◌, take, drop, Option, Some, None, Err, true, false, refl, sym, ap, subst, ◌∙◌, rules, arith}
 use Rattle.std.proofs.lemmas.List.{take_more, take-append-drop}
 use Rattle.psb_machine.specs.Machine.{Tick}
 use Rattle.psb_machine.specs.Commands.{ticks}
 use Rattle.node_serve.specs.Spans.{Fed, Tally, tally_sum}
-use Rattle.node_serve.specs.Turns.{turn_tally}
+use Rattle.node_core.proofs.Presence.{err_is}
+use Rattle.node_serve.specs.Turns.{turn_tally, serve_fault_of}
 use Rattle.node_serve.proofs.OneTurn.{only_then, ticks-append, tick_more}
 use Rattle.node_serve.proofs.Runs.{counts_same, counts_then, fed_none, fed_cut, fed_as}
 use Rattle.node_serve.proofs.serving.tick_all.Goals as goal
@@ -40,7 +41,9 @@ returns-in-Err-clause-fed g c = λ tells n k st.
     (fed_cut g.L.Log.holds g.L.Log.stands g.L.Log.is_broken g.met.L.Log.holds_stands c.args.node.now c.feed.new.node v0 v2 n (ticks (take i peers ++ p ∷ [])) (ticks (drop (i + 1) peers)) None r)
 
 pub returns-in-Err-clause-steady : goal.returns-in-Err-clause-steady
-returns-in-Err-clause-steady g c = ⊎_elim (λ bad. inl bad) (λ same. inr (same ∙ c.loop-peer.invariant.steady)) c.in-Err.ensures.steady
+returns-in-Err-clause-steady g c =
+    let from : c.from.result ≡ serve_fault_of c.in-Err.fault = search rules in
+    ⊎_elim (λ bad. inl (ap (λ f. Err f) (from ∙ ap serve_fault_of (err_is _ _ bad)))) (λ same. inr (same ∙ c.loop-peer.invariant.steady)) c.in-Err.ensures.steady
 
 pub returns-clause-steady : goal.returns-clause-steady
 returns-clause-steady g c = inr c.loop-peer.invariant.steady

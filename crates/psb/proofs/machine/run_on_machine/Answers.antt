@@ -16,3 +16,9 @@ returns-clause-serves g c = λ turns words told h settings valid holds set. c.ru
 
 pub returns-clause-lists : goal.returns-clause-lists
 returns-clause-lists g c = λ words told h settings valid holds set. c.run.ensures.lists words told h settings (held_first _ _ h c.requires.begun.reads valid holds) set
+
+pub returns-clause-shows : goal.returns-clause-shows
+returns-clause-shows g c = λ words told h valid holds. c.run.ensures.shows words told h (held_first _ _ h c.requires.begun.reads valid holds)
+
+pub returns-clause-forgets : goal.returns-clause-forgets
+returns-clause-forgets g c = λ number words told h valid holds. c.run.ensures.forgets number words told h (held_first _ _ h c.requires.begun.reads valid holds)

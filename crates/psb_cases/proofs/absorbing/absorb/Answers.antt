@@ -33,7 +33,3 @@ returns-in-Err-Memory-clause-ready g c = λ whole well.
 pub returns-in-Err-Broken-clause-ready : goal.returns-in-Err-Broken-clause-ready
 returns-in-Err-Broken-clause-ready g c = λ whole well.
     still_ready g.L.Log.holds c.args.node.now c.absorb.new.self (g.D.Disk.view c.args.disk.now) (g.D.Disk.view c.absorb.new.disk) (c.requires.ready whole) c.absorb.ensures.works.tells (c.in-Err-Broken.ensures.kept well)
-
-pub returns-in-Err-clause-ready : goal.returns-in-Err-clause-ready
-returns-in-Err-clause-ready g c = λ whole well.
-    still_ready g.L.Log.holds c.args.node.now c.absorb.new.self (g.D.Disk.view c.args.disk.now) (g.D.Disk.view c.absorb.new.disk) (c.requires.ready whole) c.absorb.ensures.works.tells (c.in-Err.ensures.kept well)

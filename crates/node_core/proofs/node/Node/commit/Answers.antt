@@ -1,24 +1,36 @@
-use Rattle.std.proofs.Common.{◌≡◌, ◌≤◌, ℕ, ◌+◌, true, [], refl, sym, ◌∙◌, ap, subst, arith, rules}
+use Rattle.std.proofs.Common.{◌≡◌, ◌≤◌, ℕ, ◌+◌, true, refl, sym, ◌∙◌, ap, subst, arith, rules}
 use Rattle.std.proofs.lemmas.Bool.{and_parts}
 use Rattle.psb_model.specs.State.{State}
 use Rattle.psb_model.specs.Conditions.{allowed}
 use Rattle.node_core.specs.Names.{Enters}
-use Rattle.node_core.proofs.Entered.{names_same, is_new, there_same, there_grown}
-use Rattle.std.specs.Option.{unwrap_or}
+use Rattle.node_core.proofs.Entered.{names_same, is_new, enters_of, there_same, there_grown}
+use Rattle.node_core.proofs.Ordering.{IsOrdered, ordered_state}
 use Rattle.psb_station.proofs.Spans.{shows_wider}
 use Rattle.psb_model.specs.Effects.{after}
-use Rattle.psb_model.specs.Heads.{head_of, body_of}
+use Rattle.psb_model.specs.Heads.{head_of}
 use Rattle.node_core.proofs.Committing.{knows_still, counted_still, step_knows, step_stored, step_leaves, stored_room}
 use Rattle.node_core.proofs.Presence.{on_err}
 use Rattle.node_core.proofs.node.Node.commit.Goals as goal
+
+pub of-requires-clause-own : goal.of-requires-clause-own
+of-requires-clause-own g c =
+    let n = c.requires.known.0 in
+    let k = c.requires.known.1 in
+    (subst IsOrdered (sym k.ledger) (ordered_state n.history k.valid.lawful k.valid.built)).own
+
+pub of-requires-clause-kept : goal.of-requires-clause-kept
+of-requires-clause-kept g c =
+    let n = c.requires.known.0 in
+    let k = c.requires.known.1 in
+    (subst IsOrdered (sym k.ledger) (ordered_state n.history k.valid.lawful k.valid.built)).kept
 
 pub enter-requires-clause-fresh : goal.enter-requires-clause-fresh
 enter-requires-clause-fresh g c =
     let n = c.requires.known.0 in
     let k = c.requires.known.1 in
     let node = c.args.self.now in
-    is_new c.make_room-2.new.self n.history node.ledger.state c.args.change.now (names_same node.names c.make_room-2.new.self n.history (record { owners = c.make_room-2.ensures.owners; records = c.make_room-2.ensures.records }) k.names) k.ledger c.requires.may.read
-    (and_parts _ (allowed node.ledger.state c.args.change.now) c.requires.may.may).1
+    is_new c.make_room-2.new.self n.history node.ledger.state c.args.change c.in_ok-entering.entering (names_same node.names c.make_room-2.new.self n.history (record { owners = c.make_room-2.ensures.owners; records = c.make_room-2.ensures.records }) k.names) k.ledger c.requires.may.read
+    (and_parts _ (allowed node.ledger.state c.args.change) c.requires.may.may).1 c.in_ok-entering.ensures
 
 pub returns-in_err-make_room-2-clause-kept : goal.returns-in_err-make_room-2-clause-kept
 returns-in_err-make_room-2-clause-kept g c = on_err c.from_residual-in_err-make_room-2.result _ (λ whole. (
@@ -43,43 +55,42 @@ returns-in_err-make_room-3-clause-again g c = on_err c.from_residual-in_err-make
 
 pub returns-in_err-number-clause-any_moment : goal.returns-in_err-number-clause-any_moment
 returns-in_err-number-clause-any_moment g c = λ tells n m valid step s.
-    let head_is : c.deref.result.now ≡ head_of c.args.change.now = search rules in
-    let body_is : c.unwrap_or-body.result.now ≡ unwrap_or (body_of c.args.change.now) [] = search rules in
-    step_leaves g.L.Log.holds g.L.Log.stands c.args.self.now n m c.args.change.now c.deref.result.now c.unwrap_or-body.result.now _ _ _ _ c.requires.may valid step head_is body_is s
+    let head_is : c.deref.result.now ≡ head_of c.args.change = search rules in
+    step_leaves g.L.Log.holds g.L.Log.stands c.args.self.now n m c.args.change c.deref.result.now c.body_part-body.result.now _ _ _ _ c.requires.may valid step head_is c.body_part-body.ensures s
     (c.in_err-number.ensures.any_moment (c.in_ok-make_room-3.ensures.broken ∙ c.requires.whole) tells s.records (shows_wider (g.L.Log.holds c.args.self.now.log s.records) (g.L.Log.holds c.make_room-3.new.self s.records) _ (λ i held. c.in_ok-make_room-3.ensures.holds s.records i held) s.shows))
 
 pub returns-clause-step : goal.returns-clause-step
 returns-clause-step g c = λ n m k step.
-    let grown : c.apply.new.self.state ≡ after c.args.self.now.ledger.state c.args.change.now = search rules in
+    let grown : c.apply.new.self.state ≡ after c.args.self.now.ledger.state c.args.change = search rules in
     let issued : c.apply.new.self.state.issued ≤ c.issue_to.new.claims.issued = omega (arith, c.issued.ensures, c.issue_to.ensures.issued) in
-    step_knows c.args.self.now _ n m c.args.change.now c.make_room-2.new.self c.in_ok-number.number c.requires.may k step grown (record { owners = c.make_room-2.ensures.owners; records = c.make_room-2.ensures.records }) c.enter.ensures
+    let entered = enters_of c.args.self.now.ledger.state c.make_room-2.new.self c.enter.new.names c.args.change c.in_ok-entering.entering c.in_ok-number.number c.requires.may.read c.in_ok-entering.ensures c.enter.ensures in
+    step_knows c.args.self.now _ n m c.args.change c.make_room-2.new.self c.in_ok-number.number c.requires.may k step grown (record { owners = c.make_room-2.ensures.owners; records = c.make_room-2.ensures.records }) entered
     (c.requires.counted.changes ∙ sym c.in_ok-make_room-3.ensures.size ∙ sym c.in_ok-number.ensures.number) (record { peers = refl; seed = c.issue_to.ensures.seed; issued = c.issue_to.ensures.stay }) issued
 
 pub returns-clause-counted : goal.returns-clause-counted
 returns-clause-counted g c =
     let node = c.args.self.now in
-    let grown : c.apply.new.self.state ≡ after node.ledger.state c.args.change.now = search rules in
+    let grown : c.apply.new.self.state ≡ after node.ledger.state c.args.change = search rules in
     let long : g.L.Log.size c.append.new.self ≡ g.L.Log.size node.log + 1 = c.in_ok-number.ensures.size ∙ ap (λ (i : ℕ). i + 1) c.in_ok-make_room-3.ensures.size in
     let here : c.in_ok-number.number ≡ g.L.Log.size node.log = c.in_ok-number.ensures.number ∙ c.in_ok-make_room-3.ensures.size in
+    let entered = enters_of node.ledger.state c.make_room-2.new.self c.enter.new.names c.args.change c.in_ok-entering.entering c.in_ok-number.number c.requires.may.read c.in_ok-entering.ensures c.enter.ensures in
     record {
       changes = omega (arith, ap (λ (s : State). s.changes) grown, c.requires.counted.changes, long);
-      bodies = there_grown c.make_room-2.new.self c.enter.new.names c.args.change.now (g.L.Log.size node.log) (g.L.Log.size c.append.new.self) (g.L.Log.keeps_body node.log) (g.L.Log.keeps_body c.append.new.self) c.requires.may.read long
+      bodies = there_grown node.ledger.state c.make_room-2.new.self c.enter.new.names c.args.change (g.L.Log.size node.log) (g.L.Log.size c.append.new.self) (g.L.Log.keeps_body node.log) (g.L.Log.keeps_body c.append.new.self) c.requires.may.read long
           (λ i lt. c.in_ok-number.ensures.bodies i (omega (arith, lt, c.in_ok-make_room-3.ensures.size)) ∙ c.in_ok-make_room-3.ensures.bodies i)
           (subst (λ (i : ℕ). g.L.Log.keeps_body c.append.new.self i ≡ true) c.in_ok-make_room-3.ensures.size c.in_ok-number.ensures.there)
           (there_same node.names c.make_room-2.new.self (g.L.Log.size node.log) (g.L.Log.keeps_body node.log) (record { owners = c.make_room-2.ensures.owners; records = c.make_room-2.ensures.records }) c.requires.counted.bodies)
-          (subst (λ (i : ℕ). Enters c.make_room-2.new.self c.enter.new.names c.args.change.now i) here c.enter.ensures);
+          (subst (λ (i : ℕ). Enters node.ledger.state c.make_room-2.new.self c.enter.new.names c.args.change i) here entered);
     }
 
 pub returns-clause-disk : goal.returns-clause-disk
 returns-clause-disk g c = λ tells n m step s.
-    let head_is : c.deref.result.now ≡ head_of c.args.change.now = search rules in
-    let body_is : c.unwrap_or-body.result.now ≡ unwrap_or (body_of c.args.change.now) [] = search rules in
-    step_stored g.L.Log.holds c.args.self.now _ n m c.args.change.now c.deref.result.now c.unwrap_or-body.result.now _ _ c.requires.may step head_is body_is s
+    let head_is : c.deref.result.now ≡ head_of c.args.change = search rules in
+    step_stored g.L.Log.holds c.args.self.now _ n m c.args.change c.deref.result.now c.body_part-body.result.now _ _ c.requires.may step head_is c.body_part-body.ensures s
     (c.in_ok-number.ensures.added tells s.records (shows_wider (g.L.Log.holds c.args.self.now.log s.records) (g.L.Log.holds c.make_room-3.new.self s.records) _ (λ i held. c.in_ok-make_room-3.ensures.holds s.records i held) s.shows))
 
 pub returns-clause-any_moment : goal.returns-clause-any_moment
 returns-clause-any_moment g c = λ tells n m valid step s.
-    let head_is : c.deref.result.now ≡ head_of c.args.change.now = search rules in
-    let body_is : c.unwrap_or-body.result.now ≡ unwrap_or (body_of c.args.change.now) [] = search rules in
-    step_leaves g.L.Log.holds g.L.Log.stands c.args.self.now n m c.args.change.now c.deref.result.now c.unwrap_or-body.result.now _ _ _ _ c.requires.may valid step head_is body_is s
+    let head_is : c.deref.result.now ≡ head_of c.args.change = search rules in
+    step_leaves g.L.Log.holds g.L.Log.stands c.args.self.now n m c.args.change c.deref.result.now c.body_part-body.result.now _ _ _ _ c.requires.may valid step head_is c.body_part-body.ensures s
     (c.in_ok-number.ensures.any_moment (c.in_ok-make_room-3.ensures.broken ∙ c.requires.whole) tells s.records (shows_wider (g.L.Log.holds c.args.self.now.log s.records) (g.L.Log.holds c.make_room-3.new.self s.records) _ (λ i held. c.in_ok-make_room-3.ensures.holds s.records i held) s.shows))

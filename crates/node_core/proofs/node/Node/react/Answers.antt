@@ -1,51 +1,13 @@
-use Rattle.std.proofs.Common.{rules}
+use Rattle.std.proofs.Common.{rules, ◌≡◌, IfOk, subst}
+use Rattle.psb_station.specs.Span.{Tells_bytes}
+use Rattle.psb_machine.specs.Machine.{Situation, Datagram, react}
 use Rattle.node_core.specs.Letters.{input_of}
-use Rattle.node_core.proofs.Presence.{ok_map, ok_map2}
-use Rattle.node_core.proofs.Reacting.{reacts_made, reacts_made_so, made_may_come, makes_few, unread_unheld, reacts_again, reacts_again_so, never_unread}
+use Rattle.node_core.specs.Reacting.{Reacts}
+use Rattle.node_core.specs.Stored.{Knows, Stored}
 use Rattle.node_core.proofs.node.Node.react.Goals as goal
 
-pub returns-in-Make-clause-exact : goal.returns-in-Make-clause-exact
-returns-in-Make-clause-exact g c =
-    ok_map c.judge.result _ _ (λ r makes tells n k s.
-    reacts_made r c.args.self.now n (input_of c.args.input.now) _ c.in-Make.offer (search rules) k (c.in-Make.ensures.decides n k) (makes tells n k s))
-    c.judge.ensures.exact
-
-pub returns-in-Make-clause-unread : goal.returns-in-Make-clause-unread
-returns-in-Make-clause-unread g c =
-    ok_map c.judge.result _ _ (λ r makes n k u.
-    let m = c.in-Make.ensures.decides n k in
-    reacts_made r c.args.self.now n (input_of c.args.input.now) _ c.in-Make.offer (search rules) k m (makes n k (unread_unheld n (input_of c.args.input.now) _ c.in-Make.offer (search rules) m u)))
-    c.judge.ensures.unheld
-
-pub returns-in-Make-clause-so : goal.returns-in-Make-clause-so
-returns-in-Make-clause-so g c =
-    ok_map c.judge.result _ _ (λ r makes n k.
-    reacts_made_so r c.args.self.now n (input_of c.args.input.now) _ c.in-Make.offer _ (search rules) (c.in-Make.ensures.decides n k) makes.1)
-    c.judge.ensures.somehow
-
-pub returns-in-Make-clause-may : goal.returns-in-Make-clause-may
-returns-in-Make-clause-may g c =
-    ok_map c.judge.result _ _ (λ r makes.
-    made_may_come r c.args.self.now _ c.in-Make.offer makes.0 c.in-Make.ensures.can.0 c.in-Make.ensures.decides makes.1)
-    c.judge.ensures.somehow
-
-pub returns-in-Make-clause-few : goal.returns-in-Make-clause-few
-returns-in-Make-clause-few g c = ok_map c.judge.result _ _ (λ r makes. makes_few r c.args.self.now c.in-Make.offer _ makes.1) c.judge.ensures.somehow
-
-pub returns-in-Again-clause-exact : goal.returns-in-Again-clause-exact
-returns-in-Again-clause-exact g c =
-    ok_map2 c.tell_again.result _ _ _ (λ r told none tells n k s.
-    reacts_again r n (input_of c.args.input.now) _ c.in-Again.offer c.in-Again.change (search rules) (c.in-Again.ensures.decides n k) none (told tells n k s))
-    c.tell_again.ensures.told c.tell_again.ensures.none
-
-pub returns-in-Again-clause-unread : goal.returns-in-Again-clause-unread
-returns-in-Again-clause-unread g c =
-    ok_map c.tell_again.result _ _ (λ r none n k u.
-    never_unread n (input_of c.args.input.now) _ c.in-Again.offer c.in-Again.change (search rules) (c.in-Again.ensures.decides n k) u)
-    c.tell_again.ensures.none
-
-pub returns-in-Again-clause-so : goal.returns-in-Again-clause-so
-returns-in-Again-clause-so g c =
-    ok_map c.tell_again.result _ _ (λ r none n k.
-    reacts_again_so r n (input_of c.args.input.now) _ c.in-Again.offer c.in-Again.change (search rules) (c.in-Again.ensures.decides n k) none)
-    c.tell_again.ensures.none
+pub returns-in-Frame-clause-exact : goal.returns-in-Frame-clause-exact
+returns-in-Frame-clause-exact g c =
+    let here : Datagram c.in-Frame.datagram.now ≡ input_of c.args.input.now = search rules in
+    subst (λ i. IfOk c.on_datagram.result (λ r. Tells_bytes (g.D.Disk.view c.on_datagram.new.disk) → (n : Situation) → Knows c.args.self.now n → Stored g.L.Log.holds c.args.self.now n.history (g.D.Disk.view c.args.disk.now) → Reacts r (react n i)))
+    here c.on_datagram.ensures.exact

@@ -3,6 +3,7 @@ use Rattle.std.proofs.Common.{◌≤◌, ◌∙◌, ap, sym, subst, set, arith}
 use Rattle.std.specs.Prelude.{◌==◌, position}
 use Rattle.std.proofs.lemmas.Bool.{false≢true}
 use Rattle.psb_model.specs.Words.{units}
+use Rattle.psb_ledger.specs.OwnTree.{mine_of}
 use Rattle.psb_ledger.specs.View.{AccountView, LedgerView, HasFreshRoom, IsSound}
 use Rattle.psb_ledger.proofs.Places.{on_ok_both, found_here, found_after, found_account, none}
 use Rattle.psb_ledger.proofs.Forms.{form_after}
@@ -14,7 +15,7 @@ returns-in-Some-clause-state c =
     let l = c.self.inside in
     let at = c.in-Some.ensures ∙ ap (position (λ (v : AccountView). v.id == c.args.peer)) c.as_slice.ensures.value in
     let here = found_here l.accounts.items c.args.peer c.in-Some.at c.index_mut-account.result.now at c.index_mut-account.ensures.value in
-    same_state l.changes l.settings l.accounts.items (set l.accounts.items c.in-Some.at c.reserve.new.self) l.issued (same_rows l.accounts.items c.args.peer c.in-Some.at c.index_mut-account.result.now c.reserve.new.self here c.reserve.ensures.id c.reserve.ensures.row)
+    same_state (mine_of l.own l.kept.items l.snapped) l.changes l.settings l.accounts.items (set l.accounts.items c.in-Some.at c.reserve.new.self) l.issued (same_rows l.accounts.items c.args.peer c.in-Some.at c.index_mut-account.result.now c.reserve.new.self here c.reserve.ensures.id c.reserve.ensures.row)
     ∙ ap (λ (v : LedgerView). v.state) c.self.view_is
 
 pub invariant_of-self : goal.invariant_of-self
@@ -23,8 +24,9 @@ invariant_of-self c =
     let at = c.in-Some.ensures ∙ ap (position (λ (v : AccountView). v.id == c.args.peer)) c.as_slice.ensures.value in
     let here = found_here l.accounts.items c.args.peer c.in-Some.at c.index_mut-account.result.now at c.index_mut-account.ensures.value in
     record {
-      sound = subst (IsSound l.used) (sym (same_state l.changes l.settings l.accounts.items (set l.accounts.items c.in-Some.at c.reserve.new.self) l.issued (same_rows l.accounts.items c.args.peer c.in-Some.at c.index_mut-account.result.now c.reserve.new.self here c.reserve.ensures.id c.reserve.ensures.row))) c.self.invariant.sound;
+      sound = subst (IsSound l.used) (sym (same_state (mine_of l.own l.kept.items l.snapped) l.changes l.settings l.accounts.items (set l.accounts.items c.in-Some.at c.reserve.new.self) l.issued (same_rows l.accounts.items c.args.peer c.in-Some.at c.index_mut-account.result.now c.reserve.new.self here c.reserve.ensures.id c.reserve.ensures.row))) c.self.invariant.sound;
       forms = form_after l.in_blocks l.accounts.items c.args.peer c.in-Some.at c.index_mut-account.result.now c.reserve.new.self at c.index_mut-account.ensures.value c.self.invariant.forms c.reserve.ensures.form;
+      own_part = c.self.invariant.own_part;
       next_forms = c.self.invariant.next_forms;
     }
 

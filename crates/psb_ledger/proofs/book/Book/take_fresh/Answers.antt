@@ -1,5 +1,5 @@
 -- What the account asks of a chunk follows from the condition and the room.
-use Rattle.std.proofs.Common.{refl, sym, ap, ◌∙◌}
+use Rattle.std.proofs.Common.{refl, sym, ap, ◌∙◌, arith}
 use Rattle.std.specs.Prelude.{◌==◌, position}
 use Rattle.psb_ledger.specs.View.{AccountView, LedgerView}
 use Rattle.psb_ledger.proofs.Forms.{form_after}
@@ -44,6 +44,7 @@ invariant_of-self c =
     record {
       sound = here.sound c.take_fresh.new.self c.take_fresh.ensures.id c.take_fresh.ensures.row;
       forms = form_after l.in_blocks l.accounts.items c.args.x.peer c.in-Some.at c.index_mut-account.result.now c.take_fresh.new.self at c.index_mut-account.ensures.value c.self.invariant.forms c.take_fresh.ensures.form;
+      own_part = c.self.invariant.own_part;
       next_forms = c.self.invariant.next_forms;
     }
 
@@ -51,3 +52,8 @@ pub returns-clause-ok : goal.returns-clause-ok
 returns-clause-ok c =
     let here = can_take c.self.inside c.args.self.now c.args.x c.in-Some.at c.units_of-u.result c.index_mut-account.result.now c.self.view_is c.self.invariant.sound c.in-Some.ensures.place c.index_mut-account.ensures.value (c.in-Some.ensures.when.1 refl) c.requires.grammar c.requires.room c.units_of-u.ensures in
     here.after_is c.take_fresh.new.self c.take_fresh.ensures.id c.take_fresh.ensures.row
+
+pub overflow_add-self-2 : goal.overflow_add-self-2
+overflow_add-self-2 c =
+    let here = can_take c.self.inside c.args.self.now c.args.x c.in-Some.at c.units_of-u.result c.index_mut-account.result.now c.self.view_is c.self.invariant.sound c.in-Some.ensures.place c.index_mut-account.ensures.value (c.in-Some.ensures.when.1 refl) c.requires.grammar c.requires.room c.units_of-u.ensures in
+    omega (arith, here.total)

@@ -1,0 +1,83 @@
+//! A line that takes no memory.
+ghost use Rattle.std.specs.Prelude.{◌≡◌, ◌≤◌, ◌+◌, ◌++◌, [], length, codes, decimal};
+
+use std::marker::Model;
+
+/// A line of at most 23 bytes, at the end of a buffer of its own. It is put together from its end.
+/// Contracts see it as its bytes.
+#[derive(Drop)]
+pub(crate) struct ShortLine {
+    bytes: [u8; 23],
+    start: usize,
+}
+
+impl Model for ShortLine {
+    ghost use Rattle.std.specs.Prelude.{◌≤◌, ℕ, List, drop};
+
+    ghost Value = { List ℕ };
+
+    ghost view = { λ l. drop l.start l.bytes };
+
+    ghost invariant = { λ l. l.start ≤ 23 };
+}
+
+impl ShortLine {
+    fn new() -> ShortLine
+        ensures { result ≡ [] }
+    {
+        ShortLine {
+            bytes: [0; 23],
+            start: 23,
+        }
+    }
+
+    /// The line of a text.
+    pub(crate) fn of(text: &[u8]) -> ShortLine
+        requires { length text.now ≤ 23 }
+        ensures { result ≡ text.now }
+    {
+        let mut line = ShortLine::new();
+        line.put(text);
+        line
+    }
+
+    /// The line of a number between two texts.
+    pub(crate) fn of_number(front: &[u8], number: u32, back: &[u8]) -> ShortLine
+        requires { length front.now + length back.now ≤ 13 }
+        ensures { result ≡ front.now ++ decimal number ++ back.now }
+    {
+        let mut line = ShortLine::new();
+        line.put(back);
+        line.put_number(number);
+        line.put(front);
+        line
+    }
+
+    pub(crate) fn as_bytes(&self) -> &[u8]
+        ensures { result.now ≡ self.now }
+    {
+        &self.bytes[self.start..]
+    }
+
+    /// Puts a text in front.
+    fn put(&mut self, text: &[u8])
+        requires { length text.now + length self.old ≤ 23 }
+        ensures { self.new ≡ text.now ++ self.old }
+    {
+        let end = self.start;
+        let start = end - text.len();
+        self.bytes[start..end].copy_from_slice(text);
+        self.start = start;
+    }
+
+    /// Puts the decimal digits of a number in front.
+    fn put_number(&mut self, number: u32)
+        requires { length (decimal number) + length self.old ≤ 23 }
+        ensures { self.new ≡ decimal number ++ self.old }
+    {
+        self.put(&[b'0' + (number % 10) as u8]);
+        if number >= 10 {
+            self.put_number(number / 10);
+        }
+    }
+}

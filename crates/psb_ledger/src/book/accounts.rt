@@ -1,0 +1,78 @@
+//! The accounts of a book: one for each peer of the settings.
+
+ghost use Rattle.std.specs.Prelude.{◌≡◌, ◌==◌, true, map, IfOk, find, position};
+ghost use Rattle.std.specs.List.{list_any};
+ghost use Rattle.std.specs.Option.{option_copied};
+ghost use Rattle.psb_bytes.specs.declared.ids.Object.TheVariants.{Chunk};
+ghost use Rattle.psb_model.specs.Words.{has};
+ghost use Rattle.psb_model.specs.State.{in_key};
+ghost use Rattle.psb_model.specs.Effects.{blank_rows, first_rows};
+ghost use Rattle.psb_ledger.specs.View.{named_row, AreInForm};
+
+use crate::account::Account;
+use psb_bytes::{Digest, Memory, Object, PeerId};
+use psb_settings::{PeerRow, Settings};
+use std::alloc::Global;
+
+/// The account of a peer.
+pub(super) fn account_of(accounts: &[Account], peer: PeerId) -> Option<&Account>
+    ensures { option_copied result ≡ find (λ v. v.id == peer) accounts.now }
+{
+    accounts.iter().find(|a| a.id() == peer)
+}
+
+/// The place of a peer's account.
+pub(super) fn place_of(accounts: &[Account], peer: PeerId) -> Option<usize>
+    ensures { result ≡ position (λ v. v.id == peer) accounts.now }
+{
+    accounts.iter().position(|a| a.id() == peer)
+}
+
+/// Whether the node answers for the chunk to some peer.
+pub(super) fn holds(accounts: &[Account], name: &Digest) -> bool
+    ensures { result ≡ list_any (λ v. has in_key v.row.ins (Chunk name.now)) accounts.now }
+{
+    let chunk = Object::Chunk(*name);
+    accounts.iter().any(|a| a.has(&chunk))
+}
+
+/// An empty account for each peer of the settings.
+pub(super) fn first_accounts(
+    alloc: Global,
+    settings: &Option<Settings>,
+    in_blocks: bool,
+) -> Result<Vec<Account>, Memory>
+    ensures rows { IfOk result (λ v. map named_row v.items ≡ first_rows settings.now) }
+    ensures forms { IfOk result (λ v. AreInForm in_blocks v.items) }
+{
+    match settings {
+        None => Ok(Vec::new(alloc)),
+        Some(x) => empty_accounts(alloc, x.peers.as_slice(), in_blocks),
+    }
+}
+
+fn empty_accounts(alloc: Global, peers: &[PeerRow], in_blocks: bool) -> Result<Vec<Account>, Memory>
+    ensures rows { IfOk result (λ v. map named_row v.items ≡ blank_rows peers.now) }
+    ensures forms { IfOk result (λ v. AreInForm in_blocks v.items) }
+{
+    let mut accounts = Vec::new(alloc);
+    for peer in peers {
+        accounts.push(Account::new(alloc, peer.id, in_blocks))?;
+    }
+    Ok(accounts)
+}
+
+/// The same accounts, each with its entries in one block.
+pub(super) fn accounts_in_blocks(
+    alloc: Global,
+    accounts: Vec<Account>,
+) -> Result<Vec<Account>, Memory>
+    ensures rows { IfOk result (λ v. map named_row v.items ≡ map named_row accounts.items) }
+    ensures forms { IfOk result (λ v. AreInForm true v.items) }
+{
+    let mut blocks = Vec::new(alloc);
+    for account in accounts {
+        blocks.push(account.into_block()?)?;
+    }
+    Ok(blocks)
+}

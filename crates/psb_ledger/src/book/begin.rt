@@ -1,0 +1,59 @@
+//! How a book begins: with what a settings text says.
+
+ghost use Rattle.std.specs.Prelude.{◌≡◌, ◌&&◌, ◌↔◌, IsTrue, OnOk, OnErr, IsOk, IfOk};
+ghost use Rattle.psb_model.specs.declared.change.Change.TheVariants.{Begun};
+ghost use Rattle.psb_model.specs.Conditions.{allowed, settings_of_body};
+ghost use Rattle.psb_model.specs.Effects.{after};
+ghost use Rattle.psb_model.specs.History.{is_built};
+ghost use Rattle.psb_ledger.specs.View.{HasBegunRoom};
+
+use super::accounts::first_accounts;
+use super::{Book, NotNow};
+use psb_bytes::{Bytes, Memory};
+use psb_settings::{Settings, SettingsError, read_settings};
+use std::alloc::Global;
+use std::mem;
+
+/// What a settings text says, None where it is none or was given up.
+fn settings_of(alloc: Global, body: &Option<Bytes>) -> Result<Option<Settings>, Memory>
+    ensures { IfOk result (λ s. s ≡ settings_of_body body.now) }
+{
+    let Some(text) = body else {
+        return Ok(None);
+    };
+    match read_settings(alloc, text.as_slice()) {
+        Ok(settings) => Ok(Some(settings)),
+        Err(SettingsError::Bad) => Ok(None),
+        Err(SettingsError::Memory) => Err(Memory),
+    }
+}
+
+impl Book {
+    pub(super) fn make_room_to_begin(&mut self, body: &Option<Bytes>) -> Result<(), Memory>
+        ensures state { self.new.state ≡ self.old.state }
+        ensures room { OnOk result (HasBegunRoom self.new body.now) }
+        ensures form { self.new.in_blocks ≡ self.old.in_blocks }
+    {
+        let settings = settings_of(self.alloc, body)?;
+        self.next_accounts = first_accounts(self.alloc, &settings, self.in_blocks)?;
+        self.next = settings;
+        Ok(())
+    }
+
+    pub(super) fn begin(&mut self, body: &Option<Bytes>) -> Result<(), NotNow>
+        requires { HasBegunRoom self.old body.now }
+        ensures when { IsTrue (is_built (Begun body.now) && allowed self.old.state (Begun body.now)) ↔ IsOk result }
+        ensures ok { OnOk result (self.new.state ≡ after self.old.state (Begun body.now)) }
+        ensures err { OnErr result (self.new ≡ self.old) }
+        ensures form { self.new.in_blocks ≡ self.old.in_blocks }
+    {
+        if self.changes != 0 || self.next.is_none() {
+            return Err(NotNow);
+        }
+        self.settings = self.next.take();
+        mem::swap(&mut self.accounts, &mut self.next_accounts);
+        self.used = 0;
+        self.changes = 1;
+        Ok(())
+    }
+}
