@@ -70,13 +70,13 @@ def store(peer, deal, body, named=True):
     return head + text + hmac.new(key(peer), head + text, hashlib.sha256).digest()
 
 
-def opened(program, path):
-    """Seconds that `ledger` takes, and its memory at most."""
+def timed(program, path, *words):
+    """Seconds that a command takes, and its memory at most."""
     began = time.monotonic()
-    child = subprocess.Popen([program, path, "ledger"], stdout=subprocess.DEVNULL)
+    child = subprocess.Popen([program, path, *words], stdout=subprocess.DEVNULL)
     _, status, used = os.wait4(child.pid, 0)
     if status:
-        raise SystemExit(f"ledger ended with {status}")
+        raise SystemExit(f"{words[0]} ended with {status}")
     return time.monotonic() - began, used.ru_maxrss / 1024
 
 
@@ -161,7 +161,7 @@ def main():
         ten = [(peer, 40000 + peer) for peer in range(2, 12)]
         for changes, peers in ((100_000, [(2, there)]), (200_000, [(2, there)]), (300_000, [(2, there)]), (300_000, ten)):
             write_image(path, settings(port, peers), changes, [peer for peer, _ in peers])
-            seconds, memory = opened(program, path)
+            seconds, memory = timed(program, path, "ledger")
             print(f"opened {changes} changes of {len(peers)} peer(s): {seconds:.2f} s, {memory:.0f} MiB", flush=True)
         for changes in (0, 3_000, 30_000, 300_000):
             for size, count in ((512, 2_000), (32_768, 400)):
