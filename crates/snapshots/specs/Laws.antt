@@ -1,0 +1,37 @@
+-- The law of tickets: over bodies that have the sealed pieces of a tree, its ticket means the tree.
+use Rattle.std.specs.Prelude.{◌≡◌, ℕ, zero, suc, ◌≤◌, List, [], ◌∷◌, length, Some, None}
+use Rattle.convergent_seal.specs.Sealing.{sealed, sealed_ref}
+use Rattle.psb_bytes.specs.declared.ids.Ticket.{Ticket}
+use Rattle.skeleton.specs.declared.limits.TheConstants.{MOST_TEXT_BYTES}
+use Rattle.skeleton.specs.Entries.{IsSkeleton}
+use Rattle.skeleton.specs.Texts.{skeleton_text, refs_text}
+use Rattle.snapshots.specs.Meaning.{Bodies, Item, Folder, File, Place, means}
+use Rattle.snapshots.specs.Tickets.{chunks_of, refs_of_text, one_of, ticket_of_tree, skeleton_of_tree, most_levels}
+
+-- each piece's sealed bytes stand under its name
+abbrev pub AreHeld : Bodies → List (List ℕ) → Type 0
+AreHeld bodies [] = Unit {0}
+AreHeld bodies (p ∷ ps) = (bodies (sealed_ref p).name ≡ Some (sealed p)) × AreHeld bodies ps
+
+-- those of a text and of the lists of refs above it, each of which is short enough
+abbrev pub HoldsLevels : Bodies → ℕ → List ℕ → Type 0
+HoldsLevels bodies zero text = AreHeld bodies (chunks_of text) × (length text ≤ MOST_TEXT_BYTES)
+HoldsLevels bodies (suc most) text =
+    AreHeld bodies (chunks_of text) × (length text ≤ MOST_TEXT_BYTES)
+    × (one_of (refs_of_text text) ≡ None → HoldsLevels bodies most (refs_text (refs_of_text text)))
+
+abbrev pub HoldsItem : Bodies → Item → Type 0
+HoldsItem bodies Folder = Unit {0}
+HoldsItem bodies (File bytes) = AreHeld bodies (chunks_of bytes)
+
+abbrev pub HoldsFiles : Bodies → List Place → Type 0
+HoldsFiles bodies [] = Unit {0}
+HoldsFiles bodies (p ∷ ps) = HoldsItem bodies p.item × HoldsFiles bodies ps
+
+-- those of the whole tree
+pub record HoldsTree (bodies : Bodies) (places : List Place) : Type 0 where
+  pub files : HoldsFiles bodies places
+  pub levels : HoldsLevels bodies most_levels (skeleton_text (skeleton_of_tree places))
+
+abbrev pub TicketMeansItsTree : Type 0
+TicketMeansItsTree = (bodies : Bodies) (places : List Place) (t : Ticket) → IsSkeleton (skeleton_of_tree places) → ticket_of_tree places ≡ Some t → HoldsTree bodies places → means bodies t ≡ Some places

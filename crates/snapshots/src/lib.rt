@@ -1,0 +1,6 @@
+//! Snapshots: what a ticket means, and the ticket of a tree.
+#![tactic(auto)]
+
+mod laws;
+
+pub use laws::a_ticket_means_its_tree;
