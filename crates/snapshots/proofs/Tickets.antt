@@ -62,12 +62,12 @@ text_back bodies text held =
 
 -- ---- the refs of a text
 
-stand_le : (start n : ℕ) (ss : List Span) → StandFrom start n ss → start ≤ n
+pub stand_le : (start n : ℕ) (ss : List Span) → StandFrom start n ss → start ≤ n
 unfolding StandFrom
 stand_le start n [] s = omega (arith, s)
 stand_le start n (x ∷ ss) s = omega (arith, stand_le (start + x.len) n ss s.1)
 
-part_long : (text : List ℕ) (start : ℕ) (s : Span) → s.start ≡ start → start + s.len ≤ length text → length (part text s) ≡ s.len
+pub part_long : (text : List ℕ) (start : ℕ) (s : Span) → s.start ≡ start → start + s.len ≤ length text → length (part text s) ≡ s.len
 part_long text start s at inside = omega (arith, at, inside, length-take s.len (drop s.start text), length-drop s.start text)
 
 is_ref_of : (p : List ℕ) → within 1 longest (length p) ≡ true → is_ref (sealed_ref p) ≡ true
@@ -76,7 +76,7 @@ is_ref_of p long = rw (eq-eqb (length (sha (sealed p))) 32 (length-sha (sealed p
 within_of : (m n : ℕ) → 1 ≤ n → n ≤ m → within 1 m n ≡ true
 within_of m n least most = rw (le-leb 1 n least, le-leb n m most) refl
 
-refs_fit : (text : List ℕ) (start : ℕ) (ss : List Span) → StandFrom start (length text) ss → AreChunkSizes longest (map (λ (s : Span). s.len) ss) → list_all is_ref (map sealed_ref (map (part text) ss)) ≡ true
+pub refs_fit : (text : List ℕ) (start : ℕ) (ss : List Span) → StandFrom start (length text) ss → AreChunkSizes longest (map (λ (s : Span). s.len) ss) → list_all is_ref (map sealed_ref (map (part text) ss)) ≡ true
 unfolding StandFrom AreChunkSizes
 refs_fit text start [] stand sizes = refl
 refs_fit text start (s ∷ []) stand sizes =

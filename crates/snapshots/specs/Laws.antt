@@ -1,11 +1,13 @@
 -- The law of tickets: over bodies that have the sealed pieces of a tree, its ticket means the tree.
-use Rattle.std.specs.Prelude.{◌≡◌, ℕ, zero, suc, ◌≤◌, List, [], ◌∷◌, length, Some, None}
+use Rattle.std.specs.Prelude.{◌≡◌, ℕ, zero, suc, ◌≤◌, true, List, [], ◌∷◌, length, is_some, Some, None}
 use Rattle.convergent_seal.specs.Sealing.{sealed, sealed_ref}
 use Rattle.psb_bytes.specs.declared.ids.Ticket.{Ticket}
 use Rattle.skeleton.specs.declared.limits.TheConstants.{MOST_TEXT_BYTES}
 use Rattle.skeleton.specs.Entries.{IsSkeleton}
 use Rattle.skeleton.specs.Texts.{skeleton_text, refs_text}
 use Rattle.snapshots.specs.Meaning.{Bodies, Item, Folder, File, Place, means}
+use Rattle.psb_station.specs.Folder.{Content}
+use Rattle.snapshots.specs.Trees.{IsTree}
 use Rattle.snapshots.specs.Tickets.{chunks_of, refs_of_text, one_of, ticket_of_tree, skeleton_of_tree, most_levels}
 
 -- each piece's sealed bytes stand under its name
@@ -35,3 +37,11 @@ pub record HoldsTree (bodies : Bodies) (places : List Place) : Type 0 where
 
 abbrev pub TicketMeansItsTree : Type 0
 TicketMeansItsTree = (bodies : Bodies) (places : List Place) (t : Ticket) → IsSkeleton (skeleton_of_tree places) → ticket_of_tree places ≡ Some t → HoldsTree bodies places → means bodies t ≡ Some places
+
+-- The tree of a folder has a skeleton: its entries stand in their order, each behind the folders that it lies in.
+abbrev pub TreesHaveSkeletons : Type 0
+TreesHaveSkeletons = (content : Content) (root : List ℕ) (places : List Place) → IsTree content root places → IsSkeleton (skeleton_of_tree places)
+
+-- and a ticket, where that skeleton's text is not too long
+abbrev pub TreesHaveTickets : Type 0
+TreesHaveTickets = (places : List Place) → length (skeleton_text (skeleton_of_tree places)) ≤ MOST_TEXT_BYTES → is_some (ticket_of_tree places) ≡ true

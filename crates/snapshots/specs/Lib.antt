@@ -1,3 +1,4 @@
 pub mod Meaning
 pub mod Tickets
+pub mod Trees
 pub mod Laws

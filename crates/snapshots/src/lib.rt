@@ -3,4 +3,4 @@
 
 mod laws;
 
-pub use laws::a_ticket_means_its_tree;
+pub use laws::{a_ticket_means_its_tree, trees_have_skeletons, trees_have_tickets};
