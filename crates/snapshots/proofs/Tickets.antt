@@ -1,8 +1,8 @@
 -- What a ticket that was made of a tree means.
-use Rattle.std.proofs.Common.{◌≡◌, ℕ, zero, suc, ◌+◌, ◌≤◌, Bool, true, ◌&&◌, ◌==◌, cond, List, [], ◌∷◌, ◌++◌, length, drop, map, flat_map, bytes_eq, Option, Some, None, refl, sym, ◌∙◌, ap, subst, arith}
+use Rattle.std.proofs.Common.{◌≡◌, ℕ, zero, suc, ◌+◌, ◌≤◌, ◌<◌, get_or, Bool, true, ◌&&◌, ◌==◌, cond, List, [], ◌∷◌, ◌++◌, length, take, drop, map, flat_map, bytes_eq, Option, Some, None, refl, sym, ◌∙◌, ap, subst, arith}
 use Rattle.std.specs.List.{list_all}
 use Rattle.std.proofs.lemmas.Bool.{le-leb, eq-eqb}
-use Rattle.std.proofs.lemmas.List.{length-take, length-drop}
+use Rattle.std.proofs.lemmas.List.{length-take, length-drop, take_more, map-append}
 use Rattle.psb_station.proofs.Spans.{same_some}
 use Rattle.psb_bytes.specs.declared.ids.Ref.{Ref}
 use Rattle.psb_bytes.specs.declared.ids.Ticket.{Ticket}
@@ -183,3 +183,31 @@ ticket_means bodies places t skeleton made holds =
     ap (λ (o : Option (List ℕ)). given o (λ text. given (read (skeleton_of text)) (tree_of bodies))) (text_again bodies most_levels (skeleton_text entries) t made holds.levels)
     ∙ ap (λ o. given (read o) (tree_of bodies)) (skeleton_is_read entries skeleton (short_text bodies most_levels (skeleton_text entries) holds.levels))
     ∙ tree_again bodies places holds.files
+
+-- ---- a span of a text
+
+-- it lies in the text, and has the length of a chunk
+pub record IsPiece (text : List ℕ) (s : Span) : Type 0 where
+  pub inside : s.start + s.len ≤ length text
+  pub some : 1 ≤ s.len
+  pub short : s.len ≤ longest
+
+piece_from : (text : List ℕ) (start : ℕ) (ss : List Span) → StandFrom start (length text) ss → AreChunkSizes longest (map (λ (s : Span). s.len) ss) → (i : ℕ) (d : Span) → i < length ss → IsPiece text (get_or ss i d)
+unfolding StandFrom AreChunkSizes
+piece_from text start [] stand sizes i d lt = absurd (omega (arith, lt))
+piece_from text start (s ∷ []) stand sizes zero d lt = record { inside = omega (arith, stand.0, stand_le (start + s.len) (length text) [] stand.1); some = sizes.0; short = sizes.1 }
+piece_from text start (s ∷ []) stand sizes (suc i) d lt = absurd (omega (arith, lt))
+piece_from text start (s ∷ x ∷ ss) stand sizes zero d lt = record { inside = omega (arith, stand.0, stand_le (start + s.len) (length text) (x ∷ ss) stand.1); some = omega (arith, sizes.0); short = sizes.1 }
+piece_from text start (s ∷ x ∷ ss) stand sizes (suc i) d lt = piece_from text (start + s.len) (x ∷ ss) stand.1 sizes.2 i d (omega (arith, lt))
+
+pub span_is_piece : (text : List ℕ) (ss : List Span) → ss ≡ spans longest text → (i : ℕ) (d : Span) → i < length ss → IsPiece text (get_or ss i d)
+span_is_piece text ss is i d lt =
+    subst (λ (l : List Span). i < length l → IsPiece text (get_or l i d)) (sym is)
+    (λ inside. piece_from text 0 (spans longest text) (spans_cover longest text).0 (span_sizes longest text (omega arith)) i d inside) lt
+
+-- the refs of one span more
+pub refs_more : (text : List ℕ) (ss : List Span) (i : ℕ) (d : Span) → i < length ss → map sealed_ref (map (part text) (take (i + 1) ss)) ≡ map sealed_ref (map (part text) (take i ss)) ++ sealed_ref (part text (get_or ss i d)) ∷ []
+refs_more text ss i d lt =
+    ap (λ (l : List Span). map sealed_ref (map (part text) l)) (take_more ss i d lt)
+    ∙ ap (map sealed_ref) (map-append (part text) (take i ss) (get_or ss i d ∷ []))
+    ∙ map-append sealed_ref (map (part text) (take i ss)) (part text (get_or ss i d) ∷ [])
