@@ -1,5 +1,5 @@
 -- Lists of entries that ascend by their paths: what a search finds, and changes at a place.
-use Rattle.std.proofs.Common.{◌≡◌, ⊎_elim, ℕ, zero, suc, ◌+◌, ◌<◌, Bool, true, false, cond, List, [], ◌∷◌, ◌++◌, map, length, take, drop, set, get_or, Some, None, Result, Ok, Err, IsOk, Less, Equal, Greater, refl, sym, ap, subst, ◌∙◌, arith, length-append}
+use Rattle.std.proofs.Common.{◌≡◌, ◌≢◌, ⊎_elim, ℕ, zero, suc, ◌+◌, ◌<◌, Bool, true, false, cond, List, [], ◌∷◌, ◌++◌, map, length, take, drop, set, get_or, Some, None, Result, Ok, Err, IsOk, Less, Equal, Greater, refl, sym, ap, subst, ◌∙◌, arith, length-append}
 use Rattle.std.specs.Prelude.{All, MatchResult, slice_get}
 use Rattle.std.specs.List.{AllByRecursion}
 use Rattle.std.specs.List.Sorted.{IsStrictlySortedBy}
@@ -9,15 +9,15 @@ use Rattle.std.specs.Cmp.Lexicographic.{slice_cmp, nat_list_cmp_total}
 use Rattle.std.specs.declared.cmp.Ordering.{Ordering}
 use Rattle.std.specs.Map.{keys_of}
 use Rattle.std.specs.Option.{option_map}
-use Rattle.std.specs.Str.{is_utf8, IsUtf8}
-use Rattle.std.proofs.lemmas.Bool.{cases_lt}
+use Rattle.std.specs.Str.{IsUtf8}
+use Rattle.std.proofs.lemmas.Bool.{cases_lt, false≢true}
 use Rattle.std.proofs.lemmas.List.{map-set, length-map}
 use Rattle.std.proofs.lemmas.List.Elements.{All-nil, All-cons, All-append, All-take, All-drop, All-set, All-weaker}
 use Rattle.std.proofs.lemmas.Map.Entries.{lookup_from_place, lookup_at_gap}
 use Rattle.std.proofs.lemmas.Map.Keys.{IsDistinct-from_sorted}
 use Rattle.std.proofs.lemmas.Option.{same_Some, get_or_from_slice_get}
 use Rattle.std.proofs.lemmas.Str.{IsUtf8-from_is_utf8, is_utf8-from_IsUtf8}
-use Rattle.psb_station.specs.Entry.{entry_in, entries_in, ArePieces, AreTexts, Ascend, by_path, ComesAfter, ComesBefore, Updates, SameStored}
+use Rattle.psb_station.specs.Entry.{entry_in, entries_in, ArePieces, is_entry_path, ArePaths, Ascend, by_path, ComesAfter, ComesBefore, Updates, SameStored}
 use Rattle.psb_station.specs.Node.{stored_of}
 use Rattle.psb_station.specs.Piece.{IsIn}
 use Rattle.psb_station.specs.declared.node.Node.{Node}
@@ -223,8 +223,8 @@ pub none_ascend : (paths : List ℕ) (list : List Entry) → list ≡ [] → Asc
 unfolding IsStrictlySortedBy
 none_ascend paths list none = subst (λ (l : List Entry). Ascend (entries_in paths l)) (sym none) tt
 
-pub none_texts : (paths : List ℕ) (list : List Entry) → list ≡ [] → AreTexts (entries_in paths list)
-none_texts paths list none = subst (λ (l : List Entry). AreTexts (entries_in paths l)) (sym none) (All-nil (λ (e : List ℕ × Node). is_utf8 e.0 ≡ true))
+pub none_paths : (paths : List ℕ) (list : List Entry) → list ≡ [] → ArePaths (entries_in paths list)
+none_paths paths list none = subst (λ (l : List Entry). ArePaths (entries_in paths l)) (sym none) (All-nil (λ (e : List ℕ × Node). is_entry_path e.0 ≡ true))
 
 -- what is read as a text, and can't be refused
 pub read_ok : {A B : Type 0} (r : Result A B) (P : A → Type 0) (Q : B → Type 0) → MatchResult r P Q → ((e : B) → Q e → ⊥) → IsOk r
@@ -234,8 +234,19 @@ read_ok (Err e) P Q is none = absurd (none e is)
 pub read_is : {A B : Type 0} (r : Result A B) (x : A) (P : A → Type 0) (Q : B → Type 0) → MatchResult r P Q → r ≡ Ok x → P x
 read_is {A} {B} r x P Q is same = subst (λ (y : Result A B). MatchResult y P Q) same is
 
-pub text_at : (es : Entries) (i : ℕ) (e : List ℕ × Node) → AreTexts es → slice_get es i ≡ Some e → IsUtf8 e.0
-text_at es i e texts at = IsUtf8-from_is_utf8 e.0 (subst (λ (x : List ℕ × Node). is_utf8 x.0 ≡ true) (get_or_from_slice_get es i e e at) (texts i e (is_within es i e at)))
+is_text : (path : List ℕ) → is_entry_path path ≡ true → IsUtf8 path
+is_text [] is = absurd (false≢true is)
+is_text (c ∷ path) is = IsUtf8-from_is_utf8 (c ∷ path) is
+
+are_paths : (path : List ℕ) → IsUtf8 path → path ≢ [] → is_entry_path path ≡ true
+are_paths [] text some = absurd (some refl)
+are_paths (c ∷ path) text some = is_utf8-from_IsUtf8 (c ∷ path) text
+
+pub path_at : (es : Entries) (i : ℕ) (e : List ℕ × Node) → ArePaths es → slice_get es i ≡ Some e → is_entry_path e.0 ≡ true
+path_at es i e paths at = subst (λ (x : List ℕ × Node). is_entry_path x.0 ≡ true) (get_or_from_slice_get es i e e at) (paths i e (is_within es i e at))
+
+pub text_at : (es : Entries) (i : ℕ) (e : List ℕ × Node) → ArePaths es → slice_get es i ≡ Some e → IsUtf8 e.0
+text_at es i e paths at = is_text e.0 (path_at es i e paths at)
 
 -- ---- what the functions of the entries show
 
@@ -258,7 +269,7 @@ found_node paths list i e path n up is at =
 
 -- the three that the type keeps
 abbrev pub Kept : List ℕ → List Entry → Type 0
-Kept paths list = ArePieces (length paths) list × AreTexts (entries_in paths list) × Ascend (entries_in paths list)
+Kept paths list = ArePieces (length paths) list × ArePaths (entries_in paths list) × Ascend (entries_in paths list)
 
 set_is : (paths : List ℕ) (list : List Entry) (i : ℕ) (e : Entry) (w : Node) (path : List ℕ) (n : Node) → e ≡ get_or list i e → slice_get (entries_in paths list) i ≡ Some (path, n)
     → entries_in paths (set list i (record { path = e.path; node = w })) ≡ set (entries_in paths list) i (path, w)
@@ -273,9 +284,9 @@ set_kept paths list i e w path n (within, texts, up) is at =
     let at_i : i < length es = is_within es i (path, n) at in
     let same = set_is paths list i e w path n is at in
     let here : IsIn (length paths) e.path = subst (λ (x : Entry). IsIn (length paths) x.path) (sym is) (within i e (here_within paths list i at_i)) in
-    let text : is_utf8 path ≡ true = subst (λ (x : List ℕ × Node). is_utf8 x.0 ≡ true) (get_or_from_slice_get es i (path, n) (path, n) at) (texts i (path, n) at_i) in (
+    let text : is_entry_path path ≡ true = subst (λ (x : List ℕ × Node). is_entry_path x.0 ≡ true) (get_or_from_slice_get es i (path, n) (path, n) at) (texts i (path, n) at_i) in (
       All-set (λ (x : Entry). IsIn (length paths) x.path) list i (record { path = e.path; node = w }) here within,
-      subst AreTexts (sym same) (All-set (λ (x : List ℕ × Node). is_utf8 x.0 ≡ true) es i (path, w) text texts),
+      subst ArePaths (sym same) (All-set (λ (x : List ℕ × Node). is_entry_path x.0 ≡ true) es i (path, w) text texts),
       subst Ascend (sym same) (set_ascends es i path n w up at),
     )
 
@@ -288,7 +299,7 @@ pub taken_kept : (paths : List ℕ) (list list' : List Entry) (i : ℕ) → Kept
 taken_kept paths list list' i (within, texts, up) is =
     let same : entries_in paths list' ≡ take i (entries_in paths list) ++ drop (suc i) (entries_in paths list) = ap (entries_in paths) is ∙ map_taken (entry_in paths) list i in (
       subst (ArePieces (length paths)) (sym is) (all_taken (λ (x : Entry). IsIn (length paths) x.path) list i within),
-      subst AreTexts (sym same) (all_taken (λ (x : List ℕ × Node). is_utf8 x.0 ≡ true) (entries_in paths list) i texts),
+      subst ArePaths (sym same) (all_taken (λ (x : List ℕ × Node). is_entry_path x.0 ≡ true) (entries_in paths list) i texts),
       subst Ascend (sym same) (taken_ascends (entries_in paths list) i up),
     )
 
@@ -304,14 +315,14 @@ none_taken es path none q = by_cases (is_eq (cmp q path))
     (λ k. rw k refl)
 
 pub put_kept : (paths paths' more : List ℕ) (list list' : List Entry) (i : ℕ) (e : Entry) → Kept paths list → paths' ≡ paths ++ more → list' ≡ take i list ++ e ∷ drop i list → e.path.begin ≡ length paths → e.path.end ≡ length paths'
-    → IsUtf8 more → ComesAfter (entries_in paths list) i more → ComesBefore (entries_in paths list) i more → Kept paths' list'
-put_kept paths paths' more list list' i e (within, texts, up) grown is begin end text after before =
+    → IsUtf8 more → more ≢ [] → ComesAfter (entries_in paths list) i more → ComesBefore (entries_in paths list) i more → Kept paths' list'
+put_kept paths paths' more list list' i e (within, texts, up) grown is begin end text some after before =
     let long : e.path.end ≡ length (paths ++ more) = end ∙ ap (λ (p : List ℕ). length p) grown in
     let es = entries_in paths list in
     let same : entries_in (paths ++ more) list' ≡ take i es ++ (more, e.node) ∷ drop i es = ap (entries_in (paths ++ more)) is ∙ entries_put paths more list i e within begin long in
     let here : Kept (paths ++ more) list' = (
       subst (ArePieces (length (paths ++ more))) (sym is) (pieces_put paths more list i e within begin long),
-      subst AreTexts (sym same) (all_put (λ (x : List ℕ × Node). is_utf8 x.0 ≡ true) es i (more, e.node) texts (is_utf8-from_IsUtf8 more text)),
+      subst ArePaths (sym same) (all_put (λ (x : List ℕ × Node). is_entry_path x.0 ≡ true) es i (more, e.node) texts (are_paths more text some)),
       subst Ascend (sym same) (put_ascends es i more e.node up after before),
     ) in
     subst (λ (p : List ℕ). Kept p list') (sym grown) here

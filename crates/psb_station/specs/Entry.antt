@@ -1,5 +1,5 @@
 -- An entry of a folder in memory, and lists of entries.
-use Rattle.std.specs.Prelude.{◌≡◌, ℕ, ◌<◌, ◌≤◌, ◌++◌, cond, true, List, map, All, Option, Some, Result, Ok, Err, slice_get, length}
+use Rattle.std.specs.Prelude.{◌≡◌, ℕ, Bool, true, false, ◌<◌, ◌≤◌, [], ◌∷◌, ◌++◌, cond, List, map, All, Option, Some, Result, Ok, Err, slice_get, length}
 use Rattle.std.specs.Ordering.{nat_cmp, is_eq}
 use Rattle.std.specs.Cmp.Lexicographic.{slice_cmp}
 use Rattle.std.specs.declared.cmp.Ordering.TheVariants.{Less, Greater}
@@ -25,9 +25,13 @@ entries_in paths list = map (entry_in paths) list
 abbrev pub ArePieces : ℕ → List Entry → Type 0
 ArePieces long list = All (λ (e : Entry). IsIn long e.path) list
 
--- each path is a text
-abbrev pub AreTexts : List (List ℕ × Node) → Type 0
-AreTexts entries = All (λ (e : List ℕ × Node). is_utf8 e.0 ≡ true) entries
+-- a path of an entry is a text, and not the root's
+abbrev pub is_entry_path : List ℕ → Bool
+is_entry_path [] = false
+is_entry_path (c ∷ path) = is_utf8 (c ∷ path)
+
+abbrev pub ArePaths : List (List ℕ × Node) → Type 0
+ArePaths entries = All (λ (e : List ℕ × Node). is_entry_path e.0 ≡ true) entries
 
 -- the paths ascend by their bytes
 abbrev pub Ascend : List (List ℕ × Node) → Type 0

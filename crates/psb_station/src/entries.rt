@@ -7,7 +7,7 @@ ghost use Rattle.std.specs.Ordering.{nat_cmp};
 ghost use Rattle.std.specs.Cmp.Lexicographic.{slice_cmp};
 ghost use Rattle.std.specs.Map.{keys_of};
 ghost use Rattle.psb_station.specs.Node.{stored_of, bytes_in, IsFullFor};
-ghost use Rattle.psb_station.specs.Entry.{entries_in, ArePieces, AreTexts, Ascend, by_path, IsPlace, Updates, Lengthens, SameStored};
+ghost use Rattle.psb_station.specs.Entry.{entries_in, ArePieces, ArePaths, Ascend, by_path, IsPlace, Updates, Lengthens, SameStored};
 
 use crate::Failed;
 use crate::node::{Node, lengthen};
@@ -22,14 +22,14 @@ pub struct Entry {
     pub node: Node,
 }
 
-/// Entries that ascend by the bytes of their paths. The paths stand in one list, so that each growth
-/// that is refused shows as a list that is full.
+/// Entries that ascend by the bytes of their paths, none of which is the root's. The paths stand in
+/// one list, so that each growth that is refused shows as a list that is full.
 #[derive(Drop)]
 pub struct Entries {
     pub paths: Vec<u8>,
     pub list: Vec<Entry>,
     ghost within: { ArePieces (length paths.items) list.items } by { Prim.hlevel props },
-    ghost texts: { AreTexts (entries_in paths.items list.items) } by { Prim.hlevel props },
+    ghost names: { ArePaths (entries_in paths.items list.items) } by { Prim.hlevel props },
     ghost ascend: { Ascend (entries_in paths.items list.items) } by { IsStrictlySortedBy-prop (slice_cmp nat_cmp) (keys_of (entries_in paths.items list.items)) },
 }
 
@@ -118,6 +118,7 @@ impl Entries {
     fn add(&mut self, place: usize, path: &str, node: Node)
         requires room { HasRoomFor (length path.now) self.old }
         requires place { IsPlace (entries_of self.old) path.now (Err place) }
+        requires below { path.now ≢ [] }
         ensures { Updates (entries_of self.old) (entries_of self.new) path.now (Some node) }
     {
         let path = put(&mut self.paths, path.as_bytes());
@@ -126,6 +127,7 @@ impl Entries {
 
     /// Puts what stands at a path in the place of what stood there.
     pub fn insert(&mut self, path: &str, node: Node) -> Result<(), AllocError>
+        requires { path.now ≢ [] }
         ensures ok { OnOk result (Updates (entries_of self.old) (entries_of self.new) path.now (Some node)) }
         ensures err { OnErr result (entries_of self.new ≡ entries_of self.old) }
         ensures full { OnErr result (IsTooFullFor (length path.now) self.old) }

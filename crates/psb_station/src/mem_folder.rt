@@ -1,9 +1,10 @@
-ghost use Rattle.std.specs.Prelude.{◌≡◌, ◌≢◌, ◌⊎◌, ◌-◌, [], OnOk, OnErr, length, take, drop, min, Some, None, true};
+ghost use Rattle.std.specs.Prelude.{◌≡◌, ◌≢◌, ◌⊎◌, ◌-◌, [], OnOk, OnErr, IfOk, length, map, take, drop, min, Some, None, true};
+ghost use Rattle.std.specs.String.{string_bytes};
 ghost use Rattle.std.specs.FinMap.{get, insert};
 ghost use Rattle.psb_station.specs.Folder.{plain, parent, Folder, File};
 ghost use Rattle.psb_station.specs.Node.{stored_of, bytes_in};
 ghost use Rattle.psb_station.specs.Entries.{IsTooFullFor};
-ghost use Rattle.psb_station.specs.MemTree.{held, takes_folder, takes_file, with_put};
+ghost use Rattle.psb_station.specs.MemTree.{held, takes_folder, takes_file, with_put, ArePathsOf, HasEntry};
 ghost use Rattle.std.specs.Option.{option_map};
 
 use crate::call_log::{CallKind, CallLog};
@@ -88,7 +89,10 @@ impl MemFolder {
     }
 
     /// The paths of all that it holds below its root, ascending by their bytes.
-    pub fn paths(&self) -> Result<Vec<String>, Memory> {
+    pub fn paths(&self) -> Result<Vec<String>, Memory>
+        ensures paths { IfOk result (λ paths. ArePathsOf (holds self.now) (map string_bytes paths.items)) }
+        ensures err { OnErr result (HasEntry (holds self.now)) }
+    {
         self.tree.paths()
     }
 

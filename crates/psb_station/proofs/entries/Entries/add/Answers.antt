@@ -11,8 +11,8 @@ invariant_of-self c =
     let items = rw ok at c.insert.ensures.items in
     let gap = c.requires.place in
     let grown : c.put-path.new.bytes.items ≡ m.paths.items ++ c.args.path.now = c.put-path.ensures.put ∙ ap (λ (l : List ℕ). m.paths.items ++ l) c.as_bytes.ensures.value in
-    let kept = put_kept m.paths.items c.put-path.new.bytes.items c.args.path.now m.list.items c.insert.new.self.items c.args.place e (m.within, m.texts, m.ascend) grown items c.put-path.ensures.begin c.put-path.ensures.end c.utf8.path gap.1 gap.2 in
-    record { within = kept.0; texts = kept.1; ascend = kept.2 }
+    let kept = put_kept m.paths.items c.put-path.new.bytes.items c.args.path.now m.list.items c.insert.new.self.items c.args.place e (m.within, m.names, m.ascend) grown items c.put-path.ensures.begin c.put-path.ensures.end c.utf8.path c.requires.below gap.1 gap.2 in
+    record { within = kept.0; names = kept.1; ascend = kept.2 }
 
 pub returns : goal.returns
 returns c =

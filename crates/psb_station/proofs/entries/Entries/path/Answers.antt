@@ -17,7 +17,7 @@ unwrap-requires c =
     let lt : c.args.i < length m.list.items = omega (arith, c.requires, length-map m.list.items (entry_in m.paths.items)) in
     let at : slice_get (entries_of m) c.args.i ≡ Some (entry_in m.paths.items e) = stands (entry_in m.paths.items) m.list.items c.args.i e lt c.index.ensures in
     let bytes : c.of.result.now ≡ piece_of m.paths.items e.path = c.of.ensures ∙ ap (λ (b : List ℕ). piece_of b e.path) c.deref.ensures.value in
-    let text : IsUtf8 c.of.result.now = subst IsUtf8 (sym bytes) (text_at (entries_of m) c.args.i (entry_in m.paths.items e) m.texts at) in
+    let text : IsUtf8 c.of.result.now = subst IsUtf8 (sym bytes) (text_at (entries_of m) c.args.i (entry_in m.paths.items e) m.names at) in
     read_ok c.from_utf8.result _ _ c.from_utf8.ensures.cases (λ x bad. bad.0 text)
 
 pub returns : goal.returns

@@ -5,8 +5,8 @@ use Rattle.psb_station.proofs.entries.Entries.remove.Goals as goal
 pub invariant_of-self : goal.invariant_of-self
 invariant_of-self c =
     let m = c.args.self.now in
-    let kept = taken_kept m.paths.items m.list.items c.remove.new.self.items c.in-Ok.place (m.within, m.texts, m.ascend) c.remove.ensures.items in
-    record { within = kept.0; texts = kept.1; ascend = kept.2 }
+    let kept = taken_kept m.paths.items m.list.items c.remove.new.self.items c.in-Ok.place (m.within, m.names, m.ascend) c.remove.ensures.items in
+    record { within = kept.0; names = kept.1; ascend = kept.2 }
 
 pub returns-in-Ok : goal.returns-in-Ok
 returns-in-Ok c =
