@@ -19,7 +19,7 @@ use crate::opening::open_or_refuse;
 use crate::saying::{refuse, say_forgot};
 use node_core::{Fault, Input, Node};
 use node_journal::Log;
-use node_serve::feed;
+use node_serve::feed_own;
 use psb_station::Station;
 use std::alloc::Global;
 
@@ -43,7 +43,7 @@ fn give_up<L: Log, S: Station>(
     ensures disk { (result ≡ Err Status.DiskFault) ⊎ ((S.view station.new).disk_faults ≡ (S.view station.old).disk_faults) }
     ensures only { IfErr result (StopsForget number) }
 {
-    match feed(node, station, &Input::Forget(number)) {
+    match feed_own(node, station, &Input::Forget(number)) {
         Ok(_) => Ok(()),
         Err(Fault::DiskFault) => Err(Status::DiskFault),
         Err(Fault::NoSnapshot(number)) => Err(Status::NoSnapshot(number)),

@@ -23,7 +23,7 @@ use Rattle.psb_ledger.proofs.Decoded.{all_bytes}
 use Rattle.psb_ledger.proofs.SnappedHeads.{ticket_length, names_length}
 use Rattle.psb_machine.specs.Deals.{meets_others}
 use Rattle.psb_machine.specs.Laws.{KeepFits, SnapFits}
-use Rattle.psb_machine.specs.Machine.{Situation, Reaction as MachineReaction, on_keep, kept_with, snapped_with, has_snapshot, quiet, grows}
+use Rattle.psb_machine.specs.Machine.{Situation, Volatile, Reaction as MachineReaction, Keep, on_keep, kept_with, snapped_with, has_snapshot, quiet, grows}
 use Rattle.psb_machine.specs.declared.snap_note.SnapNote.{SnapNote}
 use Rattle.psb_machine.proofs.Valid.{kept_may, kept_valid, snapped_may, snap_valid, forgot_may, forgot_valid}
 use Rattle.chunk_store.specs.declared.owner.Owner.TheVariants.{Own}
@@ -43,7 +43,7 @@ use Rattle.node_core.specs.Less.{IsLess}
 use Rattle.node_core.specs.Making.{MayMake}
 use Rattle.node_core.specs.Names.{KnowsNames}
 use Rattle.node_core.specs.Reacting.{Reacts, MayCome}
-use Rattle.node_core.specs.Refusing.{Compared}
+use Rattle.node_core.specs.Refusing.{Compared, when_taken}
 use Rattle.node_core.specs.Stands.{AreDecoded}
 use Rattle.node_core.specs.Stored.{Knows, Stored}
 use Rattle.node_core.proofs.Brought.{or_this, bytes_of, held_body, MeetsBy, look_exact}
@@ -224,20 +224,30 @@ keep_may_come r node name bytes c makes f known lacks few is =
         subst (λ (d : Change). MayMake (state n.history) d) (sym (is n k))
         (kept_may_make n.history name bytes k.valid.some f (free n k) (subst (λ (s : State). s.changes < 2 ^ 62) k.ledger few)))
 
+-- it is a reaction that makes this change and tells nobody
+made_here : (r : Reaction) (m : MachineReaction) (c d : Change) (v : Volatile) → r.change ≡ Some c → r.dropped ≡ None → r.out ≡ [] → c ≡ d → m ≡ grows d v → Reacts r m
+made_here r m c d v makes dropped out is same = record {
+  change = makes ∙ ap (λ (e : Change). Some e) is ∙ sym (ap (λ (q : MachineReaction). q.grown) same);
+  letters = ap letters_of out ∙ sym (ap (λ (q : MachineReaction). q.letters) same);
+  dropped = dropped ∙ sym (ap (λ (q : MachineReaction). q.dropped) same);
+}
+
 -- it is the change that the machine makes, where no others are held
 pub keeps_new : {L : Type 0} (r : Reaction) (node : Node L) (n : Situation) (name bytes : List ℕ) (c : Change) → r.change ≡ Some c → r.dropped ≡ None → r.out ≡ [] → is_owner node.names Own name ≡ false → Knows node n → meets_others n.history name bytes ≡ false
     → c ≡ kept_with (state n.history) name bytes → Reacts r (on_keep n name bytes)
 keeps_new r node n name bytes c makes dropped out lacks k meets is =
-    let free : own_has (state n.history).own name ≡ false = sym (k.names.owners Own name) ∙ lacks in
     let made = grows (kept_with (state n.history) name bytes) n.volatile in
-    let here : on_keep n name bytes ≡ made =
-    ap (λ (b : Bool). cond (b || meets_others n.history name bytes) (quiet n.volatile) made) free
-    ∙ ap (λ (b : Bool). cond b (quiet n.volatile) made) meets in
-    record {
-      change = makes ∙ ap (λ (d : Change). Some d) is ∙ sym (ap (λ (q : MachineReaction). q.grown) here);
-      letters = ap letters_of out ∙ sym (ap (λ (q : MachineReaction). q.letters) here);
-      dropped = dropped ∙ sym (ap (λ (q : MachineReaction). q.dropped) here);
-    }
+    made_here r (on_keep n name bytes) c (kept_with (state n.history) name bytes) n.volatile makes dropped out is (
+    ap (λ (b : Bool). cond (b || meets_others n.history name bytes) (quiet n.volatile) made) (sym (k.names.owners Own name) ∙ lacks)
+    ∙ ap (λ (b : Bool). cond b (quiet n.volatile) made) meets)
+
+-- and the one that it makes of what is taken
+pub keeps_taken : {L : Type 0} (r : Reaction) (node : Node L) (n : Situation) (name bytes : List ℕ) (c : Change) → r.change ≡ Some c → r.dropped ≡ None → r.out ≡ [] → is_owner node.names Own name ≡ false → Knows node n
+    → c ≡ kept_with (state n.history) name bytes → Reacts r (when_taken n (Keep name bytes))
+keeps_taken r node n name bytes c makes dropped out lacks k is =
+    let made = grows (kept_with (state n.history) name bytes) n.volatile in
+    made_here r (when_taken n (Keep name bytes)) c (kept_with (state n.history) name bytes) n.volatile makes dropped out is
+    (ap (λ (b : Bool). cond b (quiet n.volatile) made) (sym (k.names.owners Own name) ∙ lacks))
 
 -- what is new here is not held
 pub new_is : (names : Store) (h : List Change) (name : List ℕ) (new : Bool) → KnowsNames names h → (new ≡ true) ↔ (record_of names name ≡ None) → new ≡ not (is_held (state h) name)

@@ -1,14 +1,14 @@
 -- The inputs of the node's own: what they have to be, and which are refused.
-use Rattle.std.specs.Prelude.{◌≡◌, ◌⊎◌, ◌≤◌, ℕ, Bool, true, false, not, List, length, Some, Result, Ok, Err}
+use Rattle.std.specs.Prelude.{◌≡◌, ◌⊎◌, ◌≤◌, ℕ, Bool, true, false, not, if◌then◌else◌, List, length, Some, Result, Ok, Err}
 use Rattle.psb_bytes.specs.Units.{longest_chunk}
 use Rattle.psb_digest.specs.Clashes.{Pair}
-use Rattle.psb_model.specs.State.{State, is_held}
+use Rattle.psb_model.specs.State.{State, own_has, is_held}
 use Rattle.psb_model.specs.History.{state}
 use Rattle.psb_model.specs.Needed.{last_brought}
 use Rattle.psb_model.specs.declared.change.Change.{Change}
 use Rattle.psb_machine.specs.Deals.{meets_others}
 use Rattle.psb_machine.specs.Laws.{SnapFits}
-use Rattle.psb_machine.specs.Machine.{Situation, Input as MachineInput, Datagram, Tick, Keep, Snap, Forget, has_snapshot}
+use Rattle.psb_machine.specs.Machine.{Situation, Input as MachineInput, Datagram, Tick, Keep, Snap, Forget, Reaction as MachineReaction, kept_with, quiet, grows, react, has_snapshot}
 use Rattle.node_core.specs.declared.fault.Fault.{Fault}
 use Rattle.node_core.specs.declared.fault.Fault.TheVariants as fault
 use Rattle.node_core.specs.declared.input.Input.{Input}
@@ -30,6 +30,15 @@ is_refused n (Tick p) = false
 is_refused n (Keep name bytes) = meets_others n.history name bytes
 is_refused n (Snap note) = false
 is_refused n (Forget number) = not (has_snapshot (state n.history) number)
+
+-- What comes of an input of the node's own that is taken, whatever the disk tells: bytes to keep are then no
+-- others than those that are held.
+abbrev pub when_taken : Situation → MachineInput → MachineReaction
+when_taken n (Keep name bytes) = if own_has (state n.history).own name then quiet n.volatile else grows (kept_with (state n.history) name bytes) n.volatile
+when_taken n (Datagram x) = react n (Datagram x)
+when_taken n (Tick p) = react n (Tick p)
+when_taken n (Snap note) = react n (Snap note)
+when_taken n (Forget number) = react n (Forget number)
 
 -- the fault names the input that is refused
 abbrev pub Refuses : {R : Type 0} → MachineInput → Result R Fault → Type 0

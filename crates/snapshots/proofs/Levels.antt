@@ -13,7 +13,7 @@ use Rattle.rolling_chunks.specs.Cuts.{longest}
 use Rattle.rolling_chunks.specs.Spans.{spans}
 use Rattle.rolling_chunks.specs.Laws.{part, StandFrom, AreChunkSizes}
 use Rattle.rolling_chunks.proofs.Covering.{spans_cover, span_sizes}
-use Rattle.skeleton.specs.declared.limits.TheConstants.{REFS_MARK}
+use Rattle.skeleton.specs.declared.limits.TheConstants.{REFS_MARK, MOST_TEXT_BYTES}
 use Rattle.skeleton.specs.Entries.{is_ref, has_digests, has_chunk_len}
 use Rattle.skeleton.specs.Texts.{skeleton_text, refs_text}
 use Rattle.snapshots.specs.Meaning.{given}
@@ -46,7 +46,7 @@ some_stand n (s ∷ ss) stand some = omega arith
 count_is : (text : List ℕ) → length (refs_of_text text) ≡ length (spans longest text)
 count_is text = length-map (map (part text) (spans longest text)) sealed_ref ∙ length-map (spans longest text) (part text)
 
-count_few : (text : List ℕ) → 2048 * length (refs_of_text text) ≤ length text + 2048
+pub count_few : (text : List ℕ) → 2048 * length (refs_of_text text) ≤ length text + 2048
 count_few text =
     omega (arith, count_is text, few longest (map (λ (s : Span). s.len) (spans longest text)) (span_sizes longest text (omega arith)), sum_is 0 (length text) (spans longest text) (spans_cover longest text).0, length-map (spans longest text) (λ (s : Span). s.len))
 
@@ -55,22 +55,26 @@ count_some text some = omega (arith, count_is text, some_stand (length text) (sp
 
 -- ---- how long the text of their refs is
 
-ref_long : (r : Ref) → is_ref r ≡ true → length (ref_bytes r) ≡ 68
+pub ref_long : (r : Ref) → is_ref r ≡ true → length (ref_bytes r) ≡ 68
 ref_long r h =
     let digests = and_parts (length r.name == 32) (length r.handle == 32) (and_parts (has_digests r) (has_chunk_len r) h).0 in
     omega (arith, eqb-true (length r.name) 32 digests.0, eqb-true (length r.handle) 32 digests.1, length-append (r.name ++ r.handle) (u32_bytes r.len), length-append r.name r.handle)
 
-refs_long : (rs : List Ref) → list_all is_ref rs ≡ true → length (flat_map ref_bytes rs) ≡ 68 * length rs
+pub refs_long : (rs : List Ref) → list_all is_ref rs ≡ true → length (flat_map ref_bytes rs) ≡ 68 * length rs
 refs_long [] h = refl
 refs_long (r ∷ rs) h =
     let both = and_parts (is_ref r) (list_all is_ref rs) h in
     omega (arith, ref_long r both.0, refs_long rs both.1, length-append (ref_bytes r) (flat_map ref_bytes rs))
 
-next_long : (text : List ℕ) → length (refs_text (refs_of_text text)) ≡ 12 + 68 * length (refs_of_text text)
+pub next_long : (text : List ℕ) → length (refs_text (refs_of_text text)) ≡ 12 + 68 * length (refs_of_text text)
 next_long text =
     let rs = refs_of_text text in
     let fit = refs_fit text 0 (spans longest text) (spans_cover longest text).0 (span_sizes longest text (omega arith)) in
     omega (arith, refs_long rs fit, length-append REFS_MARK (u32_bytes (length rs) ++ flat_map ref_bytes rs), length-append (u32_bytes (length rs)) (flat_map ref_bytes rs))
+
+-- it is short where the text is
+pub next_short : (text : List ℕ) → length text ≤ MOST_TEXT_BYTES → length (refs_text (refs_of_text text)) ≤ MOST_TEXT_BYTES
+next_short text short = omega (arith, short, next_long text, count_few text)
 
 -- ---- tickets
 

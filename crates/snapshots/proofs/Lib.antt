@@ -1,3 +1,14 @@
 pub mod Tickets
+pub mod Members
 pub mod Skeletons
 pub mod Levels
+pub mod PathSplits
+pub mod Seen
+pub mod WalkSteps
+pub mod WalkTurns
+pub mod WalkEnds
+pub mod WalkTrees
+pub mod ChunkLengths
+pub mod Gatherings
+pub mod PieceReads
+pub mod ChunkReads

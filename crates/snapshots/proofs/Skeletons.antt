@@ -1,5 +1,5 @@
--- The tree of a folder has a skeleton.
-use Rattle.std.proofs.Common.{◌≡◌, ◌⊎◌, inl, inr, ℕ, zero, suc, ◌+◌, ◌<◌, Bool, true, false, ◌&&◌, ◌||◌, cond, get_or, List, [], ◌∷◌, ◌++◌, length, map, bytes_eq, Contains, refl, sym, ◌∙◌, ap, subst, arith, append_assoc}
+-- Places in their order have a skeleton.
+use Rattle.std.proofs.Common.{◌≡◌, ◌⊎◌, inl, inr, ℕ, ◌+◌, Bool, true, false, ◌&&◌, ◌||◌, cond, List, [], ◌∷◌, ◌++◌, length, map, bytes_eq, refl, sym, ◌∙◌, ap, subst, arith, append_assoc}
 use Rattle.std.specs.List.{list_all}
 use Rattle.std.specs.Ordering.{nat_cmp, is_lt, ordering_then}
 use Rattle.std.specs.declared.cmp.Ordering.{Ordering}
@@ -12,7 +12,6 @@ use Rattle.std.proofs.lemmas.List.Sums.{sum_by-cons}
 use Rattle.psb_bytes.specs.Names.{is_slash}
 use Rattle.psb_bytes.specs.Paths.{parents}
 use Rattle.psb_bytes.specs.declared.ids.Ref.{Ref}
-use Rattle.psb_station.specs.Folder.{Content}
 use Rattle.convergent_seal.specs.Sealing.{sealed_ref}
 use Rattle.rolling_chunks.specs.declared.spans.Span.{Span}
 use Rattle.rolling_chunks.specs.Cuts.{longest}
@@ -25,45 +24,14 @@ use Rattle.skeleton.specs.Paths.{is_path, is_below}
 use Rattle.skeleton.proofs.Order.{below_trans, grows}
 use Rattle.snapshots.specs.Meaning.{Item, Folder, File, Place}
 use Rattle.snapshots.specs.Tickets.{refs_of_text, entry_of}
-use Rattle.snapshots.specs.Trees.{ascend, IsTree}
-use Rattle.snapshots.specs.Laws.{TreesHaveSkeletons}
+use Rattle.snapshots.specs.Trees.{ascend, AreInPlace}
+use Rattle.snapshots.specs.Laws.{TreesAreInPlace, PlacesHaveSkeletons}
+use Rattle.snapshots.specs.WalkSteps.{In}
+use Rattle.snapshots.proofs.Members.{to_in, from_in, in_app, in_right, all_pass, same_bytes}
 use Rattle.snapshots.proofs.Tickets.{refs_fit, stand_le, part_long}
 
--- ---- membership, by cases
-
-abbrev In : {X : Type 0} → X → List X → Type 0
-In x [] = ⊥
-In x (y ∷ ys) = (y ≡ x) ⊎ In x ys
-
-to_in : {X : Type 0} (x : X) (xs : List X) → Contains xs x → In x xs
-to_in x [] c = absurd (omega (arith, c.1))
-to_in x (y ∷ ys) c = at c.0 c.1 c.2 (λ k lt is. to_in x ys (k, lt, is))
-  where
-    at : (k : ℕ) → k < length (y ∷ ys) → get_or (y ∷ ys) k x ≡ x → ((j : ℕ) → j < length ys → get_or ys j x ≡ x → In x ys) → In x (y ∷ ys)
-    at zero lt is rest = inl is
-    at (suc j) lt is rest = inr (rest j (omega (arith, lt)) is)
-
-from_in : {X : Type 0} (x : X) (xs : List X) → In x xs → Contains xs x
-from_in x [] i = absurd i
-from_in x (y ∷ ys) (inl is) = (0, omega arith, is)
-from_in x (y ∷ ys) (inr i) = let c = from_in x ys i in (suc c.0, omega (arith, c.1), c.2)
-
-in_app : {X : Type 0} (x : X) (a b : List X) → In x (a ++ b) → In x a ⊎ In x b
-in_app x [] b i = inr i
-in_app x (y ∷ a) b (inl is) = inl (inl is)
-in_app x (y ∷ a) b (inr i) = at (in_app x a b i)
-  where
-    at : In x a ⊎ In x b → In x (y ∷ a) ⊎ In x b
-    at (inl j) = inl (inr j)
-    at (inr j) = inr j
-
 in_back : {X : Type 0} (x : X) (a b : List X) → In x (a ++ x ∷ b)
-in_back x [] b = inl refl
-in_back x (y ∷ a) b = inr (in_back x a b)
-
-all_in : {X : Type 0} (p : X → Bool) (xs : List X) → ((x : X) → In x xs → p x ≡ true) → list_all p xs ≡ true
-all_in p [] h = refl
-all_in p (x ∷ xs) h = rw (h x (inl refl)) (all_in p xs (λ y i. h y (inr i)))
+in_back x a b = in_right x a (x ∷ b) (inl refl)
 
 -- ---- the order of paths
 
@@ -146,10 +114,6 @@ all_below [] qs q h = refl
 all_below (p ∷ ps) qs q h =
     rw (ap (λ (path : List ℕ). is_below path q.path) (path_is p) ∙ first_below p q (ps ++ q ∷ qs) h (in_back q ps qs)) (all_below ps qs q (rest_ascends p (ps ++ q ∷ qs) h))
 
-same_path : (a : List ℕ) → bytes_eq a a ≡ true
-same_path [] = refl
-same_path (x ∷ a) = rw (eq-eqb x x refl) (same_path a)
-
 or_true : (a : Bool) → (a || true) ≡ true
 or_true true = refl
 or_true false = refl
@@ -157,7 +121,7 @@ or_true false = refl
 folder_there : (ps : List Place) (r : List ℕ) → In (record { path = r; item = Folder }) ps → has_folder (map entry_of ps) r ≡ true
 folder_there [] r i = absurd i
 folder_there (p ∷ ps) r (inl is) =
-    ap (λ (b : Bool). b || has_folder (map entry_of ps) r) (ap (λ (q : Place). is_folder (entry_of q).kind && bytes_eq (entry_of q).path r) is ∙ same_path r)
+    ap (λ (b : Bool). b || has_folder (map entry_of ps) r) (ap (λ (q : Place). is_folder (entry_of q).kind && bytes_eq (entry_of q).path r) is ∙ same_bytes r)
 folder_there (p ∷ ps) r (inr i) =
     ap (λ (b : Bool). (is_folder (entry_of p).kind && bytes_eq (entry_of p).path r) || b) (folder_there ps r i) ∙ or_true (is_folder (entry_of p).kind && bytes_eq (entry_of p).path r)
 
@@ -181,27 +145,34 @@ counts_of p = at p.item refl
     at Folder is = ap (λ (i : Item). let e = entry_of (record { path = p.path; item = i }) in counts_agree e.kind e.size e.refs) is
     at (File bytes) is = ap (λ (i : Item). let e = entry_of (record { path = p.path; item = i }) in counts_agree e.kind e.size e.refs) is ∙ file bytes
 
--- a place of a tree may stand behind those in front of it
-fits : (content : Content) (root : List ℕ) (ps qs : List Place) (q : Place) → IsTree content root (ps ++ q ∷ qs) → fits_behind (map entry_of ps) (entry_of q) ≡ true
+-- a place may stand behind those in front of it
+pub fits : (ps qs : List Place) (q : Place) → AreInPlace (ps ++ q ∷ qs) → fits_behind (map entry_of ps) (entry_of q) ≡ true
 unfolding in_order
-fits content root ps qs q tree =
-    let stands = tree.stand q (from_in q (ps ++ q ∷ qs) (in_back q ps qs)) in
+fits ps qs q are =
+    let here = from_in q (ps ++ q ∷ qs) (in_back q ps qs) in
     let folders : list_all (λ r. has_folder (map entry_of ps) r) (parents q.path) ≡ true =
-    all_in (λ r. has_folder (map entry_of ps) r) (parents q.path) (λ r i.
-    folder_there ps r (in_front ps q qs (record { path = r; item = Folder }) tree.ordered (to_in _ (ps ++ q ∷ qs) (stands.reached r (from_in r (parents q.path) i))) (parent_below q.path r i))) in
+    all_pass (λ r. has_folder (map entry_of ps) r) (parents q.path) (λ r i.
+    folder_there ps r (in_front ps q qs (record { path = r; item = Folder }) are.ordered (to_in _ (ps ++ q ∷ qs) (are.reached q here r (from_in r (parents q.path) i))) (parent_below q.path r i))) in
     subst (λ (path : List ℕ). (is_path path && (list_all (λ e. is_below e.path path) (map entry_of ps) && list_all (λ r. has_folder (map entry_of ps) r) (parents path) && counts_agree (entry_of q).kind (entry_of q).size (entry_of q).refs)) ≡ true) (sym (path_is q))
-    (rw (stands.path, all_below ps qs q tree.ordered, folders, counts_of q) refl)
+    (rw (are.paths q here, all_below ps qs q are.ordered, folders, counts_of q) refl)
 
-grow : (content : Content) (root : List ℕ) (ps qs : List Place) → IsTree content root (ps ++ qs) → IsSkeleton (map entry_of ps) → IsSkeleton (map entry_of (ps ++ qs))
-grow content root ps [] tree k = subst (λ (l : List Place). IsSkeleton (map entry_of l)) (sym (append-nil ps)) k
-grow content root ps (q ∷ qs) tree k =
+grow : (ps qs : List Place) → AreInPlace (ps ++ qs) → IsSkeleton (map entry_of ps) → IsSkeleton (map entry_of (ps ++ qs))
+grow ps [] are k = subst (λ (l : List Place). IsSkeleton (map entry_of l)) (sym (append-nil ps)) k
+grow ps (q ∷ qs) are k =
     let same : (ps ++ q ∷ []) ++ qs ≡ ps ++ q ∷ qs = append_assoc ps (q ∷ []) qs in
-    let more : IsSkeleton (map entry_of (ps ++ q ∷ [])) = subst IsSkeleton (sym (map-append entry_of ps (q ∷ []))) (grows (map entry_of ps) k (entry_of q) (fits content root ps qs q tree)) in
-    subst (λ (l : List Place). IsSkeleton (map entry_of l)) same (grow content root (ps ++ q ∷ []) qs (subst (IsTree content root) (sym same) tree) more)
+    let more : IsSkeleton (map entry_of (ps ++ q ∷ [])) = subst IsSkeleton (sym (map-append entry_of ps (q ∷ []))) (grows (map entry_of ps) k (entry_of q) (fits ps qs q are)) in
+    subst (λ (l : List Place). IsSkeleton (map entry_of l)) same (grow (ps ++ q ∷ []) qs (subst AreInPlace (sym same) are) more)
 
-pub tree_has_skeleton : TreesHaveSkeletons
-tree_has_skeleton content root places tree = grow content root [] places tree (record { each = λ before entry after split. absurd (none before entry after split) })
+pub places_have_skeleton : PlacesHaveSkeletons
+places_have_skeleton places are = grow [] places are (record { each = λ before entry after split. absurd (none before entry after split) })
   where
     none : (before : List Entry) (entry : Entry) (after : List Entry) → [] ≡ before ++ entry ∷ after → ⊥
     none [] entry after is = absurd (cc)
     none (b ∷ before) entry after is = absurd (cc)
+
+pub tree_in_place : TreesAreInPlace
+tree_in_place content root places tree = record {
+  ordered = tree.ordered;
+  paths = λ p has. (tree.stand p has).path;
+  reached = λ p has. (tree.stand p has).reached;
+}

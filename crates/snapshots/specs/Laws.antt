@@ -7,7 +7,7 @@ use Rattle.skeleton.specs.Entries.{IsSkeleton}
 use Rattle.skeleton.specs.Texts.{skeleton_text, refs_text}
 use Rattle.snapshots.specs.Meaning.{Bodies, Item, Folder, File, Place, means}
 use Rattle.psb_station.specs.Folder.{Content}
-use Rattle.snapshots.specs.Trees.{IsTree}
+use Rattle.snapshots.specs.Trees.{AreInPlace, IsTree}
 use Rattle.snapshots.specs.Tickets.{chunks_of, refs_of_text, one_of, ticket_of_tree, skeleton_of_tree, most_levels}
 
 -- each piece's sealed bytes stand under its name
@@ -38,9 +38,12 @@ pub record HoldsTree (bodies : Bodies) (places : List Place) : Type 0 where
 abbrev pub TicketMeansItsTree : Type 0
 TicketMeansItsTree = (bodies : Bodies) (places : List Place) (t : Ticket) → IsSkeleton (skeleton_of_tree places) → ticket_of_tree places ≡ Some t → HoldsTree bodies places → means bodies t ≡ Some places
 
--- The tree of a folder has a skeleton: its entries stand in their order, each behind the folders that it lies in.
-abbrev pub TreesHaveSkeletons : Type 0
-TreesHaveSkeletons = (content : Content) (root : List ℕ) (places : List Place) → IsTree content root places → IsSkeleton (skeleton_of_tree places)
+-- The places of a tree stand in their order; and such places have a skeleton.
+abbrev pub TreesAreInPlace : Type 0
+TreesAreInPlace = (content : Content) (root : List ℕ) (places : List Place) → IsTree content root places → AreInPlace places
+
+abbrev pub PlacesHaveSkeletons : Type 0
+PlacesHaveSkeletons = (places : List Place) → AreInPlace places → IsSkeleton (skeleton_of_tree places)
 
 -- and a ticket, where that skeleton's text is not too long
 abbrev pub TreesHaveTickets : Type 0

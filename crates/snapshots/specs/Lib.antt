@@ -2,3 +2,9 @@ pub mod Meaning
 pub mod Tickets
 pub mod Trees
 pub mod Laws
+pub mod Walks
+pub mod WalkSteps
+pub mod Shapes
+pub mod Gathering
+pub mod Pieces
+pub mod Reading

@@ -20,6 +20,12 @@ ascend (p ∷ q ∷ rest) = is_below p.path q.path && ascend (q ∷ rest)
 abbrev pub IsReached : List Place → List ℕ → Type 0
 IsReached places path = (folder : List ℕ) → Contains (parents path) folder → Contains places (record { path = folder; item = Folder })
 
+-- Places that stand in the order of their paths, each behind the folders that it lies in.
+pub record AreInPlace (places : List Place) : Type 0 where
+  pub ordered : ascend places ≡ true
+  pub paths : (p : Place) → Contains places p → is_path p.path ≡ true
+  pub reached : (p : Place) → Contains places p → IsReached places p.path
+
 -- a place of a tree: it stands in the folder, and so does each folder that it lies in
 pub record Stands (content : Content) (root : List ℕ) (places : List Place) (p : Place) : Type 0 where
   pub path : is_path p.path ≡ true

@@ -1,5 +1,7 @@
-//! The laws of tickets and of trees.
-ghost use Rattle.snapshots.specs.Laws.{TicketMeansItsTree, TreesHaveSkeletons, TreesHaveTickets};
+//! The laws of tickets, of trees, of walks and of readers.
+ghost use Rattle.snapshots.specs.Laws.{TicketMeansItsTree, TreesAreInPlace, PlacesHaveSkeletons, TreesHaveTickets};
+ghost use Rattle.snapshots.specs.Reading.{EndedReadersGaveAll, ReadersReadOnePieceAhead};
+ghost use Rattle.snapshots.specs.Shapes.{WalksAreInPlace, WalksFindTrees};
 
 /// A ticket means the tree that it was made of, over any bodies that have the sealed pieces of its files, of
 /// its skeleton and of the lists of refs above that.
@@ -8,14 +10,44 @@ pub fn a_ticket_means_its_tree()
     ensures { TicketMeansItsTree }
 {}
 
-/// What stands below a folder, in the order of the paths, has a skeleton.
-#[tactic(auto, using(crate::proofs::Skeletons::tree_has_skeleton))]
-pub fn trees_have_skeletons()
-    ensures { TreesHaveSkeletons }
+/// What stands below a folder, in the order of the paths, is in place: each behind the folders that it
+/// lies in.
+#[tactic(auto, using(crate::proofs::Skeletons::tree_in_place))]
+pub fn trees_are_in_place()
+    ensures { TreesAreInPlace }
+{}
+
+/// Places that are in place have a skeleton.
+#[tactic(auto, using(crate::proofs::Skeletons::places_have_skeleton))]
+pub fn places_have_skeletons()
+    ensures { PlacesHaveSkeletons }
 {}
 
 /// Four lists of refs above each other are enough for any skeleton whose text is not too long.
 #[tactic(auto, using(crate::proofs::Levels::tree_has_ticket))]
 pub fn trees_have_tickets()
     ensures { TreesHaveTickets }
+{}
+
+/// What a walk finds is in place, whatever the folder answered.
+#[tactic(auto, using(crate::proofs::WalkTrees::in_place))]
+pub fn walks_are_in_place()
+    ensures { WalksAreInPlace }
+{}
+
+/// Where the folder tells what it holds, and its files were read, what a walk finds is its tree.
+pub fn walks_find_trees()
+    ensures { WalksFindTrees }
+{}
+
+/// The chunks that an ended reader gave are those that its file is cut into.
+#[tactic(auto, using(crate::proofs::ChunkReads::ended_gave_all))]
+pub fn ended_readers_gave_all()
+    ensures { EndedReadersGaveAll }
+{}
+
+/// A reader is at most a piece ahead of the chunks that it gave.
+#[tactic(auto, using(crate::proofs::ChunkReads::read_ahead))]
+pub fn readers_read_one_piece_ahead()
+    ensures { ReadersReadOnePieceAhead }
 {}

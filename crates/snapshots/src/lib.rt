@@ -1,11 +1,22 @@
-//! Snapshots: what a ticket means, and the ticket of a tree.
+//! Snapshots: what a ticket means, the ticket of a tree, the walk that finds a tree, and the chunks of its
+//! files as they are read.
 #![tactic(auto)]
 
+mod gathering;
 mod laws;
+mod reading;
 mod sealing;
+mod unread;
+mod walking;
 
-pub use laws::{a_ticket_means_its_tree, trees_have_skeletons, trees_have_tickets};
+pub use laws::{
+    a_ticket_means_its_tree, ended_readers_gave_all, places_have_skeletons,
+    readers_read_one_piece_ahead, trees_are_in_place, trees_have_tickets, walks_are_in_place,
+    walks_find_trees,
+};
+pub use reading::ChunkReader;
 pub use sealing::refs_of_text;
+pub use walking::{Found, WalkFault, Walked, walk};
 
 #[cfg(test)]
 mod tests;

@@ -1,6 +1,10 @@
-use crate::refs_of_text;
+use crate::{ChunkReader, refs_of_text};
+use psb_station::{Failed, MemFolder};
+use rolling_chunks::{Span, cut_all};
 use std::alloc::Global;
 use std::test::Fail;
+
+mod walking;
 
 // Whether the refs of a text have these lengths, names and handles.
 fn has_refs(alloc: Global, text: &[u8], rows: &[(u32, &str, &str)]) -> Result<bool, Fail> {
@@ -43,5 +47,102 @@ fn texts_have_the_refs_that_were_computed_outside(rt: HostRuntime) -> Result<(),
     assert!(rt; has_refs(alloc, b"abc", &[abc])?);
     assert!(rt; has_refs(alloc, &zeros, &[longest, rest])?);
     assert!(rt; !has_refs(alloc, b"abd", &[abc])?);
+    Ok(())
+}
+
+// Bytes that have cuts by their content: a running sum that wraps.
+fn bytes_of(alloc: Global, len: usize) -> Result<Vec<u8>, Fail> {
+    let mut text = vec![in alloc; 0u8; len]?;
+    let mut state: u32 = 1;
+    for byte in text.iter_mut() {
+        state = state.wrapping_mul(1_664_525).wrapping_add(1_013_904_223);
+        *byte = (state >> 24) as u8;
+    }
+    Ok(text)
+}
+
+// A folder with this file alone, whose calls of these numbers fail.
+fn folder_of(alloc: Global, faults: Vec<u64>, bytes: &[u8]) -> Result<MemFolder, Fail> {
+    let mut folder = MemFolder::new(alloc, faults);
+    if !folder.takes_file("f") {
+        return Err("taken".into());
+    }
+    folder.put_file("f", bytes).ok().ok_or("memory")?;
+    Ok(folder)
+}
+
+// Whether the reader gives the chunks that the whole text is cut into, and then none. No text here
+// has as many as twenty.
+fn gives_chunks(
+    reader: &mut ChunkReader,
+    folder: &mut MemFolder,
+    text: &[u8],
+    spans: &[Span],
+) -> bool {
+    reader.restart();
+    for i in 0..20usize {
+        let given = reader.next(folder, "f");
+        let Some(span) = spans.get(i) else {
+            return given == Ok(false);
+        };
+        let want = text.get(span.start..span.start.wrapping_add(span.len));
+        if given != Ok(true) || want != Some(reader.chunk()) {
+            return false;
+        }
+    }
+    false
+}
+
+// Whether the reader gives two chunks, and then fails.
+fn fails_behind_two(reader: &mut ChunkReader, folder: &mut MemFolder) -> bool {
+    reader.restart();
+    let first = reader.next(folder, "f");
+    let second = reader.next(folder, "f");
+    let third = reader.next(folder, "f");
+    first == Ok(true) && second == Ok(true) && third == Err(Failed)
+}
+
+#[test]
+fn files_are_read_in_their_chunks(rt: HostRuntime) -> Result<(), Fail> {
+    let alloc = rt.alloc();
+    let mut reader = ChunkReader::new(alloc).ok().ok_or("memory")?;
+    for len in [0, 1, 2_048, 32_768, 40_000, 65_536, 70_000] {
+        let text = bytes_of(alloc, len)?;
+        let zeros = vec![in alloc; 0u8; len]?;
+        for bytes in [text.as_slice(), zeros.as_slice()] {
+            let spans = cut_all(alloc, bytes).ok().ok_or("memory")?;
+            let mut folder = folder_of(alloc, Vec::new(alloc), bytes)?;
+            assert!(rt;
+                gives_chunks(&mut reader, &mut folder, bytes, &spans),
+                "of {len} bytes"
+            );
+        }
+    }
+    Ok(())
+}
+
+#[test]
+fn a_failed_read_is_no_end(rt: HostRuntime) -> Result<(), Fail> {
+    let alloc = rt.alloc();
+    let text = vec![in alloc; 0u8; 70_000]?;
+    let spans = cut_all(alloc, &text).ok().ok_or("memory")?;
+    let mut folder = folder_of(alloc, vec![in alloc; 2]?, &text)?;
+    let mut reader = ChunkReader::new(alloc).ok().ok_or("memory")?;
+    assert!(rt; fails_behind_two(&mut reader, &mut folder));
+    assert!(rt; gives_chunks(&mut reader, &mut folder, &text, &spans));
+    Ok(())
+}
+
+#[test]
+fn nothing_is_read_behind_the_end(rt: HostRuntime) -> Result<(), Fail> {
+    let alloc = rt.alloc();
+    let mut folder = folder_of(alloc, vec![in alloc; 3]?, b"a")?;
+    let mut reader = ChunkReader::new(alloc).ok().ok_or("memory")?;
+    assert_eq!(rt; reader.next(&mut folder, "f"), Ok(true));
+    assert_eq!(rt; reader.chunk(), b"a".as_slice());
+    assert_eq!(rt; reader.next(&mut folder, "f"), Ok(false));
+    assert_eq!(rt; reader.next(&mut folder, "f"), Ok(false));
+    reader.restart();
+    assert_eq!(rt; reader.next(&mut folder, "f"), Err(Failed));
     Ok(())
 }

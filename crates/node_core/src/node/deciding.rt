@@ -27,7 +27,7 @@ impl<L: Log> Node<L> {
     ghost use Rattle.node_core.specs.Making.{CanMake, CanTell, made_of, made_in, why_refused};
     ghost use Rattle.node_core.specs.Stored.{Knows, Stored, IsCounted};
     ghost use Rattle.node_core.specs.Unread.{IsUnread, IsCertain};
-    ghost use Rattle.node_core.specs.Refusing.{IsApt, is_refused, IsHeldAs, Refuses};
+    ghost use Rattle.node_core.specs.Refusing.{IsApt, is_refused, when_taken, IsHeldAs, Refuses};
     ghost use Rattle.node_core.specs.Reacting.{Decides, CanDo, Makes, MakesNone, IsToldAgain, Reacts, ReactsSo, MayCome, IsSame};
 
     /// What the machine makes of an input. Nothing is written.
@@ -46,6 +46,7 @@ impl<L: Log> Node<L> {
             → Reacts r (react n (input_of input.now))) }
         ensures unread { IfOk result (λ r. (n : Situation) → Knows self.old n → IsUnread n (input_of input.now) → Reacts r (react n (input_of input.now))) }
         ensures so { IfOk result (λ r. (n : Situation) → Knows self.old n → ReactsSo r n (input_of input.now)) }
+        ensures taken { IfOk result (λ r. (n : Situation) → Knows self.old n → is_own (input_of input.now) ≡ true → Reacts r (when_taken n (input_of input.now))) }
         ensures may { IfOk result (λ r. IfSome r.change (MayCome Knows self.old)) }
         ensures few { IfOk result (λ r. length r.out ≤ 2) }
         ensures untold { IfOk result (λ r. is_own (input_of input.now) ≡ true → r.out ≡ []) }

@@ -14,7 +14,7 @@ ghost use Rattle.psb_machine.specs.Machine.{Situation, Keep, on_keep, on_snap, o
 ghost use Rattle.chunk_store.specs.Store.{record_of};
 ghost use Rattle.node_core.specs.Stands.{AreDecoded};
 ghost use Rattle.node_core.specs.Names.{KnowsNames};
-ghost use Rattle.node_core.specs.Refusing.{Compared, Refuses};
+ghost use Rattle.node_core.specs.Refusing.{Compared, Refuses, when_taken};
 
 use super::Node;
 use crate::Fault;
@@ -116,6 +116,7 @@ impl<L: Log> Node<L> {
         ensures exact { IfOk result (λ r. Tells_bytes (D.view disk.new) → (n : Situation) → Knows self.old n → Stored L.holds self.old n.history (D.view disk.old) → Reacts r (on_keep n name.now bytes.now)) }
         ensures compared { Tells_bytes (D.view disk.new) → (n : Situation) → Knows self.old n → Stored L.holds self.old n.history (D.view disk.old) → Compared n.history name.now bytes.now result }
         ensures unheld { IfOk result (λ r. (n : Situation) → Knows self.old n → is_held (state n.history) name.now ≡ false → Reacts r (on_keep n name.now bytes.now)) }
+        ensures taken { IfOk result (λ r. (n : Situation) → Knows self.old n → Reacts r (when_taken n (Keep name.now bytes.now))) }
         ensures unread { (n : Situation) → Knows self.old n → is_held (state n.history) name.now ≡ false → disk.new ≡ disk.old }
         ensures dropped { IfOk result (λ r. r.dropped ≡ None) }
         ensures may { IfOk result (λ r. IfSome r.change (MayCome Knows self.old)) }

@@ -1,10 +1,11 @@
-use Rattle.std.proofs.Common.{◌≡◌, false, ap, ◌∙◌, rules}
+use Rattle.std.proofs.Common.{◌≡◌, true, false, refl, ap, sym, ◌∙◌, rules}
+use Rattle.std.proofs.lemmas.Bool.{true≢false}
 use Rattle.psb_station.specs.Span.{Tells_bytes}
 use Rattle.node_core.specs.Letters.{letters_of, input_of}
 use Rattle.node_serve.proofs.OneTurn.{Now, refused, answered}
 use Rattle.node_serve.proofs.Runs.{ready_after}
 use Rattle.node_serve.proofs.Tries.{sends_tells}
-use Rattle.node_core.proofs.Presence.{err_as}
+use Rattle.node_serve.proofs.OwnInputs.{apt_of_peer, peer_fails}
 use Rattle.node_serve.proofs.feeding.feed.Goals as goal
 
 pub returns-in-Err-clause-fed : goal.returns-in-Err-clause-fed
@@ -39,9 +40,10 @@ returns-clause-ready g c =
     ready_after g.L.Log.holds g.L.Log.stands g.L.Log.is_broken g.met.L.Log.holds_stands c.args.node.now c.absorb.new.self v1 v3 whole c.requires.ready same c.in-Ok.ensures.known
     (λ tells n k st. let f = returns-clause-fed g c tells n k st in (_, f.knows whole, f.stored whole))
 
-pub returns-in-Err-clause-clash : goal.returns-in-Err-clause-clash
-returns-in-Err-clause-clash g c = λ p is tells n k s. c.in-Err.ensures.clash p (err_as _ _ is) tells n k s
+pub absorb-requires-clause-apt : goal.absorb-requires-clause-apt
+absorb-requires-clause-apt g c = λ whole. apt_of_peer c.args.node.now.ledger.state c.args.input.now c.requires.of_peer
 
-pub returns-clause-untold : goal.returns-clause-untold
-returns-clause-untold g c = λ own.
-    ap (λ s. (g.S.Disk.view s).outside) (c.send_all-lost.ensures.none (c.as_slice.ensures ∙ c.in-Ok.ensures.untold own)) ∙ c.absorb.ensures.works.outside
+pub returns-in-Err-clause-only : goal.returns-in-Err-clause-only
+returns-in-Err-clause-only g c =
+    peer_fails (input_of c.args.input.now) _ c.in-Err.fault c.requires.of_peer refl
+    (λ broken. let clash : true ≡ false = sym (c.absorb.ensures.refused.0 (c.in-Err.is ∙ broken)) ∙ c.requires.whole in true≢false clash) c.in-Err.ensures.only

@@ -2,7 +2,7 @@ use Rattle.std.proofs.Common.{rules, arith, subst}
 use Rattle.psb_model.specs.History.{state}
 use Rattle.node_core.specs.Refusing.{Compared}
 use Rattle.node_core.proofs.Presence.{one_there}
-use Rattle.node_core.proofs.Owned.{found_stored, keep_fits, keep_may_come, keeps_new, new_is}
+use Rattle.node_core.proofs.Owned.{found_stored, keep_fits, keep_may_come, keeps_new, keeps_taken, new_is}
 use Rattle.node_core.proofs.node.Node.on_keep.Goals as goal
 
 pub fits-requires-clause-below : goal.fits-requires-clause-below
@@ -33,3 +33,8 @@ pub returns-clause-may : goal.returns-clause-may
 returns-clause-may g c =
     keep_may_come c.untold.result c.args.self.now c.args.name.now c.args.bytes.now c.in_ok-change.change (search rules) (keep_fits c.args.name.now c.args.bytes.now c.requires.named c.requires.some c.requires.short (λ k. omega (arith, c.type_inv.bytes k))) c.requires.known (search rules) c.requires.few
     (λ n k. c.in_ok-change.ensures (state n.history) (new_is c.args.self.now.names n.history c.args.name.now c.eq.result k.names (search rules)))
+
+pub returns-clause-taken : goal.returns-clause-taken
+returns-clause-taken g c = λ n k.
+    keeps_taken c.untold.result c.args.self.now n c.args.name.now c.args.bytes.now c.in_ok-change.change (search rules) (search rules) (search rules) (search rules) k
+    (c.in_ok-change.ensures (state n.history) (new_is c.args.self.now.names n.history c.args.name.now c.eq.result k.names (search rules)))
