@@ -1,6 +1,6 @@
 -- How the reading of a file goes on, and which chunks were given of it.
 use Rattle.std.proofs.Common.{◌≡◌, inl, inr, ⊎_elim, ℕ, ◌+◌, ◌-◌, ◌^◌, ◌<◌, ◌≤◌, Bool, true, false, not, ◌&&◌, ◌==◌, cond, List, [], ◌∷◌, ◌++◌, length, take, drop, map, sum, Option, Some, None, IfSome, is_some, Result, Ok, Err, OnErr, refl, sym, ◌∙◌, ap, subst, arith, append-nil, append_assoc, length-append}
-use Rattle.std.proofs.lemmas.Bool.{false≢true, eqb-true}
+use Rattle.std.proofs.lemmas.Bool.{false≢true, eqb-true, cases_lt}
 use Rattle.std.proofs.lemmas.List.{take-append-drop, drop_all, map-append, length-take-le}
 use Rattle.std.proofs.lemmas.List.Elements.{All-nil, All-append}
 use Rattle.std.proofs.lemmas.List.Sums.{sum_by-cons}
@@ -9,15 +9,17 @@ use Rattle.std.proofs.Math.Seq.{drop-append_seam}
 use Rattle.psb_station.specs.Calls.{Grows}
 use Rattle.psb_station.specs.Folder.{FolderView, FolderCall, Content, File, Reading, Tells_content, found}
 use Rattle.psb_station.proofs.Spans.{at_some, same_some, told_before}
-use Rattle.rolling_chunks.specs.Cuts.{longest, cuts_after, standing_cuts, lengths_after, standing_lengths, chunk_lengths}
+use Rattle.rolling_chunks.specs.Cuts.{longest, cuts_after, standing_cuts, last_after, lengths_after, standing_lengths, chunk_lengths}
 use Rattle.rolling_chunks.specs.Pushes.{progress}
 use Rattle.rolling_chunks.specs.Spans.{spans_from, spans}
 use Rattle.rolling_chunks.specs.Laws.{part}
+use Rattle.rolling_chunks.specs.declared.spans.Span.{Span}
+use Rattle.rolling_chunks.proofs.TextCuts.{last_standing, cuts-left, cuts-whole, cuts_stand}
 use Rattle.snapshots.specs.declared.unread.TheConstants.{PIECE_BYTES}
 use Rattle.snapshots.specs.declared.reading.ChunkReader.{ChunkReader}
 use Rattle.snapshots.specs.Gathering.{Gathered, begun, nothing_gathered, last_length, Takes, Finishes}
 use Rattle.snapshots.specs.Pieces.{ReadsNext}
-use Rattle.snapshots.specs.Reading.{joined, IsBehind, HasFile, ReadsBehind, Refills, Reads, EndedReadersGaveAll, ReadersReadOnePieceAhead}
+use Rattle.snapshots.specs.Reading.{joined, IsBehind, HasFile, ReadsBehind, Refills, Reads, EndedReadersGaveAll, ReadersGiveFirstChunks, ReadersReadOnePieceAhead}
 use Rattle.snapshots.specs.Tickets.{chunks_of}
 
 -- ---- chunks are known by their lengths and by what they are joined
@@ -36,23 +38,26 @@ first_part front chunk rest = ap (take (length chunk)) (drop-append_seam front (
     front_of [] b = refl
     front_of (x ∷ a) b = ap (λ (l : List ℕ). x ∷ l) (front_of a b)
 
-parts_from : (front : List ℕ) (chunks : List (List ℕ)) → map (part (front ++ joined chunks)) (spans_from (length front) (map length chunks)) ≡ chunks
+-- cut off at these lengths, a text that begins with them gives them
+parts_from : (front : List ℕ) (chunks : List (List ℕ)) (more : List ℕ) → map (part (front ++ (joined chunks ++ more))) (spans_from (length front) (map length chunks)) ≡ chunks
 unfolding spans_from
-parts_from front [] = refl
-parts_from front (c ∷ chunks) =
-    let text = front ++ (c ++ joined chunks) in
-    let grown : (front ++ c) ++ joined chunks ≡ text = append_assoc front c (joined chunks) in
+parts_from front [] more = refl
+parts_from front (c ∷ chunks) more =
+    let behind = joined chunks ++ more in
+    let text = front ++ (c ++ behind) in
+    let grown : (front ++ c) ++ behind ≡ text = append_assoc front c behind in
     let rest : map (part text) (spans_from (length (front ++ c)) (map length chunks)) ≡ chunks =
-    subst (λ (t : List ℕ). map (part t) (spans_from (length (front ++ c)) (map length chunks)) ≡ chunks) grown (parts_from (front ++ c) chunks) in
-    ap (λ (l : List ℕ). l ∷ map (part text) (spans_from (length front + length c) (map length chunks))) (first_part front c (joined chunks))
+    subst (λ (t : List ℕ). map (part t) (spans_from (length (front ++ c)) (map length chunks)) ≡ chunks) grown (parts_from (front ++ c) chunks more) in
+    ap (λ (l : List ℕ). map (part (front ++ l)) (spans_from (length front) (map length (c ∷ chunks)))) (append_assoc c (joined chunks) more)
+    ∙ ap (λ (l : List ℕ). l ∷ map (part text) (spans_from (length front + length c) (map length chunks))) (first_part front c behind)
     ∙ ap (λ (n : ℕ). c ∷ map (part text) (spans_from n (map length chunks))) (sym (length-append front c))
     ∙ ap (λ (l : List (List ℕ)). c ∷ l) rest
 
 pub decided : (text : List ℕ) (chunks : List (List ℕ)) → joined chunks ≡ text → map length chunks ≡ chunk_lengths longest text → chunks ≡ chunks_of text
 unfolding spans
 decided text chunks all lengths =
-    sym (parts_from [] chunks)
-    ∙ ap (λ (t : List ℕ). map (part t) (spans_from 0 (map length chunks))) all
+    sym (parts_from [] chunks [])
+    ∙ ap (λ (t : List ℕ). map (part t) (spans_from 0 (map length chunks))) (append-nil (joined chunks) ∙ all)
     ∙ ap (λ (ns : List ℕ). map (part text) (spans_from 0 ns)) lengths
 
 -- ---- in the middle of a chunk
@@ -486,3 +491,60 @@ file_given path v0 v1 v2 r0 r1 r2 r some left s same reads refill no_more f same
           (read_then path v1 v2 text g.more r2.unread r1.at true g.read reads.content g.midway.at_is came.1 (λ e. none))),
     ))
     refill.came
+
+-- ---- the first chunks
+
+-- the lengths up to some of the places are the first of them
+lengths_front : (c : ℕ) (xs ys : List ℕ) → lengths_after c (xs ++ ys) ≡ lengths_after c xs ++ lengths_after (last_after c xs) ys
+unfolding lengths_after last_after
+lengths_front c [] ys = refl
+lengths_front c (x ∷ xs) ys = ap (λ (ns : List ℕ). (x - c) ∷ ns) (lengths_front x xs ys)
+
+spans_front : (start : ℕ) (xs ys : List ℕ) → (rest : List Span) × (spans_from start (xs ++ ys) ≡ spans_from start xs ++ rest)
+unfolding spans_from
+spans_front start [] ys = (spans_from start ys, refl)
+spans_front start (x ∷ xs) ys =
+    let s : Span = record { start = start; len = x } in
+    let front = spans_front (start + x) xs ys in
+    (front.0, ap (λ (ss : List Span). s ∷ ss) front.1)
+
+-- the chunks that stand are the first of a text, however it goes on
+stand_first : (text more : List ℕ) → (rest : List ℕ) × (chunk_lengths longest (text ++ more) ≡ standing_lengths longest text ++ rest)
+stand_first text [] =
+    elim (cases_lt (last_standing longest text) (length text)) [
+      | inl left ↦ (
+        lengths_after (last_standing longest text) (length text ∷ []),
+        ap (chunk_lengths longest) (append-nil text) ∙ ap (lengths_after 0) (cuts-left longest text left) ∙ lengths_front 0 (standing_cuts longest text) (length text ∷ []),
+      )
+      | inr none ↦ ([], ap (chunk_lengths longest) (append-nil text) ∙ ap (lengths_after 0) (cuts-whole longest text none) ∙ sym (append-nil (standing_lengths longest text)))
+    ]
+stand_first text (x ∷ more) =
+    let cuts = cuts_stand longest text (x ∷ more) (omega arith) in
+    (lengths_after (last_standing longest text) cuts.0, ap (lengths_after 0) cuts.1 ∙ lengths_front 0 (standing_cuts longest text) cuts.0)
+
+first_chunks : (chunks : List (List ℕ)) (more : List ℕ) → map length chunks ≡ standing_lengths longest (joined chunks) → (others : List (List ℕ)) × (chunks_of (joined chunks ++ more) ≡ chunks ++ others)
+unfolding spans
+first_chunks chunks more lengths =
+    let text = joined chunks ++ more in
+    let stand = stand_first (joined chunks) more in
+    let front = spans_front 0 (map length chunks) stand.0 in (
+      map (part text) front.0,
+      ap (λ (ns : List ℕ). map (part text) (spans_from 0 ns)) (stand.1 ∙ ap (λ (ns : List ℕ). ns ++ stand.0) (sym lengths))
+          ∙ ap (map (part text)) front.1
+          ∙ map-append (part text) (spans_from 0 (map length chunks)) front.0
+          ∙ ap (λ (l : List (List ℕ)). l ++ map (part text) front.0) (parts_from [] chunks more),
+    )
+
+-- the chunks that were given are the first of the file
+pub first_given : ReadersGiveFirstChunks
+first_given r text chunks behind bytes rest is ends = at r.ended refl
+  where
+    at : (ended : Bool) → r.ended ≡ ended → (more : List (List ℕ)) × (chunks_of bytes ≡ chunks ++ more)
+    at true e =
+        let whole : bytes ≡ text = is ∙ ap (λ (l : List ℕ). text ++ l) (ends e) ∙ append-nil text in
+        ([], ap chunks_of whole ∙ sym (behind.all e) ∙ sym (append-nil chunks))
+    at false e =
+        let b = behind.between e in
+        let whole : bytes ≡ joined chunks ++ (r.unread ++ rest) = is ∙ ap (λ (l : List ℕ). l ++ rest) b.text_is ∙ append_assoc (joined chunks) r.unread rest in
+        let first = first_chunks chunks (r.unread ++ rest) b.lengths in
+        (first.0, ap chunks_of whole ∙ first.1)

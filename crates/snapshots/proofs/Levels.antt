@@ -17,7 +17,7 @@ use Rattle.skeleton.specs.declared.limits.TheConstants.{REFS_MARK, MOST_TEXT_BYT
 use Rattle.skeleton.specs.Entries.{is_ref, has_digests, has_chunk_len}
 use Rattle.skeleton.specs.Texts.{skeleton_text, refs_text}
 use Rattle.snapshots.specs.Meaning.{given}
-use Rattle.snapshots.specs.Tickets.{refs_of_text, skeleton_of_tree, one_of, ticket_from}
+use Rattle.snapshots.specs.Tickets.{refs_of_text, skeleton_of_tree, one_of, ticket_from, most_levels}
 use Rattle.snapshots.specs.Laws.{TreesHaveTickets}
 use Rattle.snapshots.proofs.Tickets.{refs_fit}
 
@@ -104,13 +104,16 @@ next_ticket m text next = at (one_of (refs_of_text text))
 above_of : List ℕ → List ℕ
 above_of text = refs_text (refs_of_text text)
 
-pub tree_has_ticket : TreesHaveTickets
+-- four lists are enough for any text that is short enough
+pub text_has_ticket : (text : List ℕ) → length text ≤ MOST_TEXT_BYTES → is_some (ticket_from most_levels text) ≡ true
 unfolding above_of
-tree_has_ticket places short =
-    let text = skeleton_text (skeleton_of_tree places) in
+text_has_ticket text short =
     let a = above_of text in
     let b = above_of a in
     let c = above_of b in
     let d = above_of c in
     next_ticket 3 text (next_ticket 2 a (next_ticket 1 b (next_ticket 0 c (last_ticket d (omega (arith, next_long c))
     (omega (arith, short, next_long text, count_few text, next_long a, count_few a, next_long b, count_few b, next_long c, count_few c))))))
+
+pub tree_has_ticket : TreesHaveTickets
+tree_has_ticket places short = text_has_ticket (skeleton_text (skeleton_of_tree places)) short

@@ -8,6 +8,7 @@ pub mod WalkSteps
 pub mod WalkTurns
 pub mod WalkEnds
 pub mod WalkTrees
+pub mod WalkPlaces
 pub mod ChunkLengths
 pub mod Gatherings
 pub mod PieceReads

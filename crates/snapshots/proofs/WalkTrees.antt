@@ -19,45 +19,23 @@ use Rattle.snapshots.proofs.Members.{to_in, from_in}
 
 -- ---- a place and what was found
 
-record IsFoundAs (fs : List Found) (p : Place) : Type 0 where
-  f : Found
-  among : In f fs
+record IsAs (f : Found) (p : Place) : Type 0 where
   path : p.path ≡ f.path
   of : IsOf f.kind p.item
 
-of_in : (fs : List Found) (ps : List Place) (p : Place) → AreOf fs ps → In p ps → IsFoundAs fs p
+of_in : (fs : List Found) (ps : List Place) (p : Place) → AreOf fs ps → In p ps → (f : Found) × In f fs × IsAs f p
 of_in [] [] p are i = absurd i
 of_in [] (q ∷ ps) p are i = absurd are
 of_in (f ∷ fs) [] p are i = absurd are
-of_in (f ∷ fs) (q ∷ ps) p are (inl is) = record {
-  f = f;
-  among = inl refl;
-  path = sym (ap (λ (x : Place). x.path) is) ∙ are.0;
-  of = subst (λ (x : Place). IsOf f.kind x.item) is are.1;
-}
-of_in (f ∷ fs) (q ∷ ps) p are (inr i) =
-    let r = of_in fs ps p are.2 i in
-    record { f = r.f; among = inr r.among; path = r.path; of = r.of }
+of_in (f ∷ fs) (q ∷ ps) p are (inl is) = (f, inl refl, subst (IsAs f) is (record { path = are.0; of = are.1 }))
+of_in (f ∷ fs) (q ∷ ps) p are (inr i) = let r = of_in fs ps p are.2 i in (r.0, inr r.1, r.2)
 
-record IsPlacedAs (ps : List Place) (f : Found) : Type 0 where
-  p : Place
-  among : In p ps
-  path : p.path ≡ f.path
-  of : IsOf f.kind p.item
-
-of_back : (fs : List Found) (ps : List Place) (f : Found) → AreOf fs ps → In f fs → IsPlacedAs ps f
+of_back : (fs : List Found) (ps : List Place) (f : Found) → AreOf fs ps → In f fs → (p : Place) × In p ps × IsAs f p
 of_back [] [] f are i = absurd i
 of_back [] (q ∷ ps) f are i = absurd are
 of_back (g ∷ fs) [] f are i = absurd are
-of_back (g ∷ fs) (q ∷ ps) f are (inl is) = record {
-  p = q;
-  among = inl refl;
-  path = are.0 ∙ ap (λ (x : Found). x.path) is;
-  of = subst (λ (x : Found). IsOf x.kind q.item) is are.1;
-}
-of_back (g ∷ fs) (q ∷ ps) f are (inr i) =
-    let r = of_back fs ps f are.2 i in
-    record { p = r.p; among = inr r.among; path = r.path; of = r.of }
+of_back (g ∷ fs) (q ∷ ps) f are (inl is) = (q, inl refl, subst (λ (x : Found). IsAs x q) is (record { path = are.0; of = are.1 }))
+of_back (g ∷ fs) (q ∷ ps) f are (inr i) = let r = of_back fs ps f are.2 i in (r.0, inr r.1, r.2)
 
 -- ---- in place
 
@@ -79,17 +57,17 @@ reached_by : (fs : List Found) (ps : List Place) (path : List ℕ) → AreOf fs 
 reached_by fs ps path are inside folder above =
     let f : Found = record { path = folder; kind = kind.Folder } in
     let r = of_back fs ps f are (to_in f fs (inside folder above)) in
-    subst (λ (p : Place). Contains ps p) (folder_of r.p folder r.path r.of) (from_in r.p ps r.among)
+    subst (λ (p : Place). Contains ps p) (folder_of r.0 folder r.2.path r.2.of) (from_in r.0 ps r.1)
 
 pub in_place : WalksAreInPlace
 in_place fs ps are of = record {
   ordered = in_order fs ps of are.ordered;
   paths = λ p has.
       let r = of_in fs ps p of (to_in p ps has) in
-      ap is_path r.path ∙ are.paths r.f (from_in r.f fs r.among);
+      ap is_path r.2.path ∙ are.paths r.0 (from_in r.0 fs r.1);
   reached = λ p has.
       let r = of_in fs ps p of (to_in p ps has) in
-      subst (IsReached ps) (sym r.path) (reached_by fs ps r.f.path of (are.within r.f (from_in r.f fs r.among)));
+      subst (IsReached ps) (sym r.2.path) (reached_by fs ps r.0.path of (are.within r.0 (from_in r.0 fs r.1)));
 }
 
 -- ---- a tree
@@ -105,7 +83,7 @@ within_by : (fs : List Found) (ps : List Place) (path : List ℕ) → AreOf fs p
 within_by fs ps path are reached folder above =
     let p : Place = record { path = folder; item = Folder } in
     let r = of_in fs ps p are (to_in p ps (reached folder above)) in
-    subst (λ (f : Found). Contains fs f) (found_folder r.f folder (sym r.path) r.of) (from_in r.f fs r.among)
+    subst (λ (f : Found). Contains fs f) (found_folder r.0 folder (sym r.2.path) r.2.of) (from_in r.0 fs r.1)
 
 read_at : (content : Content) (root : List ℕ) (ps : List Place) (p : Place) → AreRead content root ps → In p ps → IsReadAt content root p.path p.item
 read_at content root [] p all i = absurd i
@@ -147,17 +125,17 @@ walk_finds_tree content root fs left ps are walk of read = record {
   stand = λ p has.
       let i = to_in p ps has in
       let r = of_in fs ps p of i in
-      let s = walk.stand r.f (from_in r.f fs r.among) in
+      let s = walk.stand r.0 (from_in r.0 fs r.1) in
       let placed = in_place fs ps are of in
       record {
         path = placed.paths p has;
-        here = stands_at content root p.path r.f.kind p.item s.0 (ap (λ (path : List ℕ). found content (child root path)) r.path ∙ s.1) s.2 r.of (read_at content root ps p read i);
+        here = stands_at content root p.path r.0.kind p.item s.0 (ap (λ (path : List ℕ). found content (child root path)) r.2.path ∙ s.1) s.2 r.2.of (read_at content root ps p read i);
         reached = placed.reached p has;
       };
   all = λ p stands.
       let f : Found = record { path = p.path; kind = kind_of_item p.item } in
       let there = walk.all f (valid_names p.path stands.path) (stored_as p.item) stands.here (kind_fits p.item) (within_by fs ps p.path of stands.reached) in
       let r = of_back fs ps f of (to_in f fs there) in
-      let item = one_item content root p.path p.item r.p.item stands.here r.of (subst (λ (path : List ℕ). IsReadAt content root path r.p.item) r.path (read_at content root ps r.p read r.among)) in
-      subst (λ (q : Place). Contains ps q) (λ i. record { path = r.path i; item = item i }) (from_in r.p ps r.among);
+      let item = one_item content root p.path p.item r.0.item stands.here r.2.of (subst (λ (path : List ℕ). IsReadAt content root path r.0.item) r.2.path (read_at content root ps r.0 read r.1)) in
+      subst (λ (q : Place). Contains ps q) (λ i. record { path = r.2.path i; item = item i }) (from_in r.0 ps r.1);
 }

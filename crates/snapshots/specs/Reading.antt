@@ -62,6 +62,12 @@ pub record Reads (path : List ℕ) (old new : FolderView) : Type 0 where
 abbrev pub EndedReadersGaveAll : Type 0
 EndedReadersGaveAll = (r : ChunkReader) (text : List ℕ) (chunks : List (List ℕ)) → IsBehind r text chunks → r.ended ≡ true → chunks ≡ chunks_of text
 
--- until then it is at most a piece ahead of the chunks that it gave
+-- The chunks that a reader gave are the first of those of its file: of whatever bytes begin with the text that was
+-- read, and are that text where the reader ended.
+abbrev pub ReadersGiveFirstChunks : Type 0
+ReadersGiveFirstChunks = (r : ChunkReader) (text : List ℕ) (chunks : List (List ℕ)) → IsBehind r text chunks → (bytes behind : List ℕ) → bytes ≡ text ++ behind → (r.ended ≡ true → behind ≡ [])
+    → (more : List (List ℕ)) × (chunks_of bytes ≡ chunks ++ more)
+
+-- until it ends it is at most a piece ahead of the chunks that it gave
 abbrev pub ReadersReadOnePieceAhead : Type 0
 ReadersReadOnePieceAhead = (r : ChunkReader) (text : List ℕ) (chunks : List (List ℕ)) → IsBehind r text chunks → r.ended ≡ false → r.at ≤ length (joined chunks) + PIECE_BYTES

@@ -1,7 +1,7 @@
 //! The laws of tickets, of trees, of walks and of readers.
 ghost use Rattle.snapshots.specs.Laws.{TicketMeansItsTree, TreesAreInPlace, PlacesHaveSkeletons, TreesHaveTickets};
-ghost use Rattle.snapshots.specs.Reading.{EndedReadersGaveAll, ReadersReadOnePieceAhead};
-ghost use Rattle.snapshots.specs.Shapes.{WalksAreInPlace, WalksFindTrees};
+ghost use Rattle.snapshots.specs.Reading.{EndedReadersGaveAll, ReadersGiveFirstChunks, ReadersReadOnePieceAhead};
+ghost use Rattle.snapshots.specs.Shapes.{WalksHavePlaces, SkeletonsAreAsLong, WalksAreInPlace, WalksFindTrees};
 
 /// A ticket means the tree that it was made of, over any bodies that have the sealed pieces of its files, of
 /// its skeleton and of the lists of refs above that.
@@ -29,6 +29,17 @@ pub fn trees_have_tickets()
     ensures { TreesHaveTickets }
 {}
 
+/// Where the folder tells what it holds, a walk finds the places of a tree.
+pub fn walks_have_places()
+    ensures { WalksHavePlaces }
+{}
+
+/// A skeleton's text is as long as the walk has counted, and 68 bytes more for each ref.
+#[tactic(auto, using(crate::proofs::WalkPlaces::skeleton_is_as_long))]
+pub fn skeletons_are_as_long()
+    ensures { SkeletonsAreAsLong }
+{}
+
 /// What a walk finds is in place, whatever the folder answered.
 #[tactic(auto, using(crate::proofs::WalkTrees::in_place))]
 pub fn walks_are_in_place()
@@ -44,6 +55,11 @@ pub fn walks_find_trees()
 #[tactic(auto, using(crate::proofs::ChunkReads::ended_gave_all))]
 pub fn ended_readers_gave_all()
     ensures { EndedReadersGaveAll }
+{}
+
+/// The chunks that a reader gave are the first of those that its file is cut into.
+pub fn readers_give_first_chunks()
+    ensures { ReadersGiveFirstChunks }
 {}
 
 /// A reader is at most a piece ahead of the chunks that it gave.

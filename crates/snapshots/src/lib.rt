@@ -4,6 +4,7 @@
 
 mod gathering;
 mod laws;
+mod paths;
 mod reading;
 mod sealing;
 mod unread;
@@ -11,9 +12,11 @@ mod walking;
 
 pub use laws::{
     a_ticket_means_its_tree, ended_readers_gave_all, places_have_skeletons,
-    readers_read_one_piece_ahead, trees_are_in_place, trees_have_tickets, walks_are_in_place,
-    walks_find_trees,
+    readers_give_first_chunks, readers_read_one_piece_ahead, skeletons_are_as_long,
+    trees_are_in_place, trees_have_tickets, walks_are_in_place, walks_find_trees,
+    walks_have_places,
 };
+pub use paths::child_path;
 pub use reading::ChunkReader;
 pub use sealing::refs_of_text;
 pub use walking::{Found, WalkFault, Walked, walk};

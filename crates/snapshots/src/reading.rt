@@ -1,5 +1,5 @@
 //! The chunks of a file, read one after another.
-ghost use Rattle.std.specs.Prelude.{◌≡◌, ◌≤◌, ◌<◌, ◌^◌, ◌+◌, ◌++◌, ◌∷◌, ℕ, List, [], true, false, not, ◌&&◌, length, drop, if◌then◌else◌, IfOk, IfSome, OnOk, OnErr, Ok};
+ghost use Rattle.std.specs.Prelude.{◌≡◌, ◌≤◌, ◌<◌, ◌^◌, ◌+◌, ◌++◌, ◌∷◌, ℕ, List, [], true, false, not, ◌&&◌, length, drop, if◌then◌else◌, IfOk, OnOk, OnErr, Ok};
 ghost use Rattle.psb_bytes.specs.Units.{longest_chunk};
 ghost use Rattle.psb_station.specs.Calls.{Rose};
 

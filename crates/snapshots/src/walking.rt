@@ -1,9 +1,8 @@
 //! What stands below a folder.
-ghost use Rattle.std.specs.Prelude.{◌≡◌, ◌≢◌, ◌⊎◌, ◌+◌, ◌<◌, ◌≤◌, ◌∷◌, [], length, map, take, IfOk, OnOk, IfSome, true};
-ghost use Rattle.std.specs.String.{string_bytes};
+ghost use Rattle.std.specs.Prelude.{◌≡◌, ◌≢◌, ◌⊎◌, ◌+◌, ◌<◌, ◌≤◌, ◌∷◌, [], length, IfOk, OnOk, IfSome};
 ghost use Rattle.std.specs.List.Sorted.{IsPermutation, IsSortedBy};
 ghost use Rattle.psb_station.specs.Calls.{Rose};
-ghost use Rattle.psb_station.specs.Folder.{Tells_content, child};
+ghost use Rattle.psb_station.specs.Folder.{Tells_content};
 ghost use Rattle.psb_station.specs.MemTree.{under};
 ghost use Rattle.skeleton.specs.declared.limits.TheConstants.{MOST_PATH_BYTES, MOST_TEXT_BYTES};
 ghost use Rattle.skeleton.specs.Paths.{is_below};
@@ -12,6 +11,7 @@ ghost use Rattle.snapshots.specs.WalkSteps.{fault_of, entry_kind, IsOver, Pushes
 ghost use Rattle.snapshots.specs.declared.walking.Found.{Found};
 ghost use Rattle.snapshots.specs.declared.walking.WalkFault.TheVariants as walk_fault;
 
+use crate::paths::child_path;
 use psb_bytes::{Memory, Text};
 use psb_station::{Folder, FolderError, Item, Kind};
 use skeleton::{EntryKind, MOST_PATH_BYTES, MOST_TEXT_BYTES};
@@ -94,16 +94,6 @@ impl<T: Drop> From<AllocFailed<T>> for WalkFault {
     }
 }
 
-/// The path of a name in a folder.
-fn child(alloc: Global, path: &str, name: &str) -> Result<Text, Memory>
-    ensures { IfOk result (λ text. text ≡ child path.now name.now) }
-{
-    let mut text = String::from_str(alloc, path)?;
-    text.push_str("/")?;
-    text.push_str(name)?;
-    Ok(Text::from_string(text))
-}
-
 /// The path of a name in a folder that the walk came to. That of the folder where it began is empty.
 fn below(alloc: Global, base: &str, name: &str) -> Result<Text, Memory>
     ensures { IfOk result (λ text. text ≡ under base.now name.now) }
@@ -111,7 +101,7 @@ fn below(alloc: Global, base: &str, name: &str) -> Result<Text, Memory>
     if base.is_empty() {
         Text::copy(alloc, name)
     } else {
-        child(alloc, base, name)
+        child_path(alloc, base, name)
     }
 }
 
@@ -228,7 +218,7 @@ fn go_on<F: Folder>(
         EntryKind::File => Ok(()),
         EntryKind::Folder => {
             let base = Text::copy(alloc, found.path.as_str())?;
-            let path = child(alloc, root, base.as_str())?;
+            let path = child_path(alloc, root, base.as_str())?;
             enter(alloc, folder, path.as_str(), base.as_str(), walked)
         }
     }

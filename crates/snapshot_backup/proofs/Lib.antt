@@ -1,0 +1,16 @@
+pub mod Keeping
+pub mod Fronts
+pub mod Honest
+pub mod TextParts
+pub mod NodeFaults
+pub mod FileRuns
+pub mod PlaceRuns
+pub mod TreeTexts
+pub mod NameSets
+pub mod LevelParts
+pub mod SkeletonCounts
+pub mod Noted
+pub mod Meant
+pub mod NoteFits
+pub mod Stops
+pub mod Backups

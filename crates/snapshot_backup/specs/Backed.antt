@@ -1,0 +1,94 @@
+-- What a backup makes, and what one leaves that stops.
+use Rattle.std.specs.Prelude.{◌≡◌, ◌⊎◌, ◌<◌, ℕ, min, Bool, true, false, List, [], ◌∷◌, ◌++◌, length, All, IfSome, Option, Some, None}
+use Rattle.psb_station.specs.View.{View}
+use Rattle.psb_station.specs.Calls.{Grows}
+use Rattle.psb_station.specs.Folder.{FolderView, FolderCall, Content}
+use Rattle.node_journal.specs.Entry.{Entry}
+use Rattle.psb_model.specs.Words.{name_listed}
+use Rattle.psb_model.specs.Conditions.{names_ascend}
+use Rattle.psb_model.specs.History.{state}
+use Rattle.psb_model.specs.declared.entries.Snapshot.{Snapshot}
+use Rattle.psb_model.specs.declared.change.Change.{Change}
+use Rattle.psb_model.specs.declared.change.Change.TheVariants.{Kept}
+use Rattle.psb_machine.specs.Machine.{Situation, snapped_with}
+use Rattle.psb_machine.specs.Course.{Step, after_all}
+use Rattle.psb_machine.specs.declared.snap_note.SnapNote.{SnapNote}
+use Rattle.node_core.specs.declared.node.Node.{Node}
+use Rattle.node_serve.specs.Spans.{Fed}
+use Rattle.skeleton.specs.declared.limits.TheConstants.{MOST_TEXT_BYTES}
+use Rattle.skeleton.specs.Texts.{skeleton_text}
+use Rattle.snapshots.specs.Meaning.{Place, means}
+use Rattle.snapshots.specs.Shapes.{AreOf}
+use Rattle.snapshots.specs.Tickets.{skeleton_of_tree, ticket_of_tree}
+use Rattle.snapshots.specs.Trees.{IsTree, files_in, folders_in, bytes_in}
+use Rattle.snapshots.specs.Walks.{AreLeft, IsListing}
+use Rattle.snapshots.specs.declared.walking.Found.{Found}
+use Rattle.snapshot_backup.specs.Course.{pieces_of, keep_steps, backup_course}
+use Rattle.snapshot_backup.specs.Files.{IsFront, IsReading}
+use Rattle.snapshot_backup.specs.Kept.{names_of, own_bodies}
+
+-- The note of a tree: its ticket, its counts, and the names of all its pieces, those of the texts above it among them,
+-- ascending and each once.
+pub record Notes (places : List Place) (note : SnapNote) : Type 0 where
+  pub ticket : ticket_of_tree places ≡ Some note.ticket
+  pub files : note.files ≡ files_in places
+  pub folders : note.folders ≡ folders_in places
+  pub bytes : note.bytes ≡ bytes_in places
+  pub ascend : names_ascend note.names ≡ true
+  pub names : (name : List ℕ) → name_listed note.names name ≡ name_listed (names_of (pieces_of places)) name
+
+-- the snapshot that a note makes, under its number
+abbrev pub snapshot_of : ℕ → SnapNote → Snapshot
+snapshot_of number note = record { number = number; ticket = note.ticket; files = note.files; folders = note.folders; bytes = note.bytes; left = note.left; names = note.names }
+
+-- the bytes of the text of a tree's skeleton
+abbrev pub text_len : List Place → ℕ
+text_len places = length (skeleton_text (skeleton_of_tree places))
+
+-- it is the tree of the folder at the root, and so many names there are neither a folder nor a file, up to the last
+-- number of a counter
+pub record IsSnapOf (content : Content) (root : List ℕ) (places : List Place) (left : ℕ) : Type 0 where
+  pub tree : IsTree content root places
+  pub others : (fs : List Found) × AreOf fs places × ((paths : List (List ℕ)) × AreLeft content root fs paths × (left ≡ min (length paths) 4294967295))
+
+-- ---- what was made
+
+abbrev pub IsKeptChange : Change → Type 0
+IsKeptChange c = (name : List ℕ) × (len : ℕ) × (new : Bool) × (body : Option (List ℕ)) × (c ≡ Kept name len new body)
+
+-- The whole course was done, which made pieces the node's own and noted the snapshot. Over the bodies that the node has
+-- for itself then, the ticket means the tree.
+pub record BacksUp {L : Type 0} (holds : L → List Entry → List ℕ → Type 0) (stands : List Entry → List ℕ → Type 0) (broken : L → Bool) (old new : Node L) (before now : View) (n : Situation) (places : List Place) (note : SnapNote) : Type 0 where
+  pub fed : Fed holds stands broken old new before now n (backup_course places note) None true
+  pub grown : (kept : List Change) × All IsKeptChange kept
+      × ((after_all n (backup_course places note)).history ≡ (n.history ++ kept) ++ snapped_with (state (n.history ++ kept)) note ∷ [])
+  pub means_it : means (own_bodies (after_all n (backup_course places note)).history) note.ticket ≡ Some places
+
+-- ---- what was left
+
+-- What was tried of a backup that was not made: the keeping of pieces, none or the first ones of the folder's tree; or
+-- all of its course, of which the last step failed.
+abbrev pub IsTried : Option Content → List ℕ → List Step → Bool → Type 0
+IsTried content root tried all =
+    ((pieces : List (List ℕ)) × (tried ≡ keep_steps pieces) × ((pieces ≡ []) ⊎ IfSome content (λ c. (places : List Place) × IsTree c root places × IsFront pieces (pieces_of places))))
+    ⊎ ((places : List Place) × (note : SnapNote) × (tried ≡ backup_course places note) × (all ≡ false) × Notes places note × IfSome content (λ c. IsSnapOf c root places note.left))
+
+pub record StopsBackup {L : Type 0} (holds : L → List Entry → List ℕ → Type 0) (stands : List Entry → List ℕ → Type 0) (broken : L → Bool) (old new : Node L) (before now : View) (n : Situation) (content : Option Content) (root : List ℕ) : Type 0 where
+  pub tried : List Step
+  pub all : Bool
+  pub are : IsTried content root tried all
+  pub fed : Fed holds stands broken old new before now n tried None all
+
+-- the text of the skeleton of the folder's tree is too long
+abbrev pub HasLongText : Content → List ℕ → Type 0
+HasLongText content root = (places : List Place) × IsTree content root places × (MOST_TEXT_BYTES < text_len places)
+
+-- ---- the calls of the folder
+
+-- all folders were listed before the first file was read, and nothing else was done
+pub record ListsThenReads (old new : FolderView) : Type 0 where
+  pub listings : List FolderCall
+  pub readings : List FolderCall
+  pub grown : Grows old.folder_calls new.folder_calls (listings ++ readings)
+  pub first : All IsListing listings
+  pub then_ : All IsReading readings

@@ -1,0 +1,7 @@
+pub mod Course
+pub mod Kept
+pub mod Runs
+pub mod Naming
+pub mod Faults
+pub mod Files
+pub mod Backed
