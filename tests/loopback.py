@@ -6,7 +6,8 @@
 
 This script begins nodes from crates/psb/data/node.toml, and is the node's one peer. It stores 512 bytes
 with the node, sends a forged frame, compares the answer byte for byte, the lines said, the exit status
-and the file afterwards, and opens the node again. It works all values out by itself, from the formats of
+and the file afterwards, and opens the node again. It backs up folders with links, empty files and names of other
+scripts, and compares tickets, records and the folders. It works all values out by itself, from the formats of
 docs/FORMATS.md. It ends within about half a minute for each program, with status 0 where all is well and
 1 where something is not.
 """
@@ -32,6 +33,7 @@ SECONDS = 30
 NODE, PEER = 1, 2
 SEED = bytes(range(32))
 KEY = bytes(range(32, 64))
+LONGEST = 32768
 BODY = bytes(i % 251 for i in range(512))
 STORE, ACCEPTED = 1, 4
 MASK = 0xFFFFFFFF
@@ -135,6 +137,54 @@ def claim(number):
     plain = b"".join(links[16 * number :])
     stream = b"".join(block(mask, number, place) for place in range(8))
     return bytes(a ^ b for a, b in zip(plain, stream))
+
+
+# A snapshot: pieces sealed under keys made of their own hashes, the text of the tree, and the ticket.
+
+
+def sealed(piece):
+    """The sealed bytes of a piece, and what opens them."""
+    handle = sha(piece)
+    key = sha(b"psb key" + handle)
+    stream = b"".join(block(key, 0, place) for place in range(len(piece) // 64 + 1))
+    body = bytes(a ^ b for a, b in zip(piece, stream))
+    return body, sha(body) + handle + struct.pack(">I", len(piece))
+
+
+def pieces(text):
+    """The pieces of a text of zeros, which is cut nowhere but at the longest piece, or of one that is too short to be cut."""
+    return [text[i : i + LONGEST] for i in range(0, len(text), LONGEST)]
+
+
+def entry(path, text):
+    """A folder where there is no text."""
+    path = path.encode()
+    if text is None:
+        return struct.pack(">BH", 0, len(path)) + path
+    refs = [sealed(piece)[1] for piece in pieces(text)]
+    return struct.pack(">BH", 1, len(path)) + path + struct.pack(">QI", len(text), len(refs)) + b"".join(refs)
+
+
+def skeleton(tree):
+    return b"PSBSKEL1" + struct.pack(">I", len(tree)) + b"".join(entry(path, tree[path]) for path in sorted(tree, key=str.encode))
+
+
+def snapshot(number, tree, others):
+    """The line of a snapshot, its record, and the pieces in their order."""
+    kept = [piece for path in sorted(tree, key=str.encode) for piece in pieces(tree[path] or b"")] + [skeleton(tree)]
+    ticket = sealed(skeleton(tree))[1] + b"\x00"
+    texts = [text for text in tree.values() if text is not None]
+    counts = (len(texts), len(tree) - len(texts), sum(map(len, texts)), others)
+    names = sorted({sealed(piece)[1][:32] for piece in kept})
+    head = struct.pack(">BI", 3, number) + ticket + struct.pack(">IIQI", *counts) + struct.pack(">I", len(names)) + b"".join(names)
+    line = b"snapshot %d files %d folders %d bytes %d left %d ticket " % ((number,) + counts) + ticket.hex().encode() + b"\n"
+    return line, record(head, b""), kept
+
+
+def own(piece):
+    """The record of a piece that is kept."""
+    body, ref = sealed(piece)
+    return record(struct.pack(">B", 2) + ref[:32] + struct.pack(">IB", len(body), 1), body)
 
 
 # What the program does.
@@ -263,6 +313,45 @@ def refusals(program, folder, deadline):
     same("the file that was made", read(made), b"")
 
 
+def backups(program, folder, deadline):
+    """Snapshots of real folders: the lines and the file are those that this script works out."""
+    path = os.path.join(folder, "backups.img")
+    text = settings()
+    file = os.path.join(folder, "backups.toml")
+    write(file, text)
+    run(deadline, program, [path, "init", file], 0, b"node 1 peers 1\n")
+
+    # A link is counted, and is not followed; a folder that is not there is refused, and so is a file.
+    linked = os.path.join(folder, "linked")
+    os.mkdir(linked)
+    os.symlink(file, os.path.join(linked, "link"))
+    line, noted, kept = snapshot(1, {}, 1)
+    run(deadline, program, [path, "backup", linked], 0, line)
+    records = [begun(text)] + [own(piece) for piece in kept] + [noted]
+    same("the file after a backup of a link", read(path), image(*records))
+    for other in ("nothing", "backups.toml"):
+        run(deadline, program, [path, "backup", os.path.join(folder, other)], 5, b"folder fault\n")
+    run(deadline, program, [path, "backup", folder + "//linked"], 2, b"usage\n")
+
+    # Equal pieces are kept once, whatever they are called, and a second snapshot of the same tree is one record.
+    tree = {"copy": None, "copy/photo.raw": bytes(40000), "empty": b"", "notes \u00e9\u6587.txt": b"some notes", "photo.raw": bytes(40000), "\U0001f4c1": None}
+    home = os.path.join(folder, "home")
+    os.mkdir(home)
+    for below in sorted(tree, key=str.encode):
+        if tree[below] is None:
+            os.mkdir(os.path.join(home, below))
+        else:
+            write(os.path.join(home, below), tree[below])
+    for number in (2, 3):
+        line, noted, kept = snapshot(number, tree, 0)
+        run(deadline, program, [path, "backup", home], 0, line)
+        records += [one for one in dict.fromkeys(own(piece) for piece in kept) if one not in records] + [noted]
+        same("the file after a backup", read(path), image(*records))
+    lines = b"".join(snapshot(*which)[0] for which in ((1, {}, 1), (2, tree, 0), (3, tree, 0)))
+    run(deadline, program, [path, "snapshots"], 0, lines)
+    same("the folder that was backed up", sorted(below for below in tree if tree[below] is None or read(os.path.join(home, below)) == tree[below]), sorted(tree))
+
+
 def serving(program, folder, deadline):
     """A Store is taken and a forged frame is not; the node opens again with what it took."""
     path = os.path.join(folder, "node.img")
@@ -320,11 +409,13 @@ def main(words):
             with tempfile.TemporaryDirectory(prefix="psb-loopback-") as folder:
                 beginnings(os.path.abspath(program), folder, deadline)
                 refusals(os.path.abspath(program), folder, deadline)
+                backups(os.path.abspath(program), folder, deadline)
                 serving(os.path.abspath(program), folder, deadline)
     except (Wrong, OSError) as error:
         print(f"loopback: FAILED: {error}")
         return 1
-    print("loopback: nodes began once each, in files that nobody else may read; a second program was refused;"
+    print("loopback: nodes began once each, in files that nobody else may read; folders were backed up, with the"
+          " tickets and records that were worked out here; a second program was refused;"
           " a Store was taken, answered byte for byte and found again; a forged frame was dropped")
     return 0
 

@@ -5,6 +5,7 @@ use Rattle.std.proofs.lemmas.List.{length-take, take_all}
 use Rattle.psb_settings.specs.Settings.{settings_of}
 use Rattle.psb_settings.specs.declared.settings.Settings.{Settings}
 use Rattle.psb_settings.proofs.Texts.{long_text}
+use Rattle.psb_digest.specs.Clashes.{Pair}
 use Rattle.psb_station.specs.View.{View, Outside}
 use Rattle.psb_station.specs.Calls.{Grows, Rose}
 use Rattle.psb_station.specs.Span.{Shows, Tells_bytes, DiskWorks, Keeps}
@@ -24,7 +25,7 @@ use Rattle.backup_cli.specs.Says.{Utters, IsRefusal}
 use Rattle.backup_cli.specs.Status.{refusal_line}
 use Rattle.backup_cli.specs.Begun.{IsEmpty, HasSettings, HasNoSettings, Stays, HasBegun, MayBegin, IsEnd, Begins, Completes, Stops}
 use Rattle.backup_cli.specs.declared.status.Status.{Status}
-use Rattle.backup_cli.specs.declared.status.Status.TheVariants.{Done, Usage, DiskFault, LinkFault, FolderFault, SayFault, NotNode, Already, BadSettings, NoSnapshot, Memory}
+use Rattle.backup_cli.specs.declared.status.Status.TheVariants.{Done, Usage, DiskFault, LinkFault, FolderFault, SayFault, NotNode, Already, BadSettings, NoSnapshot, TooLarge, Clash, Memory}
 use Rattle.backup_cli.proofs.Commanding.{NoOther}
 use Rattle.backup_cli.proofs.Utterances.{utters_tells}
 use Rattle.backup_cli.proofs.FileReads.{if_one}
@@ -305,6 +306,12 @@ never_link_fault status is = not_among status LinkFault is (λ q. absurd (cc q))
 
 pub never_no_snapshot : (status : Status) (k : ℕ) → IsEnd status → status ≢ NoSnapshot k
 never_no_snapshot status k is = not_among status (NoSnapshot k) is (λ q. absurd (cc q)) (λ q. absurd (cc q)) (λ q. absurd (cc q)) (λ q. absurd (cc q)) (λ q. absurd (cc q)) (λ q. absurd (cc q)) (λ q. absurd (cc q))
+
+pub never_too_large : (status : Status) → IsEnd status → status ≢ TooLarge
+never_too_large status is = not_among status TooLarge is (λ q. absurd (cc q)) (λ q. absurd (cc q)) (λ q. absurd (cc q)) (λ q. absurd (cc q)) (λ q. absurd (cc q)) (λ q. absurd (cc q)) (λ q. absurd (cc q))
+
+pub never_clash : (status : Status) (c : Pair) → IsEnd status → status ≢ Clash c
+never_clash status c is = not_among status (Clash c) is (λ q. absurd (cc q)) (λ q. absurd (cc q)) (λ q. absurd (cc q)) (λ q. absurd (cc q)) (λ q. absurd (cc q)) (λ q. absurd (cc q)) (λ q. absurd (cc q))
 
 -- ---- what is enough
 

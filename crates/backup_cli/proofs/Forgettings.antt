@@ -79,7 +79,7 @@ one_step x (d ∷ done) (y ∷ failed) undone is one =
     absurd (omega (arith, ap (λ (l : List Step). length l) is, length-append (done ++ (y ∷ failed)) undone, length-append done (y ∷ failed)))
 
 -- what was said behind it leaves the rest as it was
-quiet_then : (v1 v2 v3 : View) (tried : ℕ) (text : List ℕ) → v2.outside ≡ v1.outside → Utters v2 v3 tried text → v3.outside ≡ record v1.outside { said = v3.outside.said; say_faults = v3.outside.say_faults }
+pub quiet_then : (v1 v2 v3 : View) (tried : ℕ) (text : List ℕ) → v2.outside ≡ v1.outside → Utters v2 v3 tried text → v3.outside ≡ record v1.outside { said = v3.outside.said; say_faults = v3.outside.say_faults }
 quiet_then v1 v2 v3 tried text same u = u.kept ∙ ap (λ (o : Outside). record o { said = v3.outside.said; say_faults = v3.outside.say_faults }) same
 
 module _ {L : Type 0} (holds : L → List Entry → List ℕ → Type 0) (stands : List Entry → List ℕ → Type 0) (broken : L → Bool) (law : (log : L) (es : List Entry) (c : List ℕ) → holds log es c → stands es c) where

@@ -10,3 +10,5 @@ pub mod Listings
 pub mod FileReads
 pub mod Beginnings
 pub mod Forgettings
+pub mod Backups
+pub mod Answered

@@ -8,3 +8,4 @@ pub mod Listed
 pub mod Forgotten
 pub mod Files
 pub mod Begun
+pub mod BackedUp

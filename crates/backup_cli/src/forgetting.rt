@@ -1,5 +1,6 @@
 //! The command `forget NUMBER`.
 ghost use Rattle.std.specs.Prelude.{◌≡◌, ◌≢◌, ◌⊎◌, ℕ, Bool, List, [], ◌∷◌, true, false, None, is_ok, IfSome, IfErr, OnOk};
+ghost use Rattle.psb_digest.specs.Clashes.{Pair};
 ghost use Rattle.psb_station.specs.Calls.{Rose};
 ghost use Rattle.psb_station.specs.Span.{Tells_bytes};
 ghost use Rattle.psb_model.specs.History.{state};
@@ -66,6 +67,7 @@ fn forget_opened<L: Log, S: Station>(node: &mut Node<L>, station: &mut S, number
     ensures all_said { result ≡ Status.Done → (S.view station.new).outside.say_faults ≡ (S.view station.old).outside.say_faults }
     ensures only { (result ≢ Status.Usage) × (result ≢ Status.LinkFault) × (result ≢ Status.NotNode) }
     ensures no_begin { (result ≢ Status.FolderFault) × (result ≢ Status.Already) × (result ≢ Status.BadSettings) }
+    ensures no_backup { (result ≢ Status.TooLarge) × ((c : Pair) → result ≢ Status.Clash c) }
     ensures number { (k : ℕ) → result ≡ Status.NoSnapshot k → k ≡ number }
 {
     match give_up(node, station, number) {
@@ -105,6 +107,7 @@ pub(crate) fn forget_command<L: Log, S: Station>(
     ensures all_said { result ≡ Status.Done → (S.view station.new).outside.say_faults ≡ (S.view station.old).outside.say_faults }
     ensures only { (result ≢ Status.Usage) × (result ≢ Status.LinkFault) }
     ensures no_begin { (result ≢ Status.FolderFault) × (result ≢ Status.Already) × (result ≢ Status.BadSettings) }
+    ensures no_backup { (result ≢ Status.TooLarge) × ((c : Pair) → result ≢ Status.Clash c) }
     ensures number { (k : ℕ) → result ≡ Status.NoSnapshot k → k ≡ number }
 {
     let mut node = match open_or_refuse::<L, S>(alloc, station) {

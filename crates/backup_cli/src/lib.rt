@@ -1,6 +1,7 @@
 //! The program `psb`: its words, what it does and says, and the status that it ends with.
 #![tactic(auto)]
 
+mod backing_up;
 mod beginning;
 mod files;
 mod forgetting;
@@ -18,4 +19,4 @@ mod words;
 pub use number::read_number;
 pub use program::run;
 pub use status::Status;
-pub use words::words_fix_the_command;
+pub use words::{read_path, words_fix_the_command};

@@ -1,5 +1,6 @@
 //! The commands `ledger` and `snapshots`.
 ghost use Rattle.std.specs.Prelude.{◌≡◌, ◌≢◌, ◌⊎◌, Bool, List, ℕ, true, is_some, Some, IfSome, OnOk};
+ghost use Rattle.psb_digest.specs.Clashes.{Pair};
 ghost use Rattle.psb_station.specs.Calls.{Rose};
 ghost use Rattle.psb_station.specs.Span.{Tells_bytes};
 ghost use Rattle.psb_settings.specs.declared.settings.Settings.{Settings};
@@ -73,6 +74,7 @@ pub(crate) fn list_command<L: Log, S: Station>(
     ensures all_said { result ≡ Status.Done → (S.view station.new).outside.say_faults ≡ (S.view station.old).outside.say_faults }
     ensures only { (result ≢ Status.Usage) × (result ≢ Status.LinkFault) }
     ensures no_begin { (result ≢ Status.FolderFault) × (result ≢ Status.Already) × (result ≢ Status.BadSettings) }
+    ensures no_backup { (result ≢ Status.TooLarge) × ((c : Pair) → result ≢ Status.Clash c) }
     ensures no_number { (k : ℕ) → result ≢ Status.NoSnapshot k }
 {
     let node = match open_or_refuse::<L, S>(alloc, station) {

@@ -1,13 +1,18 @@
 //! A line that takes no memory.
-ghost use Rattle.std.specs.Prelude.{◌≡◌, ◌≤◌, ◌+◌, ◌++◌, [], length, codes, decimal};
+ghost use Rattle.std.specs.Prelude.{◌≡◌, ◌≤◌, ◌+◌, ◌++◌, [], length, decimal};
+ghost use Rattle.hex.specs.Hex.{encode_lower};
 
+use psb_bytes::Digest;
 use std::marker::Model;
 
-/// A line of at most 23 bytes, at the end of a buffer of its own. It is put together from its end.
+/// The most bytes of a line: those of a digest's 64 digits, and a word.
+const MOST_BYTES: usize = 71;
+
+/// A line of at most 71 bytes, at the end of a buffer of its own. It is put together from its end.
 /// Contracts see it as its bytes.
 #[derive(Drop)]
 pub(crate) struct ShortLine {
-    bytes: [u8; 23],
+    bytes: [u8; MOST_BYTES],
     start: usize,
 }
 
@@ -18,7 +23,7 @@ impl Model for ShortLine {
 
     ghost view = { λ l. drop l.start l.bytes };
 
-    ghost invariant = { λ l. l.start ≤ 23 };
+    ghost invariant = { λ l. l.start ≤ 71 };
 }
 
 impl ShortLine {
@@ -26,14 +31,14 @@ impl ShortLine {
         ensures { result ≡ [] }
     {
         ShortLine {
-            bytes: [0; 23],
-            start: 23,
+            bytes: [0; MOST_BYTES],
+            start: MOST_BYTES,
         }
     }
 
     /// The line of a text.
     pub(crate) fn of(text: &[u8]) -> ShortLine
-        requires { length text.now ≤ 23 }
+        requires { length text.now ≤ 71 }
         ensures { result ≡ text.now }
     {
         let mut line = ShortLine::new();
@@ -43,12 +48,28 @@ impl ShortLine {
 
     /// The line of a number between two texts.
     pub(crate) fn of_number(front: &[u8], number: u32, back: &[u8]) -> ShortLine
-        requires { length front.now + length back.now ≤ 13 }
+        requires { length front.now + length back.now ≤ 61 }
         ensures { result ≡ front.now ++ decimal number ++ back.now }
     {
         let mut line = ShortLine::new();
         line.put(back);
         line.put_number(number);
+        line.put(front);
+        line
+    }
+
+    /// The line of a digest between two texts, as 64 lower-case hexadecimal digits.
+    pub(crate) fn of_digest(front: &[u8], digest: &Digest, back: &[u8]) -> ShortLine
+        requires { length front.now + length back.now ≤ 7 }
+        ensures { result ≡ front.now ++ encode_lower digest.now ++ back.now }
+    {
+        let mut digits = [0; 64];
+        if hex::encode_to_slice(&digest.0, &mut digits).is_err() {
+            unreachable!();
+        }
+        let mut line = ShortLine::new();
+        line.put(back);
+        line.put(&digits);
         line.put(front);
         line
     }
@@ -61,7 +82,7 @@ impl ShortLine {
 
     /// Puts a text in front.
     fn put(&mut self, text: &[u8])
-        requires { length text.now + length self.old ≤ 23 }
+        requires { length text.now + length self.old ≤ 71 }
         ensures { self.new ≡ text.now ++ self.old }
     {
         let end = self.start;
@@ -72,7 +93,7 @@ impl ShortLine {
 
     /// Puts the decimal digits of a number in front.
     fn put_number(&mut self, number: u32)
-        requires { length (decimal number) + length self.old ≤ 23 }
+        requires { length (decimal number) + length self.old ≤ 71 }
         ensures { self.new ≡ decimal number ++ self.old }
     {
         self.put(&[b'0' + (number % 10) as u8]);

@@ -1,8 +1,9 @@
-ghost use Rattle.std.specs.Prelude.{◌≡◌, ◌≢◌, ℕ, ◌<◌, ◌≤◌, ◌^◌, ◌↔◌, ◌⊎◌, [], ◌∷◌, IsTrue, IfSome, IfNone, map, length, slice_index, string_bytes, decimal};
-ghost use Rattle.backup_cli.specs.Words.{is_path, below_root, IsCommand, IsNoCommand, FixTheCommand};
+ghost use Rattle.std.specs.Prelude.{◌≡◌, ◌≢◌, ℕ, ◌≤◌, [], ◌∷◌, true, false, Ok, None, IfOk, IfSome, IfNone, map, string_bytes, decimal};
+ghost use Rattle.backup_cli.specs.Words.{is_path, is_folder, below_root, IsCommand, IsNoCommand, FixTheCommand};
 
 use crate::read_number;
-use psb_bytes::has_names;
+use psb_bytes::{Memory, Text, has_names};
+use std::alloc::Global;
 
 /// The greatest number of turns that one command asks for.
 const MOST_TURNS: u64 = 1_000_000;
@@ -26,6 +27,8 @@ pub(crate) enum Command<'a> {
     Snapshots,
     /// `forget NUMBER`: the snapshot of this number is given up.
     Forget(u32),
+    /// `backup FOLDER`: a snapshot of the folder at this path is made.
+    Backup(&'a str),
 }
 
 /// The command that words are, if they are one.
@@ -61,8 +64,29 @@ fn read_command<'a>(command: &str, word: &'a str) -> Option<Command<'a>>
         "serve" => Some(Command::Serve(read_turns(word)?)),
         "init" if is_path(word) => Some(Command::Init(word)),
         "forget" => Some(Command::Forget(read_snapshot(word)?)),
+        "backup" if is_folder(word) => Some(Command::Backup(word)),
         _ => None,
     }
+}
+
+/// The path that a text is, if it is one: 1 to 4,096 bytes, a `/` in front or none, and then names with
+/// a `/` between each two of them.
+pub fn read_path(alloc: Global, word: &str) -> Result<Option<Text>, Memory>
+    ensures some { IfOk result (λ path. IfSome path (λ text. (text ≡ word.now) × (is_path word.now ≡ true))) }
+    ensures none { result ≡ Ok None → is_path word.now ≡ false }
+{
+    if is_path(word) {
+        Ok(Some(Text::copy(alloc, word)?))
+    } else {
+        Ok(None)
+    }
+}
+
+/// Whether a text is the path of a folder: a path, or `.`.
+fn is_folder(text: &str) -> bool
+    ensures { result ≡ is_folder text.now }
+{
+    text == "." || is_path(text)
 }
 
 /// Whether a text is a path: 1 to 4,096 bytes, a `/` in front or none, and then names with a `/`

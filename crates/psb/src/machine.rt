@@ -10,14 +10,22 @@ ghost use Rattle.psb_settings.specs.declared.settings.Settings.{Settings};
 ghost use Rattle.psb_model.specs.History.{state};
 ghost use Rattle.psb_model.specs.Needed.{IsValid};
 ghost use Rattle.psb_model.specs.declared.change.Change.{Change};
+ghost use Rattle.psb_machine.specs.Course.{after_all};
+ghost use Rattle.psb_machine.specs.Machine.{fresh};
+ghost use Rattle.psb_machine.specs.declared.snap_note.SnapNote.{SnapNote};
 ghost use Rattle.node_journal.specs.Format.{Stands};
 ghost use Rattle.node_core.specs.Stands.{HoldsHistory};
+ghost use Rattle.snapshots.specs.Meaning.{Place, means};
+ghost use Rattle.snapshot_backup.specs.Backed.{IsSnapOf, ListsThenReads};
+ghost use Rattle.snapshot_backup.specs.Course.{backup_course};
+ghost use Rattle.snapshot_backup.specs.Kept.{own_bodies};
+ghost use Rattle.backup_cli.specs.BackedUp.{BacksUpTo};
 ghost use Rattle.backup_cli.specs.Begun.{Begins};
 ghost use Rattle.backup_cli.specs.Says.{Utters, IsRefusal, peer_lines, snapshot_lines};
 ghost use Rattle.backup_cli.specs.Served.{Serves};
 ghost use Rattle.backup_cli.specs.Listed.{Lists};
 ghost use Rattle.backup_cli.specs.Forgotten.{Forgets};
-ghost use Rattle.backup_cli.specs.Words.{IsServe, IsLedger, IsInit, IsSnapshots, IsForget, IsQuiet, IsNoCommand};
+ghost use Rattle.backup_cli.specs.Words.{IsServe, IsLedger, IsInit, IsSnapshots, IsForget, IsBackup, IsQuiet, IsNoCommand};
 ghost use Rattle.backup_cli.specs.declared.status.Status.TheVariants as status;
 
 use backup_cli::{Status, run};
@@ -69,16 +77,29 @@ where
         → (h : List Change) → IsValid h → HoldsHistory Stands h S.Start.first
         → (opened : Bool) × Forgets Stands h number opened (⟦<HostStation<R, S> as Disk>⟧.view station.old) (⟦<HostStation<R, S> as Disk>⟧.view station.new) result }
 
-    // Whatever the file answers, nothing is joined, heard or sent for these three.
+    // The headline of `backup`: a snapshot of the folder is made, whose ticket means the folder's tree, and its line is
+    // said.
+    ensures backs_up { (root : List ℕ) → IsBackup (map string_bytes words.now) root → Tells_bytes (⟦<HostStation<R, S> as Disk>⟧.view station.new)
+        → (h : List Change) → IsValid h → HoldsHistory Stands h S.Start.first
+        → (opened : Bool) × BacksUpTo Stands h root opened (⟦<HostStation<R, S> as Disk>⟧.view station.old) (⟦<HostStation<R, S> as Disk>⟧.view station.new) (⟦<HostFolder<Q, T> as Folder>⟧.view folder.new) result }
+
+    // Where the folders answered as what they held first, that is the tree of the snapshot.
+    ensures snapped { (root : List ℕ) → IsBackup (map string_bytes words.now) root → (result ≡ status.Done) ⊎ (result ≡ status.SayFault)
+        → Tells_bytes (⟦<HostStation<R, S> as Disk>⟧.view station.new) → Tells_content (⟦<HostFolder<Q, T> as Folder>⟧.view folder.new) → (h : List Change) → IsValid h → HoldsHistory Stands h S.Start.first
+        → (places : List Place) × (note : SnapNote) × IsSnapOf T.StartFolder.tree root places note.left
+        × (means (own_bodies (after_all (fresh h) (backup_course places note)).history) note.ticket ≡ Some places) }
+
+    // It lists all folders before it reads the first file.
+    ensures calls { (root : List ℕ) → IsBackup (map string_bytes words.now) root → ListsThenReads (⟦<HostFolder<Q, T> as Folder>⟧.view folder.old) (⟦<HostFolder<Q, T> as Folder>⟧.view folder.new) }
+
+    // Whatever the file answers, nothing is joined, heard or sent for these four.
     ensures quiet { IsQuiet (map string_bytes words.now) → (⟦<HostStation<R, S> as Disk>⟧.view station.new).outside ≡ record (⟦<HostStation<R, S> as Disk>⟧.view station.old).outside { said = (⟦<HostStation<R, S> as Disk>⟧.view station.new).outside.said; say_faults = (⟦<HostStation<R, S> as Disk>⟧.view station.new).outside.say_faults } }
     ensures not_node { result ≡ status.NotNode → Tells_bytes (⟦<HostStation<R, S> as Disk>⟧.view station.new) → (h : List Change) → IsValid h → ¬ HoldsHistory Stands h S.Start.first }
 
-    // The headline of `init`: what it comes to over each file and each folder. It leaves the folder as it was.
+    // The headline of `init`: what it comes to over each file and each folder.
     ensures begins { (file : List ℕ) → IsInit (map string_bytes words.now) file
         → Begins Stands file (⟦<HostStation<R, S> as Disk>⟧.view station.old) (⟦<HostStation<R, S> as Disk>⟧.view station.new)
         (⟦<HostFolder<Q, T> as Folder>⟧.view folder.old) (⟦<HostFolder<Q, T> as Folder>⟧.view folder.new) result }
-    ensures content { (file : List ℕ) → IsInit (map string_bytes words.now) file → Tells_content (⟦<HostFolder<Q, T> as Folder>⟧.view folder.new)
-        → (⟦<HostFolder<Q, T> as Folder>⟧.view folder.new).content ≡ Some T.StartFolder.tree }
     ensures complete { (file text : List ℕ) (settings : Settings) → IsInit (map string_bytes words.now) file
         → Tells_bytes (⟦<HostStation<R, S> as Disk>⟧.view station.new) → Tells_content (⟦<HostFolder<Q, T> as Folder>⟧.view folder.new)
         → S.Start.first ≡ [] → found T.StartFolder.tree file ≡ Some (IsFile text) → settings_of text ≡ Some settings
@@ -86,6 +107,10 @@ where
         → ¬ Rose (⟦<HostFolder<Q, T> as Folder>⟧.view folder.old).folder_faults (⟦<HostFolder<Q, T> as Folder>⟧.view folder.new).folder_faults
         → ¬ Rose (⟦<HostStation<R, S> as Disk>⟧.view station.old).outside.say_faults (⟦<HostStation<R, S> as Disk>⟧.view station.new).outside.say_faults
         → (result ≡ status.Done) ⊎ (result ≡ status.Memory) }
+
+    // `init` and `backup` leave the folder as it was.
+    ensures content { ((file : List ℕ) × IsInit (map string_bytes words.now) file) ⊎ ((root : List ℕ) × IsBackup (map string_bytes words.now) root)
+        → Tells_content (⟦<HostFolder<Q, T> as Folder>⟧.view folder.new) → (⟦<HostFolder<Q, T> as Folder>⟧.view folder.new).content ≡ Some T.StartFolder.tree }
     ensures already { result ≡ status.Already → Tells_bytes (⟦<HostStation<R, S> as Disk>⟧.view station.new) → S.Start.first ≢ [] }
 
     ensures disk_cause { result ≡ status.DiskFault → Rose (⟦<HostStation<R, S> as Disk>⟧.view station.old).disk_faults (⟦<HostStation<R, S> as Disk>⟧.view station.new).disk_faults }

@@ -59,8 +59,8 @@ fn run<W: Write>(
     out: &mut W,
     words: &[String],
 ) -> Result<(), Stop> {
-    let (status, station) = world.run(words)?;
-    print_run(alloc, out, status, station)
+    let (code, station) = world.run(words)?;
+    print_run(alloc, out, code, station)
 }
 
 /// Makes the image what a crash leaves, and prints it.

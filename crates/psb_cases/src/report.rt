@@ -19,7 +19,6 @@
 use crate::absorbing::Absorbed;
 use crate::bodies::Found;
 use crate::stop::Stop;
-use backup_cli::Status;
 use psb_bytes::digest_text;
 use psb_digest::sha;
 use psb_station::{MemFolder, MemStation};
@@ -74,10 +73,9 @@ fn print_joined<W: Write>(out: &mut W, station: &MemStation) -> io::Result<()> {
 pub fn print_run<W: Write>(
     alloc: Global,
     out: &mut W,
-    status: Status,
+    code: u8,
     station: &MemStation,
 ) -> Result<(), Stop> {
-    let code = status.code();
     writeln!(out, "code {code}")?;
     print_said(out, station.said_bytes())?;
     print_sent(alloc, out, station)?;

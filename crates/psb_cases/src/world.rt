@@ -5,7 +5,6 @@ ghost use Rattle.std.proofs.Props.{props};
 use crate::absorbing::{Absorbed, absorb_twice, keep_twice};
 use crate::stop::Stop;
 use crate::words::Outcome;
-use backup_cli::Status;
 use psb_bytes::Memory;
 use psb_station::{CallKind, MemFolder, MemStation, Planned, StationCall};
 use std::alloc::Global;
@@ -88,15 +87,16 @@ impl World {
         Ok(MemStation::new(alloc, image, Vec::new(alloc), clock, Vec::new(alloc)))
     }
 
-    /// Runs the program with these words, and keeps the station that it was run over.
-    pub fn run(&mut self, words: &[String]) -> Result<(Status, &MemStation), Memory> {
+    /// Runs the program with these words, and answers its exit status and the station that it was run over,
+    /// which is kept.
+    pub fn run(&mut self, words: &[String]) -> Result<(u8, &MemStation), Memory> {
         let mut station = self.take_station();
         let troubles = mem::replace(&mut self.troubles, Vec::new(self.alloc));
         self.folder.plan(troubles);
-        let status = backup_cli::run(self.alloc, &mut station, &mut self.folder, words);
+        let code = backup_cli::run(self.alloc, &mut station, &mut self.folder, words).code();
         self.folder.plan(Vec::new(self.alloc));
         self.image = Vec::from_slice(self.alloc, station.image())?;
-        Ok((status, self.last.insert(station)))
+        Ok((code, self.last.insert(station)))
     }
 
     /// Has the image's node absorb a datagram twice, over a station as that of a run, and says what came of

@@ -81,8 +81,9 @@ fn opened<'a, R: Files<File = File>>(
     }
 }
 
+/// Syncs what was written and the file's length, and not its times.
 fn synced<R: Files<File = File>>(file: &mut Option<File>, files: &R, path: &str) -> io::Result<()> {
-    opened(file, files, path)?.sync_all()
+    opened(file, files, path)?.sync_data()
 }
 
 impl HostFile {

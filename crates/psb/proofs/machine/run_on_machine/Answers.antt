@@ -1,9 +1,12 @@
-use Rattle.std.proofs.Common.{◌≡◌, ℕ, List, Some}
+use Rattle.std.proofs.Common.{◌≡◌, ⊎_elim, ℕ, List, Some, ◌∙◌, ap}
 use Rattle.psb_station.specs.View.{View}
+use Rattle.psb_station.specs.Folder.{FolderView, Content}
+use Rattle.psb_station.proofs.Spans.{at_some}
 use Rattle.psb_model.specs.Needed.{IsValid}
 use Rattle.psb_model.specs.declared.change.Change.{Change}
 use Rattle.node_journal.specs.Format.{Stands}
 use Rattle.node_core.specs.Stands.{HoldsHistory}
+use Rattle.snapshot_backup.specs.Backed.{IsSnapOf}
 use Rattle.backup_cli.specs.Served.{IsNode}
 use Rattle.psb.proofs.machine.run_on_machine.Goals as goal
 
@@ -22,3 +25,16 @@ returns-clause-shows g c = λ words told h valid holds. c.run.ensures.shows word
 
 pub returns-clause-forgets : goal.returns-clause-forgets
 returns-clause-forgets g c = λ number words told h valid holds. c.run.ensures.forgets number words told h (held_first _ _ h c.requires.begun.reads valid holds)
+
+pub returns-clause-backs_up : goal.returns-clause-backs_up
+returns-clause-backs_up g c = λ root words told h valid holds. c.run.ensures.backs_up root words told h (held_first _ _ h c.requires.begun.reads valid holds)
+
+pub returns-clause-snapped : goal.returns-clause-snapped
+returns-clause-snapped g c = λ root words well told shows h valid holds.
+    let made = (c.run.ensures.backs_up root words told h (held_first _ _ h c.requires.begun.reads valid holds)).1.made well in
+    let tree = c.run.ensures.content root words shows ∙ ap (λ (v : FolderView). v.content) c.requires.first in
+    (made.places, made.note, at_some _ (λ (t : Content). IsSnapOf t root made.places made.note.left) _ made.of tree, made.means_it)
+
+pub returns-clause-content : goal.returns-clause-content
+returns-clause-content g c = λ words told.
+    ⊎_elim (λ init. (c.run.ensures.begins init.0 init.1).reads.content told) (λ backup. c.run.ensures.content backup.0 backup.1 told) words ∙ ap (λ (v : FolderView). v.content) c.requires.first
