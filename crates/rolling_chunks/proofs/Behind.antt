@@ -9,7 +9,7 @@ use Rattle.rolling_chunks.proofs.TextCuts.{cuts_are, cuts_are_least}
 
 -- ---- the rule looks at no byte in front of the chunk
 
-is_anchor-drop : (text : List ℕ) (k e : ℕ) → k + 48 ≤ e → is_anchor (drop k text) (e - k) ≡ is_anchor text e
+pub is_anchor-drop : (text : List ℕ) (k e : ℕ) → k + 48 ≤ e → is_anchor (drop k text) (e - k) ≡ is_anchor text e
 unfolding is_anchor
 is_anchor-drop text k e full =
     let place : k + (e - k - 48) ≡ e - 48 = omega arith in

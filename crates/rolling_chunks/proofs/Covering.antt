@@ -1,11 +1,12 @@
 -- The spans of a text, as it is cut and as they cover it.
-use Rattle.std.proofs.Common.{◌≡◌, ℕ, ◌+◌, ◌-◌, ◌<◌, ◌≤◌, true, nat_le, ◌&&◌, ◌||◌, ◌==◌, List, [], ◌∷◌, ◌++◌, length, take, drop, map, sum, flat_map, get_or, Option, Some, None, option_to_list, refl, sym, ap, ◌∙◌, subst, inl, inr, arith, eq-eqb, eqb-true, le-leb, leb-true, take-append-drop, drop-drop, append-nil, zero-add}
+use Rattle.std.proofs.Common.{◌≡◌, ℕ, ◌+◌, ◌-◌, ◌<◌, ◌≤◌, true, false, nat_le, ◌&&◌, ◌||◌, ◌==◌, List, [], ◌∷◌, ◌++◌, length, take, drop, map, sum, flat_map, Some, None, refl, sym, ap, ◌∙◌, subst, inl, inr, arith, eq-eqb, eqb-true, le-leb, leb-true, take-append-drop, drop-drop, append-nil, zero-add, length-drop}
 use Rattle.std.proofs.lemmas.Bool.{cases_lt, both_ways, or_left, or_right, or_cases, and_from, and_parts}
-use Rattle.std.proofs.lemmas.List.{take_more, take_all, drop_all, length-take-le}
+use Rattle.std.proofs.Math.Seq.{take-add}
+use Rattle.std.proofs.lemmas.List.{take_all, take-take, drop_all, length-take-le}
 use Rattle.std.proofs.lemmas.List.Sums.{sum_by-cons, sum_by-append}
 use Rattle.rolling_chunks.specs.declared.spans.Span.{Span}
 use Rattle.rolling_chunks.specs.Cuts.{is_anchor, may_end, may_end_or_stop, cuts, cuts_after, standing_cuts, last_after, lengths_after, chunk_lengths, standing_lengths}
-use Rattle.rolling_chunks.specs.Pushes.{Progress, progress, IsPush, IsFinish}
+use Rattle.rolling_chunks.specs.Pushes.{Progress, progress, IsFinish, Runs}
 use Rattle.rolling_chunks.specs.Spans.{spans_from, spans}
 use Rattle.rolling_chunks.specs.Laws.{IsNextCut, AreCuts, StandFrom, part, SpansCover, AreChunkSizes, SpanSizes, NothingToCut}
 use Rattle.rolling_chunks.proofs.Places.{Rule, last_after-push}
@@ -25,11 +26,11 @@ pub spans_from-push_start : (lens : List ℕ) (len : ℕ) → spans_from 0 (lens
 spans_from-push_start lens len =
     spans_from-push 0 lens len ∙ ap (λ (n : ℕ). let s : Span = record { start = n; len = len } in spans_from 0 lens ++ s ∷ []) (zero-add (sum lens))
 
-sum-push : (lens : List ℕ) (len : ℕ) → sum (lens ++ len ∷ []) ≡ sum lens + len
+pub sum-push : (lens : List ℕ) (len : ℕ) → sum (lens ++ len ∷ []) ≡ sum lens + len
 sum-push lens len = omega (arith, sum_by-append (λ n. n) lens (len ∷ []), sum_by-cons (λ n. n) len [])
 
 -- the lengths up to the last place add up to it
-sum-lengths_after : (rule : Rule) (n c : ℕ) (xs : List ℕ) → AreCuts rule n c xs → c + sum (lengths_after c xs) ≡ last_after c xs
+pub sum-lengths_after : (rule : Rule) (n c : ℕ) (xs : List ℕ) → AreCuts rule n c xs → c + sum (lengths_after c xs) ≡ last_after c xs
 unfolding AreCuts lengths_after last_after
 sum-lengths_after rule n c [] h = omega arith
 sum-lengths_after rule n c (x ∷ xs) h =
@@ -120,7 +121,7 @@ pub nothing_to_cut : NothingToCut
 unfolding spans spans_from lengths_after cuts cuts_after
 nothing_to_cut m = refl
 
--- ---- a text that is cut byte by byte
+-- ---- a text that is cut run by run
 
 -- how far the text is cut: what the cutter knows, the spans so far, and where the next begins
 pub record Cutting (m : ℕ) (text : List ℕ) (i : ℕ) (cutter : Progress) (done : List Span) (start : ℕ) : Type 0 where
@@ -128,32 +129,35 @@ pub record Cutting (m : ℕ) (text : List ℕ) (i : ℕ) (cutter : Progress) (do
   pub done_are : done ≡ spans_from 0 (standing_lengths m (take i text))
   pub start_is : start ≡ sum (standing_lengths m (take i text))
 
--- one byte more
-lengths-grown : (m : ℕ) (text : List ℕ) (i byte : ℕ) (cutter cutter' : Progress) (answer : Option ℕ) → i < length text → byte ≡ get_or text i 0 → cutter ≡ progress m (take i text) → IsPush m cutter byte answer cutter'
-    → (cutter' ≡ progress m (take (i + 1) text)) × (standing_lengths m (take (i + 1) text) ≡ standing_lengths m (take i text) ++ option_to_list answer)
-lengths-grown m text i byte cutter cutter' answer within same at push =
-    let grown : take i text ++ byte ∷ [] ≡ take (i + 1) text = ap (λ (b : ℕ). take i text ++ b ∷ []) same ∙ sym (take_more text i 0 within) in
-    (push.follows (take i text) at ∙ ap (progress m) grown, ap (standing_lengths m) (sym grown) ∙ push.lengths (take i text) at)
-
-pub Cutting-none : (m : ℕ) (text : List ℕ) (i byte : ℕ) (cutter cutter' : Progress) (done : List Span) (start : ℕ) → i < length text → byte ≡ get_or text i 0
-    → Cutting m text i cutter done start → IsPush m cutter byte None cutter' → Cutting m text (i + 1) cutter' done start
-Cutting-none m text i byte cutter cutter' done start within same h push =
-    let g = lengths-grown m text i byte cutter cutter' None within same h.follows push in
-    let lens : standing_lengths m (take (i + 1) text) ≡ standing_lengths m (take i text) = g.1 ∙ append-nil (standing_lengths m (take i text)) in
-    record { follows = g.0; done_are = h.done_are ∙ ap (spans_from 0) (sym lens); start_is = h.start_is ∙ ap sum (sym lens) }
-
-pub Cutting-some : (m : ℕ) (text : List ℕ) (i byte len : ℕ) (cutter cutter' : Progress) (done : List Span) (start : ℕ) → i < length text → byte ≡ get_or text i 0
-    → Cutting m text i cutter done start → IsPush m cutter byte (Some len) cutter' → Cutting m text (i + 1) cutter' (done ++ record { start = start; len = len } ∷ []) (start + len)
-Cutting-some m text i byte len cutter cutter' done start within same h push =
-    let g = lengths-grown m text i byte cutter cutter' (Some len) within same h.follows push in
-    let lens : List ℕ = standing_lengths m (take i text) in
+-- a run that ends a chunk
+pub Cutting-run : (m : ℕ) (text : List ℕ) (start len : ℕ) (cutter cutter' : Progress) (done : List Span) → start + len ≤ length text → Cutting m text start cutter done start → Runs m cutter (take len (take (length text - start) (drop start text))) true cutter'
+    → Cutting m text (start + len) cutter' (done ++ record { start = start; len = len } ∷ []) (start + len)
+Cutting-run m text start len cutter cutter' done within h runs =
+    let front : List ℕ = take start text in
+    let grown : front ++ take len (take (length text - start) (drop start text)) ≡ take (start + len) text = ap (λ (l : List ℕ). front ++ l) (take-take len (length text - start) (drop start text) (omega arith)) ∙ sym (take-add start len text) in
+    let before : List ℕ = standing_lengths m front in
+    let last : length (take (start + len) text) - sum before ≡ len = omega (arith, length-take-le (start + len) text within, h.start_is) in
+    let lens : standing_lengths m (take (start + len) text) ≡ before ++ len ∷ [] =
+    ap (standing_lengths m) (sym grown) ∙ runs.lengths front h.follows ∙ ap (λ (whole : List ℕ). before ++ (length whole - sum before) ∷ []) grown ∙ ap (λ (n : ℕ). before ++ n ∷ []) last in
     record {
-      follows = g.0;
+      follows = runs.follows front h.follows ∙ ap (progress m) grown;
       done_are = ap (λ (ss : List Span). let s : Span = record { start = start; len = len } in ss ++ s ∷ []) h.done_are
-          ∙ ap (λ (n : ℕ). let s : Span = record { start = n; len = len } in spans_from 0 lens ++ s ∷ []) h.start_is
-          ∙ sym (spans_from-push_start lens len) ∙ ap (spans_from 0) (sym g.1);
-      start_is = ap (λ (n : ℕ). n + len) h.start_is ∙ sym (sum-push lens len) ∙ ap sum (sym g.1);
+          ∙ ap (λ (n : ℕ). let s : Span = record { start = n; len = len } in spans_from 0 before ++ s ∷ []) h.start_is
+          ∙ sym (spans_from-push_start before len) ∙ ap (spans_from 0) (sym lens);
+      start_is = ap (λ (n : ℕ). n + len) h.start_is ∙ sym (sum-push before len) ∙ ap sum (sym lens);
     }
+
+-- a run that ends none: the text is pushed
+pub Cutting-rest : (m : ℕ) (text : List ℕ) (start len : ℕ) (cutter cutter' : Progress) (done : List Span) → start ≤ length text → len ≡ length (take (length text - start) (drop start text)) → Cutting m text start cutter done start → Runs m cutter (take len (take (length text - start) (drop start text))) false cutter'
+    → Cutting m text (length text) cutter' done start
+Cutting-rest m text start len cutter cutter' done within all h runs =
+    let front : List ℕ = take start text in
+    let all' : take (length text - start) (drop start text) ≡ drop start text = take_all (length text - start) (drop start text) (omega (arith, length-drop start text)) in
+    let rest : take len (take (length text - start) (drop start text)) ≡ drop start text = take_all len (take (length text - start) (drop start text)) (omega (arith, all)) ∙ all' in
+    let whole : take (length text) text ≡ text = take_all (length text) text (omega arith) in
+    let grown : front ++ take len (take (length text - start) (drop start text)) ≡ take (length text) text = ap (λ (l : List ℕ). front ++ l) rest ∙ take-append-drop start text ∙ sym whole in
+    let lens : standing_lengths m (take (length text) text) ≡ standing_lengths m front = ap (standing_lengths m) (sym grown) ∙ runs.lengths front h.follows ∙ append-nil (standing_lengths m front) in
+    record { follows = runs.follows front h.follows ∙ ap (progress m) grown; done_are = h.done_are ∙ ap (spans_from 0) (sym lens); start_is = h.start_is ∙ ap sum (sym lens) }
 
 -- the next span begins within the text
 pub Cutting-within : (m : ℕ) (text : List ℕ) (i : ℕ) (cutter : Progress) (done : List Span) (start : ℕ) → i ≤ length text → Cutting m text i cutter done start → start ≤ length text

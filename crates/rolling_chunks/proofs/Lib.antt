@@ -1,6 +1,9 @@
 pub mod Rolling
+pub mod Loose
 pub mod Places
 pub mod TextCuts
 pub mod Pushing
 pub mod Covering
 pub mod Behind
+pub mod Running
+pub mod Windows

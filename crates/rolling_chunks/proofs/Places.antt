@@ -129,6 +129,13 @@ AreCuts-no_cut rule n c [] h fails = λ k from to.
     elim (cases_eq (n + 1) k) [ inl same ↦ subst (λ (i : ℕ). rule c i ≡ false) same fails | inr ne ↦ h k from (omega arith) ]
 AreCuts-no_cut rule n c (x ∷ xs) h fails = (IsNextCut-more rule n c x h.0, AreCuts-no_cut rule n x xs h.1 fails)
 
+-- many places more, of which none passes
+pub AreCuts-further : (rule : Rule) (n n' c : ℕ) (xs : List ℕ) → AreCuts rule n c xs → n ≤ n' → ((k : ℕ) → n < k → k ≤ n' → rule (last_after c xs) k ≡ false) → AreCuts rule n' c xs
+unfolding AreCuts last_after
+AreCuts-further rule n n' c [] h longer none = λ k from to. elim (cases_lt n k) [ inl past ↦ none k past to | inr within ↦ h k from within ]
+AreCuts-further rule n n' c (x ∷ xs) h longer none =
+    (record { after = h.0.after; within = omega (arith, h.0.within); ends = h.0.ends; least = h.0.least }, AreCuts-further rule n n' x xs h.1 longer none)
+
 -- ---- more places
 
 -- the places lie behind the first

@@ -22,17 +22,17 @@ keep_last-push text byte =
     let place : k + (length (drop k grown) - 48) ≡ length grown - 48 = omega (arith, length-drop k grown, length_push text byte) in
     ap (keep_last 48) inside ∙ drop-drop (length (drop k grown) - 48) k grown ∙ ap (λ (n : ℕ). drop n grown) place
 
-same_progress : (m : ℕ) (text window : List ℕ) (len : ℕ) → window ≡ keep_last 48 text → len ≡ length text - last_standing m text
+pub same_progress : (m : ℕ) (text window : List ℕ) (len : ℕ) → window ≡ keep_last 48 text → len ≡ length text - last_standing m text
     → let p : Progress = record { window = window; len = len } in p ≡ progress m text
 unfolding progress
 same_progress m text window len e e' =
     ap (λ (w : List ℕ). let p : Progress = record { window = w; len = len } in p) e ∙ ap (λ (n : ℕ). let p : Progress = record { window = keep_last 48 text; len = n } in p) e'
 
-window-progress : (m : ℕ) (text : List ℕ) (p : Progress) → p ≡ progress m text → p.window ≡ keep_last 48 text
+pub window-progress : (m : ℕ) (text : List ℕ) (p : Progress) → p ≡ progress m text → p.window ≡ keep_last 48 text
 unfolding progress
 window-progress m text p at = ap (λ (q : Progress). q.window) at
 
-len-progress : (m : ℕ) (text : List ℕ) (p : Progress) → p ≡ progress m text → p.len ≡ length text - last_standing m text
+pub len-progress : (m : ℕ) (text : List ℕ) (p : Progress) → p ≡ progress m text → p.len ≡ length text - last_standing m text
 unfolding progress
 len-progress m text p at = ap (λ (q : Progress). q.len) at
 
@@ -158,7 +158,7 @@ run_goes_on m before (b ∷ text) lengths old last at (answer, next, more, push,
       ap (standing_lengths m) (sym joined) ∙ after.1 ∙ ap (λ (ns : List ℕ). ns ++ more) (push.lengths before at) ∙ append_assoc (standing_lengths m before) (option_to_list answer) more ∙ ap (λ (ns : List ℕ). standing_lengths m before ++ ns) (sym split),
     )
 
-standing_lengths-nil : (m : ℕ) → standing_lengths m [] ≡ []
+pub standing_lengths-nil : (m : ℕ) → standing_lengths m [] ≡ []
 unfolding standing_cuts cuts_after lengths_after
 standing_lengths-nil m = refl
 

@@ -15,7 +15,7 @@ one_more : (x p s b y : ℕ) → (x + 1) * (p * b) + (s * b + y) ≡ ((x + 1) * 
 one_more x p s b y = omega arith
 
 -- the remainder of a factor does for the factor
-mod_factor : (x b y m : ℕ) → (x % m * b + y) % m ≡ (x * b + y) % m
+pub mod_factor : (x b y m : ℕ) → (x % m * b + y) % m ≡ (x * b + y) % m
 mod_factor x b y m = sym (mod-add-mod (x % m * b) m y) ∙ ap (λ r. (r + y) % m) (mul-mod_first x b m) ∙ mod-add-mod (x * b) m y
 
 -- The oldest of the bytes goes: its weight and what that lacks to the modulus make a multiple of it.
@@ -44,14 +44,14 @@ power_sum-push (x ∷ window) byte =
     ∙ one_more x (base ^ length window) (power_sum window) base (byte + 1)
 
 -- the window is not full: nothing falls out
-fingerprint-push : (window : List ℕ) (byte : ℕ) → (fingerprint window * base + 0 + (byte + 1)) % modulus ≡ fingerprint (window ++ byte ∷ [])
+pub fingerprint-push : (window : List ℕ) (byte : ℕ) → (fingerprint window * base + 0 + (byte + 1)) % modulus ≡ fingerprint (window ++ byte ∷ [])
 unfolding fingerprint
 fingerprint-push window byte =
     let order : power_sum window % modulus * base + 0 + (byte + 1) ≡ power_sum window % modulus * base + (byte + 1) = omega arith in
     ap (λ (n : ℕ). n % modulus) order ∙ mod_factor (power_sum window) base (byte + 1) modulus ∙ ap (λ (n : ℕ). n % modulus) (sym (power_sum-push window byte))
 
 -- the window is full: the oldest byte falls out
-fingerprint-roll : (x : ℕ) (window : List ℕ) (byte : ℕ) → length window ≡ 47
+pub fingerprint-roll : (x : ℕ) (window : List ℕ) (byte : ℕ) → length window ≡ 47
     → (fingerprint (x ∷ window) * base + (x + 1) * (modulus - 1113966321923690073) + (byte + 1)) % modulus ≡ fingerprint (window ++ byte ∷ [])
 unfolding fingerprint power_sum
 fingerprint-roll x window byte len =

@@ -1,12 +1,12 @@
 -- The cuts of a text, as it grows and as it ends.
-use Rattle.std.proofs.Common.{◌≡◌, ℕ, ◌+◌, ◌-◌, ◌%◌, ◌<◌, ◌≤◌, Bool, true, false, nat_le, ◌&&◌, ◌||◌, ◌==◌, List, [], ◌∷◌, ◌++◌, length, take, drop, refl, sym, ap, ◌∙◌, subst, inl, inr, arith, le-leb, length-drop, length-append}
+use Rattle.std.proofs.Common.{◌≡◌, ℕ, ◌+◌, ◌-◌, ◌%◌, ◌<◌, ◌≤◌, Bool, true, false, nat_le, ◌&&◌, ◌||◌, ◌==◌, if◌then◌else◌, List, [], ◌∷◌, ◌++◌, length, take, drop, append-nil, refl, sym, ap, ◌∙◌, subst, inl, inr, arith, le-leb, length-drop, length-append}
 use Rattle.std.proofs.lemmas.Bool.{cases_lt, and_left, lt-leb, ne_eqb}
 use Rattle.std.proofs.lemmas.List.{length_push, take-append-le, drop-append-le, take_all}
 use Rattle.circular_buffer.specs.Buffer.{keep_last}
 use Rattle.rolling_chunks.specs.Fingerprints.{fingerprint}
 use Rattle.rolling_chunks.specs.Cuts.{window_before, is_anchor, may_end, may_end_or_stop, cuts, standing_cuts, last_after}
 use Rattle.rolling_chunks.specs.Laws.{AreCuts, CutsAreLeast, CutsStand}
-use Rattle.rolling_chunks.proofs.Places.{Agree, or_at, AreCuts-cuts_after, AreCuts-same, AreCuts-agree, AreCuts-end, AreCuts-ended, AreCuts-cut, AreCuts-no_cut, AreCuts-longer, last_after-within}
+use Rattle.rolling_chunks.proofs.Places.{Agree, or_at, AreCuts-cuts_after, AreCuts-same, AreCuts-agree, AreCuts-end, AreCuts-ended, AreCuts-cut, AreCuts-no_cut, AreCuts-further, AreCuts-longer, last_after-within}
 
 -- ---- the rule looks at no byte behind the place
 
@@ -16,7 +16,7 @@ window_before-append text more e full within =
     let long : 48 ≤ length (drop (e - 48) text) = omega (arith, length-drop (e - 48) text) in
     ap (take 48) (drop-append-le (e - 48) text more low) ∙ take-append-le 48 (drop (e - 48) text) more long
 
-is_anchor-append : (text more : List ℕ) (e : ℕ) → e ≤ length text → is_anchor (text ++ more) e ≡ is_anchor text e
+pub is_anchor-append : (text more : List ℕ) (e : ℕ) → e ≤ length text → is_anchor (text ++ more) e ≡ is_anchor text e
 unfolding is_anchor
 is_anchor-append text more e within =
     elim (cases_lt e 48) [
@@ -137,3 +137,31 @@ may_end-last m text byte len e =
           let anchor : test ≡ is_anchor grown (length text + 1) = sym (is_anchor-last grown full) ∙ ap (is_anchor grown) (length_push text byte) in
           ap (λ (a : Bool). nat_le 2048 (length text + 1 - c) && ((length text + 1 - c == m) || a)) anchor
     ]
+
+-- ---- many bytes more
+
+-- None of the places behind a text passes but the last, if that does.
+pub standing-run : (m : ℕ) (text rest : List ℕ) (ends : Bool) → 0 < length rest → ((j : ℕ) → 0 < j → j < length rest → may_end m (text ++ rest) (last_standing m text) (length text + j) ≡ false)
+    → may_end m (text ++ rest) (last_standing m text) (length text + length rest) ≡ ends
+    → standing_cuts m (text ++ rest) ≡ standing_cuts m text ++ (if ends then (length text + length rest) ∷ [] else [])
+standing-run m text rest ends some none last =
+    let whole : List ℕ = text ++ rest in
+    let rule = may_end m whole in
+    let xs : List ℕ = standing_cuts m text in
+    let n : ℕ = length text + (length rest - 1) in
+    let next : n + 1 ≡ length text + length rest = omega arith in
+    let long : length whole ≡ n + 1 = omega (arith, length-append text rest) in
+    let near : AreCuts rule (length text) 0 xs = AreCuts-agree (may_end m text) rule (length text) 0 xs (may_end-append m text rest) (standing_are m text) in
+    let there : (k : ℕ) → length text < k → k ≤ n → rule (last_after 0 xs) k ≡ false = λ k from to.
+    let place : length text + (k - length text) ≡ k = omega arith in
+    subst (λ (e : ℕ). rule (last_after 0 xs) e ≡ false) place (none (k - length text) (omega arith) (omega arith)) in
+    let far : AreCuts rule n 0 xs = AreCuts-further rule (length text) n 0 xs near (omega arith) there in
+    let at : rule (last_after 0 xs) (n + 1) ≡ ends = ap (rule (last_after 0 xs)) next ∙ last in
+    let are : AreCuts rule (n + 1) 0 (xs ++ (if ends then (n + 1) ∷ [] else [])) = by_ends rule n xs ends far (omega arith) at in
+    AreCuts-same rule (length whole) 0 (standing_cuts m whole) (xs ++ (if ends then (length text + length rest) ∷ [] else [])) (standing_are m whole)
+    (subst (λ (i : ℕ). AreCuts rule i 0 (xs ++ (if ends then (length text + length rest) ∷ [] else []))) (sym long)
+    (subst (λ (i : ℕ). AreCuts rule (n + 1) 0 (xs ++ (if ends then i ∷ [] else []))) next are))
+  where
+    by_ends : (rule : ℕ → ℕ → Bool) (n : ℕ) (xs : List ℕ) (ends : Bool) → AreCuts rule n 0 xs → 0 ≤ n → rule (last_after 0 xs) (n + 1) ≡ ends → AreCuts rule (n + 1) 0 (xs ++ (if ends then (n + 1) ∷ [] else []))
+    by_ends rule n xs true far low at = AreCuts-cut rule n 0 xs far low at
+    by_ends rule n xs false far low at = subst (λ (ys : List ℕ). AreCuts rule (n + 1) 0 ys) (sym (append-nil xs)) (AreCuts-no_cut rule n 0 xs far at)

@@ -1,8 +1,8 @@
 -- Laws over the definition of cuts and spans, each of them proved.
-use Rattle.std.specs.Prelude.{◌≡◌, ℕ, ◌+◌, ◌<◌, ◌≤◌, ◌↔◌, Bool, true, false, List, [], ◌∷◌, ◌++◌, length, take, drop, map, flat_map, All, option_to_list, Option}
+use Rattle.std.specs.Prelude.{◌≡◌, ℕ, ◌+◌, ◌<◌, ◌≤◌, ◌↔◌, Bool, true, false, List, [], ◌∷◌, ◌++◌, length, take, drop, map, flat_map, All, option_to_list, Option, is_some, if◌then◌else◌}
 use Rattle.rolling_chunks.specs.declared.spans.Span.{Span}
 use Rattle.rolling_chunks.specs.Cuts.{may_end_or_stop, cuts, standing_cuts, last_after, lengths_after, chunk_lengths}
-use Rattle.rolling_chunks.specs.Pushes.{Progress, progress, IsPush, IsFinish}
+use Rattle.rolling_chunks.specs.Pushes.{Progress, progress, IsPush, IsFinish, Runs}
 use Rattle.rolling_chunks.specs.Spans.{spans}
 
 -- e is the least place after c, and at most n, where the rule lets the chunk from c end
@@ -63,8 +63,25 @@ Pushed m old [] lengths new = (lengths ≡ []) × (new ≡ old)
 Pushed m old (b ∷ bytes) lengths new =
     (answer : Option ℕ) × (next : Progress) × (more : List ℕ) × IsPush m old b answer next × (lengths ≡ option_to_list answer ++ more) × Pushed m next bytes more new
 
+-- Pushes of which none but the last answers are a run, and it ends a chunk where that one answers.
+abbrev pub PushesRun : Type 0
+PushesRun = (m : ℕ) (bytes : List ℕ) (byte : ℕ) (old mid new : Progress) (answer : Option ℕ) → Pushed m old bytes [] mid → IsPush m mid byte answer new
+    → Runs m old (bytes ++ byte ∷ []) (is_some answer) new
+
+-- The bytes were pushed by runs, each with whether it ends a chunk, and these are the lengths of the
+-- chunks that ended: of each the bytes that were begun before and those of the run.
+unfoldable pub Ran : ℕ → Progress → ℕ → List (List ℕ × Bool) → List ℕ → Progress → Type 0
+Ran m old begun [] lengths new = (lengths ≡ []) × (new ≡ old)
+Ran m old begun (run ∷ runs) lengths new =
+    (next : Progress) × (more : List ℕ) × Runs m old run.0 run.1 next × (lengths ≡ (if run.1 then (begun + length run.0) ∷ [] else []) ++ more) × Ran m next (if run.1 then 0 else begun + length run.0) runs more new
+
 -- A whole text pushed and finished: the lengths that were answered are the differences of its cuts,
 -- and the cutter is as new.
 abbrev pub RunsCut : Type 0
 RunsCut = (m : ℕ) (text lengths : List ℕ) (last new : Progress) (answer : Option ℕ) → Pushed m (progress m []) text lengths last → IsFinish m last answer new
     → (lengths ++ option_to_list answer ≡ chunk_lengths m text) × (new ≡ progress m [])
+
+-- The same for a whole text pushed by runs, however it is parted into them.
+abbrev pub PartsCut : Type 0
+PartsCut = (m : ℕ) (runs : List (List ℕ × Bool)) (lengths : List ℕ) (last new : Progress) (answer : Option ℕ) → Ran m (progress m []) 0 runs lengths last → IsFinish m last answer new
+    → lengths ++ option_to_list answer ≡ chunk_lengths m (flat_map (λ run. run.0) runs)

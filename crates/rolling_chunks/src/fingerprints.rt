@@ -1,4 +1,4 @@
-ghost use Rattle.std.specs.Prelude.{◌≡◌, ◌+◌, ◌-◌, ◌*◌, ◌%◌, ◌^◌, ◌<◌, [], ◌∷◌, ◌++◌, IfOk};
+ghost use Rattle.std.specs.Prelude.{◌≡◌, ℕ, ◌+◌, ◌-◌, ◌*◌, ◌%◌, ◌^◌, ◌<◌, List, [], ◌∷◌, ◌++◌, IfOk};
 ghost use Rattle.std.specs.Option.{option_map_or};
 ghost use Rattle.circular_buffer.specs.Buffer.{keep_last};
 ghost use Rattle.rolling_chunks.specs.Fingerprints.{modulus, fingerprint};
@@ -9,18 +9,18 @@ use std::alloc::Global;
 use std::marker::Model;
 
 /// How many bytes a fingerprint is taken of.
-const WINDOW: usize = 48;
+pub const WINDOW: usize = 48;
 
 /// Fingerprints are taken modulo a Mersenne prime: its digits in base 2 are so many ones.
 const MODULUS_BITS: u32 = 61;
 
-const MODULUS: u64 = (1 << MODULUS_BITS) - 1;
+pub const MODULUS: u64 = (1 << MODULUS_BITS) - 1;
 
 /// What a byte's weight is multiplied by for each byte that follows it: the FNV prime of 64 bits.
-const BASE: u64 = 1_099_511_628_211;
+pub const BASE: u64 = 1_099_511_628_211;
 
 /// `BASE` to the power `WINDOW`, modulo `MODULUS`: the weight of the byte that falls out.
-const OLDEST_WEIGHT: u64 = 1_113_966_321_923_690_073;
+pub const OLDEST_WEIGHT: u64 = 1_113_966_321_923_690_073;
 
 /// The last bytes of a text, at most 48 of them, and their fingerprint. Contracts see it as the
 /// list of these bytes.
@@ -59,6 +59,16 @@ impl Window {
         self.value
     }
 
+    /// Takes bytes in, one after another.
+    pub fn push_all(&mut self, bytes: &[u8])
+        ensures { (text : List ℕ) → self.old ≡ keep_last 48 text → self.new ≡ keep_last 48 (text ++ bytes.now) }
+    {
+        // Of more than 48 bytes the last alone stay.
+        for byte in &bytes[bytes.len().saturating_sub(WINDOW)..] {
+            let _ = self.push(*byte);
+        }
+    }
+
     pub fn clear(&mut self)
         ensures { self.new ≡ [] }
     {
@@ -80,8 +90,8 @@ fn rolled(value: u64, oldest: Option<u8>, byte: u8) -> u64
     reduced(u128::from(value) * u128::from(BASE) + out + u128::from(u64::from(byte) + 1))
 }
 
-// The remainder of a division by 2^61 - 1: a multiple of 2^61 counts as much as the factor alone.
-fn reduced(sum: u128) -> u64
+/// The remainder of a division by 2^61 - 1: a multiple of 2^61 counts as much as the factor alone.
+pub fn reduced(sum: u128) -> u64
     requires { sum < 2 ^ 121 }
     ensures { result ≡ sum % modulus }
 {

@@ -1,5 +1,5 @@
 //! The laws of cuts, over every text and every greatest length.
-ghost use Rattle.rolling_chunks.specs.Laws.{CutsAreLeast, CutsStand, CutsBehind, SpansCover, SpanSizes, NothingToCut, RunsCut};
+ghost use Rattle.rolling_chunks.specs.Laws.{CutsAreLeast, CutsStand, CutsBehind, SpansCover, SpanSizes, NothingToCut, PushesRun, RunsCut, PartsCut};
 
 /// The cuts are the least places that the rule allows, one after another.
 pub fn cuts_are_least()
@@ -31,7 +31,18 @@ pub fn nothing_to_cut()
     ensures { NothingToCut }
 {}
 
+/// Pushes of which none but the last answers are a run, and it ends a chunk where that one answers.
+pub fn pushes_run()
+    ensures { PushesRun }
+{}
+
 /// The lengths that the pushes of a text and one finish answer are the differences of its cuts.
 pub fn runs_cut()
     ensures { RunsCut }
+{}
+
+/// The lengths that the runs of a text and one finish give are the differences of its cuts, however
+/// the text is parted into runs.
+pub fn parts_cut()
+    ensures { PartsCut }
 {}

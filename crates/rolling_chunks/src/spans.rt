@@ -20,12 +20,16 @@ pub fn cut_all(alloc: Global, text: &[u8]) -> Result<Vec<Span>, Memory>
     let mut cutter = Cutter::new(alloc)?;
     let mut spans = Vec::new(alloc);
     let mut start = 0;
-    for byte in text {
-        if let Some(len) = cutter.push(*byte) {
-            let len = len as usize;
-            spans.push(Span { start, len })?;
-            start += len;
+    loop {
+        let run = cutter.push_to_cut(&text[start..]);
+        if !run.ends {
+            break;
         }
+        spans.push(Span {
+            start,
+            len: run.len,
+        })?;
+        start += run.len;
     }
     if let Some(len) = cutter.finish() {
         let len = len as usize;

@@ -91,6 +91,9 @@ const ANCHORS: [(usize, &[usize]); 8] = [
     (32_769, &[32_768, 7_232]),
 ];
 
+// Sizes of the pieces that texts are pushed in beside one piece, long texts in the greatest alone.
+const PIECES: [usize; 8] = [1, 7, 47, 48, 49, 2_047, 2_048, 65_536];
+
 // The first bytes of a keystream.
 fn keystream(alloc: Global, key: &str, len: usize) -> Result<Vec<u8>, Fail> {
     let key = read_digest(key).ok_or("64 digits")?;
@@ -126,7 +129,37 @@ fn pushed(alloc: Global, cutter: &mut Cutter, text: &[u8]) -> Result<Vec<usize>,
     Ok(lens)
 }
 
-// Cuts the text at once and byte by byte, and compares the lengths of its chunks.
+// The lengths that its runs and a finish answer, where the text comes in pieces of one size.
+fn run_through(
+    alloc: Global,
+    cutter: &mut Cutter,
+    text: &[u8],
+    size: usize,
+) -> Result<Vec<usize>, AllocError> {
+    let mut lens = Vec::new(alloc);
+    let mut len: usize = 0;
+    for piece in text.chunks(size.max(1)) {
+        let mut rest = piece;
+        for _ in 0..u64::MAX {
+            if rest.is_empty() {
+                break;
+            }
+            let run = cutter.push_to_cut(rest);
+            len = len.wrapping_add(run.len);
+            if run.ends {
+                lens.push(len)?;
+                len = 0;
+            }
+            rest = &rest[run.len..];
+        }
+    }
+    if let Some(len) = cutter.finish() {
+        lens.push(len as usize)?;
+    }
+    Ok(lens)
+}
+
+// Cuts the text at once, byte by byte and in pieces, and compares the lengths of its chunks.
 fn assert_lens(
     rt: &impl Abort,
     alloc: Global,
@@ -145,6 +178,18 @@ fn assert_lens(
     assert_eq!(rt; lens.as_slice(), want, "of {} bytes", text.len());
     let lens = pushed(alloc, cutter, text)?;
     assert_eq!(rt; lens.as_slice(), want, "pushed, of {} bytes", text.len());
+    for size in PIECES {
+        if size < 2_047 && text.len() > 100_000 {
+            continue;
+        }
+        let lens = run_through(alloc, cutter, text, size)?;
+        assert_eq!(rt;
+            lens.as_slice(),
+            want,
+            "in pieces of {size}, of {} bytes",
+            text.len()
+        );
+    }
     Ok(())
 }
 

@@ -1,18 +1,15 @@
--- The lengths of the chunks of a text as it is pushed byte by byte, and as it ends.
-use Rattle.std.proofs.Common.{◌≡◌, inl, inr, ℕ, ◌+◌, ◌-◌, ◌<◌, ◌≤◌, Bool, true, false, List, [], ◌∷◌, ◌++◌, length, map, sum, Some, None, All, refl, sym, ◌∙◌, ap, subst, arith, append-nil}
+-- The lengths of the chunks of a text as it is pushed, and as it ends.
+use Rattle.std.proofs.Common.{◌≡◌, inl, inr, ℕ, ◌+◌, ◌-◌, ◌<◌, ◌≤◌, Bool, true, false, List, [], ◌∷◌, ◌++◌, length, map, sum, refl, sym, ◌∙◌, ap, subst, arith, append-nil}
 use Rattle.std.proofs.lemmas.Bool.{cases_lt}
-use Rattle.std.proofs.lemmas.List.{length_push}
-use Rattle.std.proofs.lemmas.List.Elements.{All-nil, All-cons, All-contains}
 use Rattle.std.proofs.lemmas.List.Sums.{sum_by-cons, sum_by-append}
 use Rattle.rolling_chunks.specs.declared.spans.Span.{Span}
 use Rattle.rolling_chunks.specs.Cuts.{longest, may_end, standing_cuts, last_after, lengths_after, standing_lengths, chunk_lengths}
-use Rattle.rolling_chunks.specs.Pushes.{Progress, progress, IsPush}
+use Rattle.rolling_chunks.specs.Pushes.{Progress, progress, last_length}
 use Rattle.rolling_chunks.specs.Spans.{spans_from, spans}
 use Rattle.rolling_chunks.specs.Laws.{AreCuts, AreChunkSizes}
 use Rattle.rolling_chunks.proofs.Places.{Rule, lengths_after-push}
 use Rattle.rolling_chunks.proofs.TextCuts.{last_standing, last_standing-within, standing_are, cuts-left, cuts-whole}
 use Rattle.rolling_chunks.proofs.Covering.{span_sizes}
-use Rattle.snapshots.specs.Gathering.{last_length}
 
 -- ---- sums of lengths
 
@@ -35,34 +32,6 @@ sum_push ns n = omega (arith, sum_by-append (λ n. n) ns (n ∷ []), sum_by-cons
 pub len_is : (m : ℕ) (text : List ℕ) (p : Progress) → p ≡ progress m text → p.len ≡ length text - sum (standing_lengths m text)
 unfolding progress
 len_is m text p at = ap (λ (q : Progress). q.len) at ∙ ap (λ (n : ℕ). length text - n) (sym (sum_is m text))
-
--- ---- one byte more
-
--- each place is within the last
-within_last : (rule : Rule) (n c : ℕ) (xs : List ℕ) → AreCuts rule n c xs → (c ≤ last_after c xs) × All (λ e. e ≤ last_after c xs) xs
-unfolding AreCuts last_after
-within_last rule n c [] h = (omega arith, All-nil (λ e. e ≤ c))
-within_last rule n c (x ∷ xs) h =
-    let rest = within_last rule n x xs h.1 in
-    (omega (arith, h.0.after, rest.0), All-cons (λ e. e ≤ last_after x xs) x xs rest.0 rest.1)
-
--- where a chunk ends with a byte, the standing chunks are the whole text
-cut_sum : (m : ℕ) (text : List ℕ) (byte len : ℕ) (old new : Progress) → old ≡ progress m text → IsPush m old byte (Some len) new → sum (standing_lengths m (text ++ byte ∷ [])) ≡ length text + 1
-cut_sum m text byte len old new at push =
-    let grown = text ++ byte ∷ [] in
-    let has = (push.cut text at).0 refl in
-    let most = All-contains (λ e. e ≤ last_standing m grown) (standing_cuts m grown) (length text + 1) (within_last (may_end m grown) (length grown) 0 (standing_cuts m grown) (standing_are m grown)).1 has in
-    omega (arith, most, sum_is m grown, last_standing-within m grown, length_push text byte)
-
-pub pushed_none : (m : ℕ) (text : List ℕ) (byte : ℕ) (old new : Progress) → old ≡ progress m text → IsPush m old byte None new → standing_lengths m (text ++ byte ∷ []) ≡ standing_lengths m text
-pushed_none m text byte old new at push = push.lengths text at ∙ append-nil (standing_lengths m text)
-
-pub pushed_some : (m : ℕ) (text : List ℕ) (byte len : ℕ) (old new : Progress) → old ≡ progress m text → IsPush m old byte (Some len) new
-    → standing_lengths m (text ++ byte ∷ []) ≡ standing_lengths m text ++ (length (text ++ byte ∷ []) - sum (standing_lengths m text)) ∷ []
-pushed_some m text byte len old new at push =
-    let before = standing_lengths m text in
-    let is : len ≡ length (text ++ byte ∷ []) - sum before = omega (arith, ap sum (push.lengths text at), sum_push before len, cut_sum m text byte len old new at push, length_push text byte) in
-    push.lengths text at ∙ ap (λ (n : ℕ). before ++ n ∷ []) is
 
 -- ---- the end
 

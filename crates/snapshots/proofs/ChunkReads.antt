@@ -10,14 +10,14 @@ use Rattle.psb_station.specs.Calls.{Grows}
 use Rattle.psb_station.specs.Folder.{FolderView, FolderCall, Content, File, Reading, Tells_content, found}
 use Rattle.psb_station.proofs.Spans.{at_some, same_some, told_before}
 use Rattle.rolling_chunks.specs.Cuts.{longest, cuts_after, standing_cuts, last_after, lengths_after, standing_lengths, chunk_lengths}
-use Rattle.rolling_chunks.specs.Pushes.{progress}
+use Rattle.rolling_chunks.specs.Pushes.{progress, last_length}
 use Rattle.rolling_chunks.specs.Spans.{spans_from, spans}
 use Rattle.rolling_chunks.specs.Laws.{part}
 use Rattle.rolling_chunks.specs.declared.spans.Span.{Span}
 use Rattle.rolling_chunks.proofs.TextCuts.{last_standing, cuts-left, cuts-whole, cuts_stand}
 use Rattle.snapshots.specs.declared.unread.TheConstants.{PIECE_BYTES}
 use Rattle.snapshots.specs.declared.reading.ChunkReader.{ChunkReader}
-use Rattle.snapshots.specs.Gathering.{Gathered, begun, nothing_gathered, last_length, Takes, Finishes}
+use Rattle.snapshots.specs.Gathering.{Gathered, begun, nothing_gathered, Takes, Finishes}
 use Rattle.snapshots.specs.Pieces.{ReadsNext}
 use Rattle.snapshots.specs.Reading.{joined, IsBehind, HasFile, ReadsBehind, Refills, Reads, EndedReadersGaveAll, ReadersGiveFirstChunks, ReadersReadOnePieceAhead}
 use Rattle.snapshots.specs.Tickets.{chunks_of}

@@ -1,48 +1,11 @@
--- What a chunk buffer knows, one byte after another.
-use Rattle.std.proofs.Common.{◌≡◌, inl, inr, ℕ, ◌+◌, ◌-◌, ◌<◌, ◌≤◌, ◌↔◌, Bool, true, false, cond, List, [], ◌∷◌, ◌++◌, length, take, sum, get_or, Option, Some, None, IsSome, is_some, refl, sym, ◌∙◌, ap, subst, arith, append-nil, append_assoc, length-append}
+-- What a chunk buffer knows, one run of bytes after another.
+use Rattle.std.proofs.Common.{◌≡◌, inl, inr, ℕ, ◌-◌, ◌<◌, ◌≤◌, ◌↔◌, Bool, true, false, cond, List, [], ◌∷◌, ◌++◌, length, take, sum, Option, Some, None, IsSome, is_some, refl, ◌∙◌, ap, subst, arith, length-append}
 use Rattle.std.proofs.lemmas.Bool.{cases_lt}
-use Rattle.std.proofs.lemmas.List.{take_more}
 use Rattle.rolling_chunks.specs.Cuts.{longest, standing_lengths}
-use Rattle.rolling_chunks.specs.Pushes.{Progress, progress, IsPush, IsFinish}
-use Rattle.snapshots.specs.Gathering.{Gathered, begun, IsGathered, Runs, Takes, Finishes}
-use Rattle.snapshots.proofs.ChunkLengths.{sum_within, sum_push, len_is, pushed_none, pushed_some, ended_lengths, last_short, len_short}
-
--- ---- runs of pushes
-
-pub runs_none : (p : Progress) → Runs p [] false p
-runs_none p = record {
-  follows = λ text at. at ∙ ap (progress longest) (sym (append-nil text));
-  lengths = λ text at. ap (standing_lengths longest) (append-nil text) ∙ sym (append-nil (standing_lengths longest text));
-}
-
--- the lengths after a run that ends no chunk
-same_lengths : (old mid : Progress) (bytes text : List ℕ) → Runs old bytes false mid → old ≡ progress longest text → standing_lengths longest (text ++ bytes) ≡ standing_lengths longest text
-same_lengths old mid bytes text runs at = runs.lengths text at ∙ append-nil (standing_lengths longest text)
-
-pub runs_on : (old mid new : Progress) (bytes : List ℕ) (byte : ℕ) → Runs old bytes false mid → IsPush longest mid byte None new → Runs old (bytes ++ byte ∷ []) false new
-runs_on old mid new bytes byte runs push = record {
-  follows = λ text at. push.follows (text ++ bytes) (runs.follows text at) ∙ ap (progress longest) (append_assoc text bytes (byte ∷ []));
-  lengths = λ text at.
-      ap (standing_lengths longest) (sym (append_assoc text bytes (byte ∷ [])))
-      ∙ pushed_none longest (text ++ bytes) byte mid new (runs.follows text at) push
-      ∙ runs.lengths text at;
-}
-
-pub runs_to_cut : (old mid new : Progress) (bytes : List ℕ) (byte len : ℕ) → Runs old bytes false mid → IsPush longest mid byte (Some len) new → Runs old (bytes ++ byte ∷ []) true new
-runs_to_cut old mid new bytes byte len runs push = record {
-  follows = λ text at. push.follows (text ++ bytes) (runs.follows text at) ∙ ap (progress longest) (append_assoc text bytes (byte ∷ []));
-  lengths = λ text at.
-      let after : List ℕ → List ℕ → List ℕ = λ (before whole : List ℕ). before ++ (length whole - sum before) ∷ [] in
-      ap (standing_lengths longest) (sym (append_assoc text bytes (byte ∷ [])))
-      ∙ pushed_some longest (text ++ bytes) byte len mid new (runs.follows text at) push
-      ∙ ap (λ (before : List ℕ). after before ((text ++ bytes) ++ byte ∷ [])) (same_lengths old mid bytes text runs at)
-      ∙ ap (λ (whole : List ℕ). after (standing_lengths longest text) whole) (append_assoc text bytes (byte ∷ []));
-}
-
--- as the loop over the bytes has it
-pub runs_last : (old mid new : Progress) (bytes : List ℕ) (i len : ℕ) → i < length bytes → Runs old (take i bytes) false mid → IsPush longest mid (get_or bytes i 0) (Some len) new → Runs old (take (i + 1) bytes) true new
-runs_last old mid new bytes i len within runs push =
-    subst (λ (l : List ℕ). Runs old l true new) (sym (take_more bytes i 0 within)) (runs_to_cut old mid new (take i bytes) (get_or bytes i 0) len runs push)
+use Rattle.rolling_chunks.specs.Pushes.{Progress, progress, IsFinish, Runs}
+use Rattle.snapshots.specs.Gathering.{Gathered, begun, IsGathered, Takes, Finishes}
+use Rattle.rolling_chunks.proofs.Running.{same_lengths}
+use Rattle.snapshots.proofs.ChunkLengths.{sum_within, sum_push, len_is, ended_lengths, last_short, len_short}
 
 -- ---- the buffer
 
@@ -63,28 +26,28 @@ gathered_new cutter bytes capacity anew none room = record {
 }
 
 -- bytes that are taken fit behind those begun
-pub taken_short : (text front taken : List ℕ) (ends : Bool) (old new : Progress) → old ≡ progress longest text → length front ≡ old.len → Runs old taken ends new → length (front ++ taken) ≤ longest
+pub taken_short : (text front taken : List ℕ) (ends : Bool) (old new : Progress) → old ≡ progress longest text → length front ≡ old.len → Runs longest old taken ends new → length (front ++ taken) ≤ longest
 taken_short text front taken true old new at long runs =
     let before = standing_lengths longest text in
     let whole = text ++ taken in
     let last = last_short whole before (length whole - sum before) (runs.lengths text at) (omega arith) in
     omega (arith, last, long, len_is longest text old at, sum_within longest text, length-append text taken, length-append front taken)
 taken_short text front taken false old new at long runs =
-    let same = same_lengths old new taken text runs at in
+    let same = same_lengths longest old new taken text runs at in
     let whole = text ++ taken in
     omega (arith, len_short whole new (runs.follows text at), len_is longest whole new (runs.follows text at), ap sum same, long, len_is longest text old at, sum_within longest text, length-append text taken, length-append front taken)
 
-taken_long : (text front taken bytes : List ℕ) (ends : Bool) (old new : Progress) → old ≡ progress longest text → length front ≡ old.len → Runs old taken ends new → bytes ≡ front ++ taken → length (begun (gathered new bytes ends)) ≡ new.len
+taken_long : (text front taken bytes : List ℕ) (ends : Bool) (old new : Progress) → old ≡ progress longest text → length front ≡ old.len → Runs longest old taken ends new → bytes ≡ front ++ taken → length (begun (gathered new bytes ends)) ≡ new.len
 taken_long text front taken bytes true old new at long runs grown =
     let before = standing_lengths longest text in
     let whole = text ++ taken in
     omega (arith, len_is longest whole new (runs.follows text at), ap sum (runs.lengths text at), sum_push before (length whole - sum before), sum_within longest text, length-append text taken)
 taken_long text front taken bytes false old new at long runs grown =
-    let same = same_lengths old new taken text runs at in
+    let same = same_lengths longest old new taken text runs at in
     let whole = text ++ taken in
     omega (arith, len_is longest whole new (runs.follows text at), ap sum same, long, len_is longest text old at, sum_within longest text, length-append text taken, length-append front taken, ap length grown)
 
-pub gathered_taken : (front taken bytes : List ℕ) (ends : Bool) (old new : Progress) (text : List ℕ) (capacity : ℕ) → old ≡ progress longest text → length front ≡ old.len → Runs old taken ends new → bytes ≡ front ++ taken → longest ≤ capacity
+pub gathered_taken : (front taken bytes : List ℕ) (ends : Bool) (old new : Progress) (text : List ℕ) (capacity : ℕ) → old ≡ progress longest text → length front ≡ old.len → Runs longest old taken ends new → bytes ≡ front ++ taken → longest ≤ capacity
     → IsGathered (gathered new bytes ends) capacity
 gathered_taken front taken bytes ends old new text capacity at long runs grown room = record {
   text = text ++ taken;
@@ -142,11 +105,11 @@ finished old bytes k new answer same is long finish =
 -- ---- a taking
 
 pub takes : (old : Gathered) (bytes now : List ℕ) (count : ℕ) (ends : Bool) (k new : Progress) → k ≡ old.cutter → count ≤ length bytes → (ends ≡ true → 1 ≤ count) → (ends ≡ false → count ≡ length bytes) → now ≡ begun old ++ take count bytes
-    → Runs k (take count bytes) ends new → Takes old bytes count (gathered new now ends)
+    → Runs longest k (take count bytes) ends new → Takes old bytes count (gathered new now ends)
 takes old bytes now count ends k new same within some all grown runs = record {
   within = within;
   some = some;
   all = all;
   bytes_are = grown;
-  runs = subst (λ (p : Progress). Runs p (take count bytes) ends new) same runs;
+  runs = subst (λ (p : Progress). Runs longest p (take count bytes) ends new) same runs;
 }

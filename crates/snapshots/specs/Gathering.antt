@@ -1,7 +1,7 @@
 -- A chunk that is put together of the bytes of a text.
-use Rattle.std.specs.Prelude.{◌≡◌, ℕ, ◌-◌, ◌≤◌, Bool, true, false, if◌then◌else◌, List, [], ◌∷◌, ◌++◌, length, take, sum}
+use Rattle.std.specs.Prelude.{◌≡◌, ℕ, ◌≤◌, Bool, true, false, if◌then◌else◌, List, [], ◌++◌, length, take}
 use Rattle.rolling_chunks.specs.Cuts.{longest, standing_lengths, chunk_lengths}
-use Rattle.rolling_chunks.specs.Pushes.{Progress, progress}
+use Rattle.rolling_chunks.specs.Pushes.{Progress, progress, Runs, last_length}
 
 -- what the cutter knows, the bytes of the chunk, and whether it ended
 pub record Gathered : Type 0 where
@@ -26,23 +26,13 @@ pub record IsGathered (g : Gathered) (capacity : ℕ) : Type 0 where
   pub short : length g.bytes ≤ longest
   pub room : longest ≤ capacity
 
--- what follows the standing chunks of a text: the bytes behind them, where a chunk ends with them
-abbrev pub last_length : Bool → List ℕ → List ℕ → List ℕ
-last_length ends before text = if ends then (length text - sum before) ∷ [] else []
-
--- Bytes were pushed, of which none but the last ends a chunk, and that one where it is said to.
-pub record Runs (old : Progress) (bytes : List ℕ) (ends : Bool) (new : Progress) : Type 0 where
-  pub follows : (text : List ℕ) → old ≡ progress longest text → new ≡ progress longest (text ++ bytes)
-  pub lengths : (text : List ℕ) → old ≡ progress longest text
-      → standing_lengths longest (text ++ bytes) ≡ standing_lengths longest text ++ last_length ends (standing_lengths longest text) (text ++ bytes)
-
 -- so many bytes of these were taken: those up to the end of the chunk, or all
 pub record Takes (old : Gathered) (bytes : List ℕ) (count : ℕ) (new : Gathered) : Type 0 where
   pub within : count ≤ length bytes
   pub some : new.whole ≡ true → 1 ≤ count
   pub all : new.whole ≡ false → count ≡ length bytes
   pub bytes_are : new.bytes ≡ begun old ++ take count bytes
-  pub runs : Runs old.cutter (take count bytes) new.whole new.cutter
+  pub runs : Runs longest old.cutter (take count bytes) new.whole new.cutter
 
 -- the text ended: the bytes that are left over are its last chunk
 pub record Finishes (old : Gathered) (left : Bool) (new : Gathered) : Type 0 where

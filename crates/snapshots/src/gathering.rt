@@ -1,19 +1,12 @@
 //! A chunk that is put together of the bytes of a file.
-ghost use Rattle.std.specs.Prelude.{◌≡◌, ◌≤◌, true, false, length, take, IfOk};
+ghost use Rattle.std.specs.Prelude.{◌≡◌, ◌≤◌, false, length, IfOk};
 ghost use Rattle.rolling_chunks.specs.Cuts.{longest};
-ghost use Rattle.snapshots.specs.Gathering.{begun, nothing_gathered, Runs, Takes, Finishes};
+ghost use Rattle.snapshots.specs.Gathering.{begun, nothing_gathered, Takes, Finishes};
 
 use psb_bytes::{LONGEST_CHUNK, Memory};
 use rolling_chunks::Cutter;
 use std::alloc::Global;
 use std::marker::Model;
-
-/// How many bytes were pushed into a cutter, and whether the last of them ended a chunk.
-#[derive(Clone, Copy)]
-struct Run {
-    len: usize,
-    ends: bool,
-}
 
 /// The bytes of a text since its last cut, and the cutter that cuts it. Where a chunk ended with the
 /// last byte, its bytes stay until the next byte comes.
@@ -33,27 +26,6 @@ impl Model for ChunkBuffer {
     ghost view = { λ b. record { cutter = b.cutter; bytes = b.bytes.items; whole = b.whole } };
 
     ghost invariant = { λ b. IsGathered (record { cutter = b.cutter; bytes = b.bytes.items; whole = b.whole }) (vec_capacity b.bytes) };
-}
-
-/// Pushes bytes up to the first that ends a chunk, or all of them where none does.
-fn push_to_cut(cutter: &mut Cutter, bytes: &[u8]) -> Run
-    ensures within { result.len ≤ length bytes.now }
-    ensures some { result.ends ≡ true → 1 ≤ result.len }
-    ensures all { result.ends ≡ false → result.len ≡ length bytes.now }
-    ensures runs { Runs cutter.old (take result.len bytes.now) result.ends cutter.new }
-{
-    for (i, byte) in bytes.iter().enumerate() {
-        if let Some(_) = cutter.push(*byte) {
-            return Run {
-                len: i + 1,
-                ends: true,
-            };
-        }
-    }
-    Run {
-        len: bytes.len(),
-        ends: false,
-    }
 }
 
 impl ChunkBuffer {
@@ -96,7 +68,7 @@ impl ChunkBuffer {
         ensures short { length self.new.bytes ≤ longest }
     {
         self.begin();
-        let run = push_to_cut(&mut self.cutter, bytes);
+        let run = self.cutter.push_to_cut(bytes);
         // There is room for the longest chunk.
         let _ = self.bytes.extend_from_slice(&bytes[..run.len]);
         self.whole = run.ends;

@@ -17,7 +17,7 @@ fits c =
     let inside = c.self.inside in
     let is = start_is old inside.cutter inside.bytes.items inside.whole (c.self.view_is ∙ c.begin.ensures) in
     let long : length (begun old) ≡ inside.cutter.len = ap length (sym is.2) ∙ c.self.invariant.long in
-    taken_short c.self.invariant.text (begun old) (taken_of c) c.push_to_cut-run.result.ends inside.cutter c.push_to_cut-run.new.cutter c.self.invariant.fed long c.push_to_cut-run.ensures.runs
+    taken_short c.self.invariant.text (begun old) (taken_of c) c.push_to_cut-run.result.ends inside.cutter c.push_to_cut-run.new.self c.self.invariant.fed long c.push_to_cut-run.ensures.runs
 
 grown : (c : goal.After-self-1) → c.extend_from_slice.new.self.items ≡ begun c.args.self.now ++ taken_of c
 unfolding taken_of
@@ -37,7 +37,7 @@ invariant_of-self c =
     let run = c.push_to_cut-run.result in
     let is = start_is old inside.cutter inside.bytes.items inside.whole (c.self.view_is ∙ c.begin.ensures) in
     let long : length (begun old) ≡ inside.cutter.len = ap length (sym is.2) ∙ c.self.invariant.long in
-    gathered_taken (begun old) (taken_of c) c.extend_from_slice.new.self.items run.ends inside.cutter c.push_to_cut-run.new.cutter c.self.invariant.text (vec_capacity c.extend_from_slice.new.self) c.self.invariant.fed long c.push_to_cut-run.ensures.runs
+    gathered_taken (begun old) (taken_of c) c.extend_from_slice.new.self.items run.ends inside.cutter c.push_to_cut-run.new.self c.self.invariant.text (vec_capacity c.extend_from_slice.new.self) c.self.invariant.fed long c.push_to_cut-run.ensures.runs
     (grown c) (omega (arith, c.self.invariant.room, c.extend_from_slice.ensures.capacity))
 
 pub returns-clause-takes : goal.returns-clause-takes
@@ -47,7 +47,7 @@ returns-clause-takes c =
     let inside = c.self.inside in
     let run = c.push_to_cut-run.result in
     let is = start_is old inside.cutter inside.bytes.items inside.whole (c.self.view_is ∙ c.begin.ensures) in
-    takes old c.args.bytes.now c.extend_from_slice.new.self.items run.len run.ends inside.cutter c.push_to_cut-run.new.cutter is.0 c.push_to_cut-run.ensures.within c.push_to_cut-run.ensures.some c.push_to_cut-run.ensures.all (grown c) c.push_to_cut-run.ensures.runs
+    takes old c.args.bytes.now c.extend_from_slice.new.self.items run.len run.ends inside.cutter c.push_to_cut-run.new.self is.0 c.push_to_cut-run.ensures.within c.push_to_cut-run.ensures.some c.push_to_cut-run.ensures.all (grown c) c.push_to_cut-run.ensures.runs
 
 pub returns-clause-short : goal.returns-clause-short
 returns-clause-short c = omega (arith, ap length (grown c), fits c)
