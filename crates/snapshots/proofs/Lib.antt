@@ -1,4 +1,5 @@
 pub mod Tickets
+pub mod GotReads
 pub mod Members
 pub mod Skeletons
 pub mod Levels
@@ -8,6 +9,7 @@ pub mod WalkSteps
 pub mod WalkTurns
 pub mod WalkEnds
 pub mod WalkTrees
+pub mod Written
 pub mod WalkPlaces
 pub mod ChunkLengths
 pub mod Gatherings

@@ -33,11 +33,11 @@ some_part (b ∷ path) = by_cases (is_slash b)
     (λ k. ([], parts path, rw k refl))
     (λ k. let s = some_part path in (b ∷ s.0, s.1, rw (k, s.2) refl))
 
-parts_none : (name : List ℕ) → list_any is_slash name ≡ false → parts name ≡ name ∷ []
+pub parts_none : (name : List ℕ) → list_any is_slash name ≡ false → parts name ≡ name ∷ []
 parts_none [] none = refl
 parts_none (b ∷ name) none = let n = first_none b name none in rw (n.0, parts_none name n.1) refl
 
-parts_child : (path name : List ℕ) → list_any is_slash name ≡ false → parts (path ++ 47 ∷ name) ≡ parts path ++ name ∷ []
+pub parts_child : (path name : List ℕ) → list_any is_slash name ≡ false → parts (path ++ 47 ∷ name) ≡ parts path ++ name ∷ []
 parts_child [] name none = rw (parts_none name none) refl
 parts_child (b ∷ path) name none =
     let ih = parts_child path name none in
@@ -66,7 +66,7 @@ no_slash name valid =
     let n = (and_parts (is_name name) (not (list_any is_slash name)) valid).1 in
     by_cases (list_any is_slash name) (λ k. let other : false ≡ true = rw k at n in absurd (false≢true other)) (λ k. k)
 
-a_name : (name : List ℕ) → is_name name ≡ true → list_any is_slash name ≡ false → IsName name
+pub a_name : (name : List ℕ) → is_name name ≡ true → list_any is_slash name ≡ false → IsName name
 a_name name valid none = rw (valid, none) refl
 
 -- a path whose parts are names is a name, or the child of such a path
@@ -85,11 +85,11 @@ pub record IsMade (path base name : List ℕ) : Type 0 where
   pub is : path ≡ under base name
   pub lies : (base ≡ []) ⊎ (parents path ≡ parents base ++ base ∷ [])
 
-some_front : (front : List ℕ) → list_all is_name (parts front) ≡ true → front ≢ []
+pub some_front : (front : List ℕ) → list_all is_name (parts front) ≡ true → front ≢ []
 some_front [] all = λ _. false≢true all
 some_front (c ∷ front) all = λ e. absurd (cc)
 
-under_some : (base name : List ℕ) → base ≢ [] → under base name ≡ base ++ 47 ∷ name
+pub under_some : (base name : List ℕ) → base ≢ [] → under base name ≡ base ++ 47 ∷ name
 under_some [] name some = absurd (some refl)
 under_some (c ∷ base) name some = refl
 

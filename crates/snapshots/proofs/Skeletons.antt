@@ -30,7 +30,7 @@ use Rattle.snapshots.specs.WalkSteps.{In}
 use Rattle.snapshots.proofs.Members.{to_in, from_in, in_app, in_right, all_pass, same_bytes}
 use Rattle.snapshots.proofs.Tickets.{refs_fit, stand_le, part_long}
 
-in_back : {X : Type 0} (x : X) (a b : List X) → In x (a ++ x ∷ b)
+pub in_back : {X : Type 0} (x : X) (a b : List X) → In x (a ++ x ∷ b)
 in_back x a b = in_right x a (x ∷ b) (inl refl)
 
 -- ---- the order of paths
@@ -44,7 +44,7 @@ front_below [] x rest = refl
 front_below (b ∷ r) x rest =
     ap (λ (o : Ordering). is_lt (ordering_then o (slice_cmp nat_cmp r (r ++ x ∷ rest)))) (tied_itself nat_cmp_total b) ∙ front_below r x rest
 
-not_below : (a : List ℕ) → is_below a a ≡ true → ⊥
+pub not_below : (a : List ℕ) → is_below a a ≡ true → ⊥
 not_below a h = false≢true (sym (ap is_lt (tied_itself nat_list_cmp_total a)) ∙ h)
 
 -- ---- the folders that a path lies in
@@ -76,7 +76,7 @@ parent_below path r i = let l = lies_in path r i in ap (is_below r) l.1 ∙ fron
 
 -- ---- places in their order
 
-rest_ascends : (p : Place) (ps : List Place) → ascend (p ∷ ps) ≡ true → ascend ps ≡ true
+pub rest_ascends : (p : Place) (ps : List Place) → ascend (p ∷ ps) ≡ true → ascend ps ≡ true
 rest_ascends p [] h = refl
 rest_ascends p (q ∷ ps) h = (and_parts (is_below p.path q.path) (ascend (q ∷ ps)) h).1
 
@@ -84,7 +84,7 @@ behind_ascends : (ps qs : List Place) → ascend (ps ++ qs) ≡ true → ascend 
 behind_ascends [] qs h = h
 behind_ascends (p ∷ ps) qs h = behind_ascends ps qs (rest_ascends p (ps ++ qs) h)
 
-first_below : (p q : Place) (ps : List Place) → ascend (p ∷ ps) ≡ true → In q ps → is_below p.path q.path ≡ true
+pub first_below : (p q : Place) (ps : List Place) → ascend (p ∷ ps) ≡ true → In q ps → is_below p.path q.path ≡ true
 first_below p q [] h i = absurd i
 first_below p q (x ∷ ps) h (inl is) = ap (λ (y : Place). is_below p.path y.path) (sym is) ∙ (and_parts (is_below p.path x.path) (ascend (x ∷ ps)) h).0
 first_below p q (x ∷ ps) h (inr i) =

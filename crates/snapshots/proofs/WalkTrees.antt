@@ -96,7 +96,7 @@ stands_at content root path kind.Folder item s here is of read = here ∙ ap (λ
 stands_at content root path kind.File item s here is of read =
     subst (λ (i : Item). found content (child root path) ≡ Some (stored_as i)) (sym of.1) (subst (IsReadAt content root path) of.1 read)
 
-valid_names : (path : List ℕ) → is_path path ≡ true → has_names path ≡ true
+pub valid_names : (path : List ℕ) → is_path path ≡ true → has_names path ≡ true
 unfolding is_path
 valid_names path is =
     let both = and_parts (is_utf8 path) (within 1 MOST_PATH_BYTES (length path) && list_all is_name (parts path)) is in

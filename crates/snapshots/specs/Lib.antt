@@ -2,6 +2,9 @@ pub mod Meaning
 pub mod Tickets
 pub mod Trees
 pub mod Laws
+pub mod Got
+pub mod GotLaws
+pub mod Writing
 pub mod Walks
 pub mod WalkSteps
 pub mod Shapes

@@ -1,6 +1,8 @@
 //! The laws of tickets, of trees, of walks and of readers.
 ghost use Rattle.snapshots.specs.Laws.{TicketMeansItsTree, TreesAreInPlace, PlacesHaveSkeletons, TreesHaveTickets};
+ghost use Rattle.snapshots.specs.GotLaws.{ReadsTheMeaning, ReadsTheTexts};
 ghost use Rattle.snapshots.specs.Reading.{EndedReadersGaveAll, ReadersGiveFirstChunks, ReadersReadOnePieceAhead};
+ghost use Rattle.snapshots.specs.Writing.{EmptyFoldersAreBare, WritingsAreTrees, WritingsStayBelow};
 ghost use Rattle.snapshots.specs.Shapes.{WalksHavePlaces, SkeletonsAreAsLong, WalksAreInPlace, WalksFindTrees};
 
 /// A ticket means the tree that it was made of, over any bodies that have the sealed pieces of its files, of
@@ -8,6 +10,17 @@ ghost use Rattle.snapshots.specs.Shapes.{WalksHavePlaces, SkeletonsAreAsLong, Wa
 #[tactic(auto, using(crate::proofs::Tickets::ticket_means))]
 pub fn a_ticket_means_its_tree()
     ensures { TicketMeansItsTree }
+{}
+
+/// What is read of a ticket is what it means over any bodies, or two unequal texts were met that share a
+/// SHA-256: one of these bodies, and one that was used for its name.
+pub fn reads_the_meaning()
+    ensures { ReadsTheMeaning }
+{}
+
+/// So are the texts on the way: none of them is outside the grammar, or two such texts were met.
+pub fn reads_the_texts()
+    ensures { ReadsTheTexts }
 {}
 
 /// What stands below a folder, in the order of the paths, is in place: each behind the folders that it
@@ -66,4 +79,19 @@ pub fn readers_give_first_chunks()
 #[tactic(auto, using(crate::proofs::ChunkReads::read_ahead))]
 pub fn readers_read_one_piece_ahead()
     ensures { ReadersReadOnePieceAhead }
+{}
+
+/// Where each thing stands in folders, nothing stands below a folder that lists nothing.
+pub fn empty_folders_are_bare()
+    ensures { EmptyFoldersAreBare }
+{}
+
+/// What is written in place below a bare folder is the tree that stands there then.
+pub fn writings_are_trees()
+    ensures { WritingsAreTrees }
+{}
+
+/// Where none of it was put stands what stood there.
+pub fn writings_stay_below()
+    ensures { WritingsStayBelow }
 {}

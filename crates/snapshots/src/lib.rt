@@ -9,17 +9,19 @@ mod reading;
 mod sealing;
 mod unread;
 mod walking;
+mod writing;
 
 pub use laws::{
-    a_ticket_means_its_tree, ended_readers_gave_all, places_have_skeletons,
-    readers_give_first_chunks, readers_read_one_piece_ahead, skeletons_are_as_long,
-    trees_are_in_place, trees_have_tickets, walks_are_in_place, walks_find_trees,
-    walks_have_places,
+    a_ticket_means_its_tree, empty_folders_are_bare, ended_readers_gave_all, places_have_skeletons,
+    readers_give_first_chunks, readers_read_one_piece_ahead, reads_the_meaning, reads_the_texts,
+    skeletons_are_as_long, trees_are_in_place, trees_have_tickets, walks_are_in_place,
+    walks_find_trees, walks_have_places, writings_are_trees, writings_stay_below,
 };
 pub use paths::child_path;
 pub use reading::ChunkReader;
 pub use sealing::refs_of_text;
 pub use walking::{Found, WalkFault, Walked, walk};
+pub use writing::{WriteFault, add_piece, is_empty, make_place};
 
 #[cfg(test)]
 mod tests;

@@ -5,6 +5,7 @@ use std::alloc::Global;
 use std::test::Fail;
 
 mod walking;
+mod writing;
 
 // Whether the refs of a text have these lengths, names and handles.
 fn has_refs(alloc: Global, text: &[u8], rows: &[(u32, &str, &str)]) -> Result<bool, Fail> {
