@@ -19,21 +19,22 @@ use Rattle.psb_model.specs.declared.change.Change.{Change}
 use Rattle.wire_codec.specs.Frames.{datagram}
 use Rattle.wire_codec.specs.declared.frame.Frame.{Frame}
 use Rattle.psb_machine.specs.Replies.{reply_of, reply}
-use Rattle.psb_machine.specs.Machine.{Situation, Input, Datagram, Reaction as MachineReaction, react}
+use Rattle.psb_machine.specs.Machine.{Situation, Input, Datagram, Reaction as MachineReaction, react, tells_again, here}
 use Rattle.psb_machine.specs.declared.deals.Refusal.{Refusal}
 use Rattle.psb_machine.proofs.Lasts.{LastIs, last_there}
 use Rattle.psb_ledger.specs.Records.{OneChangeEach}
 use Rattle.node_core.specs.declared.node.Node.{Node}
 use Rattle.node_core.specs.declared.offer.Offer.{Offer}
+use Rattle.node_core.specs.declared.offer.Request.{Request}
 use Rattle.node_core.specs.declared.outcome.Letter.{Letter}
 use Rattle.node_core.specs.declared.reaction.Reaction.{Reaction}
 use Rattle.node_core.specs.Again.{IsAnswerOf}
 use Rattle.node_core.specs.Letters.{letters_of}
 use Rattle.node_core.specs.Peers.{PeersView}
 use Rattle.node_core.specs.Making.{CanMake, why_refused, clashes, made_of, made_in}
-use Rattle.node_core.specs.Reacting.{MakesChange, TellsAgain, Makes, MakesNone, IsToldAgain, Reacts, ReactsSo, MayCome}
+use Rattle.node_core.specs.Reacting.{MakesChange, TellsAgain, GivesBytes, Makes, MakesNone, IsToldAgain, IsGiven, Reacts, ReactsSo, MayCome}
 use Rattle.node_core.specs.Stored.{Knows, Stored}
-use Rattle.node_core.specs.Unread.{IsUnread}
+use Rattle.node_core.specs.Unread.{IsUnread, NeedsRecord}
 use Rattle.node_core.proofs.Again.{answer_is}
 use Rattle.node_core.proofs.Less.{state_less, meets_less}
 
@@ -113,28 +114,55 @@ refused_unheld node n o refusal k free is =
     ∙ ap (λ (s : State). why_refused s o false) k.ledger
     ∙ ap (λ (b : Bool). why_refused (state n.history) o b) (sym (none_clash n.history (deal_in o.asked) free))
 
--- ---- a deal that comes again
+-- ---- what was made before is told of again
 
--- for it a record is read
-pub never_unread : {P : Type 0} (n : Situation) (i : Input) (x : List ℕ) (o : Offer) (change : ℕ) → i ≡ Datagram x → TellsAgain n x o change → IsUnread n i → P
-never_unread n i x o change is t u = absurd (t.read.not_unread (subst (λ (j : Input). IsUnread n j) is u))
-
-pub reacts_again : (r : Reaction) (n : Situation) (i : Input) (x : List ℕ) (o : Offer) (change : ℕ) → i ≡ Datagram x → TellsAgain n x o change → MakesNone r → IsToldAgain n o change (letters_of r.out) → Reacts r (react n i)
-reacts_again r n i x o change is t none told =
-    let here = ap (λ (j : Input). react n j) is ∙ t.reaction in
+-- it is a reaction that gives these letters and makes no change
+reacts_told : (r : Reaction) (n : Situation) (i : Input) (x : List ℕ) (o : Option (ℕ × List ℕ)) → i ≡ Datagram x → react n (Datagram x) ≡ tells_again o n.volatile → MakesNone r → letters_of r.out ≡ option_to_list o → Reacts r (react n i)
+reacts_told r n i x o is tells none told =
+    let here = ap (λ (j : Input). react n j) is ∙ tells in
     record {
       change = none.change ∙ sym (ap (λ (q : MachineReaction). q.grown) here);
-      letters = told t.last t.some t.settings t.present ∙ sym (ap (λ (q : MachineReaction). q.letters) here);
+      letters = told ∙ sym (ap (λ (q : MachineReaction). q.letters) here);
       dropped = none.dropped ∙ sym (ap (λ (q : MachineReaction). q.dropped) here);
     }
 
-pub reacts_again_so : (r : Reaction) (n : Situation) (i : Input) (x : List ℕ) (o : Offer) (change : ℕ) → i ≡ Datagram x → TellsAgain n x o change → MakesNone r → ReactsSo r n i
-reacts_again_so r n i x o change is t none =
-    let here = ap (λ (j : Input). react n j) is ∙ t.reaction in
+reacts_told_so : (r : Reaction) (n : Situation) (i : Input) (x : List ℕ) (o : Option (ℕ × List ℕ)) → i ≡ Datagram x → react n (Datagram x) ≡ tells_again o n.volatile → MakesNone r → ReactsSo r n i
+reacts_told_so r n i x o is tells none =
+    let here = ap (λ (j : Input). react n j) is ∙ tells in
     record {
       change = λ certain. ap (λ (f : Option Change). is_some f) none.change ∙ sym (ap (λ (q : MachineReaction). is_some q.grown) here);
       dropped = none.dropped ∙ sym (ap (λ (q : MachineReaction). q.dropped) here);
     }
+
+-- a record is read for it
+needed : {P : Type 0} (n : Situation) (i : Input) (x : List ℕ) → i ≡ Datagram x → NeedsRecord n (Datagram x) → IsUnread n i → P
+needed n i x is read u = absurd (read.not_unread (subst (λ (j : Input). IsUnread n j) is u))
+
+-- ---- a deal that comes again
+
+pub never_unread : {P : Type 0} (n : Situation) (i : Input) (x : List ℕ) (o : Offer) (change : ℕ) → i ≡ Datagram x → TellsAgain n x o change → IsUnread n i → P
+never_unread n i x o change is t u = needed n i x is t.read u
+
+pub reacts_again : (r : Reaction) (n : Situation) (i : Input) (x : List ℕ) (o : Offer) (change : ℕ) → i ≡ Datagram x → TellsAgain n x o change → MakesNone r → IsToldAgain n o change (letters_of r.out) → Reacts r (react n i)
+reacts_again r n i x o change is t none told =
+    reacts_told r n i x (option_map (reply t.settings o.key o.peer o.number) (slice_get n.history change)) is t.reaction none (told t.last t.some t.settings t.present)
+
+pub reacts_again_so : (r : Reaction) (n : Situation) (i : Input) (x : List ℕ) (o : Offer) (change : ℕ) → i ≡ Datagram x → TellsAgain n x o change → MakesNone r → ReactsSo r n i
+reacts_again_so r n i x o change is t none = reacts_told_so r n i x (option_map (reply t.settings o.key o.peer o.number) (slice_get n.history change)) is t.reaction none
+
+-- ---- a Get of a chunk that its peer has here
+
+pub never_unread_get : {P : Type 0} (n : Situation) (i : Input) (x : List ℕ) (q : Request) → i ≡ Datagram x → GivesBytes n x q → IsUnread n i → P
+never_unread_get n i x q is t u = needed n i x is t.read u
+
+pub reacts_given : (r : Reaction) (n : Situation) (i : Input) (x : List ℕ) (q : Request) → i ≡ Datagram x → GivesBytes n x q → MakesNone r → IsGiven n q (letters_of r.out) → Reacts r (react n i)
+reacts_given r n i x q is t none given =
+    reacts_told r n i x (option_map (here t.settings q.key q.peer q.number q.name) (last_brought q.name n.history)) is t.reaction none (given t.has t.settings t.present)
+
+pub reacts_given_so : (r : Reaction) (n : Situation) (i : Input) (x : List ℕ) (q : Request) → i ≡ Datagram x → GivesBytes n x q → MakesNone r → ReactsSo r n i
+reacts_given_so r n i x q is t none = reacts_told_so r n i x (option_map (here t.settings q.key q.peer q.number q.name) (last_brought q.name n.history)) is t.reaction none
+
+-- ---- the answer to a deal that comes again
 
 -- what was made again answers the last deal
 pub told_again : {L : Type 0} (holds : L → List Entry → List ℕ → Type 0) (one : OneChangeEach) (node : Node L) (n : Situation) (v : View) (offer : Offer) (change : ℕ) (o : Option Frame) (letters : List (ℕ × List ℕ)) → Knows node n → Stored holds node n.history v

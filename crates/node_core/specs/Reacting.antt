@@ -1,22 +1,24 @@
 -- What a node makes of an input, and what making a change does to it.
-use Rattle.std.specs.Prelude.{◌≡◌, ◌≤◌, ◌<◌, ℕ, Bool, false, ◌==◌, List, [], ◌∷◌, ◌++◌, length, Some, None, Option, slice_get, option_map, option_to_list, is_some}
+use Rattle.std.specs.Prelude.{◌≡◌, ◌≤◌, ◌<◌, ℕ, Bool, true, false, ◌==◌, List, [], ◌∷◌, ◌++◌, length, Some, None, Option, slice_get, option_map, option_to_list, is_some}
 use Rattle.psb_settings.specs.declared.settings.Settings.{Settings}
 use Rattle.psb_model.specs.State.{State, row}
 use Rattle.psb_model.specs.History.{state}
-use Rattle.psb_model.specs.Needed.{IsValid}
+use Rattle.psb_model.specs.Needed.{last_brought, IsValid}
 use Rattle.psb_model.specs.declared.change.Change.{Change}
 use Rattle.wire_codec.specs.Frames.{datagram}
 use Rattle.psb_machine.specs.Deals.{is_compared}
 use Rattle.psb_machine.specs.Stores.{IsShort}
 use Rattle.psb_machine.specs.Replies.{reply_of, reply}
-use Rattle.psb_machine.specs.Machine.{Situation, Input, Datagram, Reaction as MachineReaction, react, settled, quiet, drops, makes, tells_again}
+use Rattle.psb_machine.specs.Machine.{Situation, Input, Datagram, Reaction as MachineReaction, react, settled, quiet, drops, makes, tells_again, here}
+use Rattle.psb_machine.specs.Gets.{has_chunk}
 use Rattle.node_core.specs.Letters.{letters_of}
 use Rattle.node_core.specs.Offers.{deal_in}
 use Rattle.node_core.specs.Making.{CanMake, MayMake, made_of, made_in, why_refused}
 use Rattle.node_core.specs.Unread.{IsUnread, IsCertain, NeedsRecord}
 use Rattle.node_core.specs.declared.decision.Decision.{Decision}
-use Rattle.node_core.specs.declared.decision.Decision.TheVariants.{Drop, Pass, Make, Again}
+use Rattle.node_core.specs.declared.decision.Decision.TheVariants.{Drop, Pass, Make, Again, Give}
 use Rattle.node_core.specs.declared.offer.Offer.{Offer}
+use Rattle.node_core.specs.declared.offer.Request.{Request}
 use Rattle.node_core.specs.declared.reaction.Reaction.{Reaction}
 use Rattle.node_core.specs.declared.node.Node.{Node}
 
@@ -42,12 +44,22 @@ pub record TellsAgain (n : Situation) (x : List ℕ) (o : Offer) (change : ℕ) 
   -- that change is read from its record
   pub read : NeedsRecord n (Datagram x)
 
+-- the machine gives the bytes under the name of this Get, which its peer has here
+pub record GivesBytes (n : Situation) (x : List ℕ) (r : Request) : Type 0 where
+  pub settings : Settings
+  pub present : (state n.history).settings ≡ Some settings
+  pub reaction : react n (Datagram x) ≡ tells_again (option_map (here settings r.key r.peer r.number r.name) (last_brought r.name n.history)) n.volatile
+  pub has : has_chunk (state n.history) r.peer r.name ≡ true
+  -- they are read from their record
+  pub read : NeedsRecord n (Datagram x)
+
 -- what the machine does with the datagram is decided
 abbrev pub Decides : Decision → Situation → List ℕ → Type 0
 Decides (Drop why) n x = react n (Datagram x) ≡ drops why n.volatile
 Decides Pass n x = react n (Datagram x) ≡ quiet n.volatile
 Decides (Make o) n x = MakesChange n x o
 Decides (Again o change) n x = TellsAgain n x o change
+Decides (Give r) n x = GivesBytes n x r
 
 -- what was decided can be done: the change may be made, or was made, and can be told of
 abbrev pub CanDo : Decision → State → Type 0
@@ -55,6 +67,7 @@ CanDo (Drop why) s = Unit {0}
 CanDo Pass s = Unit {0}
 CanDo (Make o) s = CanMake s o × IsShort (deal_in o.asked)
 CanDo (Again o change) s = change < s.changes
+CanDo (Give r) s = Unit {0}
 
 -- ---- what is made of it
 
@@ -74,6 +87,12 @@ IsToldAgain n o change letters =
     (row (state n.history) o.peer).last.change ≡ change → ((row (state n.history) o.peer).last.number == 0) ≡ false
     → (settings : Settings) → (state n.history).settings ≡ Some settings
     → letters ≡ option_to_list (option_map (reply settings o.key o.peer o.number) (slice_get n.history change))
+
+-- where the peer of a Get has the chunk here, the letters give its bytes
+abbrev pub IsGiven : Situation → Request → List (ℕ × List ℕ) → Type 0
+IsGiven n r letters =
+    has_chunk (state n.history) r.peer r.name ≡ true → (settings : Settings) → (state n.history).settings ≡ Some settings
+    → letters ≡ option_to_list (option_map (here settings r.key r.peer r.number r.name) (last_brought r.name n.history))
 
 -- no change is to be made
 pub record MakesNone (r : Reaction) : Type 0 where

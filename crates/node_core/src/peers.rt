@@ -103,6 +103,13 @@ impl Peers {
         &self.rows.as_slice()[j]
     }
 
+    /// The peers, in the order of the settings.
+    pub(crate) fn rows(&self) -> &[PeerRow]
+        ensures { result.now ≡ self.now.rows }
+    {
+        self.rows.as_slice()
+    }
+
     /// The keys that the node shares with its peers.
     pub fn keys(&self) -> &Keys
         ensures { result.now ≡ self.now.keys }

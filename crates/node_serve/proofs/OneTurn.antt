@@ -22,9 +22,9 @@ use Rattle.node_core.specs.Reacting.{IsSame}
 use Rattle.node_core.proofs.Committing.{same_knows, stored_room}
 use Rattle.node_core.proofs.Reopened.{stored_at, stored_reopens}
 use Rattle.node_serve.specs.Sends.{AreSent, Sends}
-use Rattle.node_serve.specs.Hears.{Hears, steps_of, clock_by, clock_of, heard_of, of_turn, of_turns, End, Whole, Cut, Stopped, Unbegun, AnswersAs, EndsAs, is_fed}
+use Rattle.node_serve.specs.Hears.{Hears, steps_of, clock_by, clock_of, heard_of, of_turn, of_turns, End, Whole, Cut, Stopped, Unbegun, AnswersAs, CameIn, EndsAs, is_fed}
 use Rattle.node_serve.specs.Turns.{Listened, OnlySends, IsEarly, serve_fault_of, fault_end}
-use Rattle.node_serve.specs.Spans.{IsReady, IsPrefixSoon, Tally, no_tally, tally_sum, counts_sum, Fed, Received, RanTurns}
+use Rattle.node_serve.specs.Spans.{IsReady, IsPrefixSoon, Tally, no_tally, tally_sum, counts_sum, Fed, Received, MadeTurn}
 use Rattle.node_serve.proofs.Tries.{rests_tells, grows_none, told_none, told_as, told_from, sent_none, lost_none}
 use Rattle.node_serve.proofs.Prefixes.{whole, first_image, next_image, whole_has_all, either_has_all}
 use Rattle.node_serve.proofs.Runs.{steps_of-append, hears_then, fed_none, fed_then, fed_as, uncounted}
@@ -53,15 +53,15 @@ received v0 v1 a listens kept heard =
     }
 
 -- the letters of an input, as what is told
-sent_of-letters : (l : List (ℕ × List ℕ)) → sent_of (map Send l) ≡ l
+pub sent_of-letters : (l : List (ℕ × List ℕ)) → sent_of (map Send l) ≡ l
 sent_of-letters [] = refl
 sent_of-letters (x ∷ l) = ap (λ (m : List (ℕ × List ℕ)). x ∷ m) (sent_of-letters l)
 
-said_of-letters : (l : List (ℕ × List ℕ)) → said_of (map Send l) ≡ []
+pub said_of-letters : (l : List (ℕ × List ℕ)) → said_of (map Send l) ≡ []
 said_of-letters [] = refl
 said_of-letters (x ∷ l) = said_of-letters l
 
-many_letters : (l : List (ℕ × List ℕ)) → length (map Send l) ≡ length l
+pub many_letters : (l : List (ℕ × List ℕ)) → length (map Send l) ≡ length l
 many_letters [] = refl
 many_letters (x ∷ l) = omega (arith, many_letters l)
 
@@ -103,17 +103,23 @@ IsFull Cut = ⊥
 IsFull Stopped = Unit {0}
 IsFull Unbegun = ⊥
 
-early_ends : (e : End) (a : Heard) → IsEarly e → AnswersAs e a → EndsAs e 0 1 (a ∷ [])
-early_ends Whole a early is = absurd early
-early_ends Cut a early is = (omega arith, ap (λ (b : Heard). b ∷ []) is)
-early_ends Stopped a early is = (omega arith, inl (is.0, ap (λ (b : Heard). b ∷ []) is.1))
-early_ends Unbegun a early is = absurd is
+early_ends : (e : End) (came : Option (List ℕ)) (a : Heard) → IsEarly e → AnswersAs e came a → EndsAs e 0 1 (a ∷ [])
+early_ends Whole came a early is = absurd early
+early_ends Cut came a early is = (omega arith, ap (λ (b : Heard). b ∷ []) is)
+early_ends Stopped came a early is = (omega arith, inl (is.0, ap (λ (b : Heard). b ∷ []) is.1))
+early_ends Unbegun came a early is = absurd is
 
-early_clock : (e : End) (clock : ℕ) (a : Heard) → IsEarly e → AnswersAs e a → clock_by clock a ≡ clock
-early_clock Whole clock a early is = absurd early
-early_clock Cut clock a early is = ap (clock_by clock) is
-early_clock Stopped clock a early is = ap (clock_by clock) is.1
-early_clock Unbegun clock a early is = absurd is
+early_clock : (e : End) (clock : ℕ) (came : Option (List ℕ)) (a : Heard) → IsEarly e → AnswersAs e came a → clock_by clock a ≡ clock
+early_clock Whole clock came a early is = absurd early
+early_clock Cut clock came a early is = ap (clock_by clock) is
+early_clock Stopped clock came a early is = ap (clock_by clock) is.1
+early_clock Unbegun clock came a early is = absurd is
+
+early_came : (e : End) (turns : List Turn) (came : Option (List ℕ)) → IsEarly e → CameIn e turns came
+early_came Whole turns came early = absurd early
+early_came Cut turns came early = tt
+early_came Stopped turns came early = tt
+early_came Unbegun turns came early = tt
 
 came_clock : (clock : ℕ) (came : Option (List ℕ)) → clock_by clock (heard_of came) ≡ clock
 came_clock clock None = refl
@@ -295,16 +301,16 @@ module _ {L : Type 0} (holds : L → List Entry → List ℕ → Type 0) (stands
   }
 
   -- the link answered that there is no frame, and claims were walked
-  pub idle : (node node' : Node L) (v0 v1 : View) → IsSame node node' → Listened v0 v1 [] Nothing → Received holds stands broken node node' v0 v1 (Some no_tally) Whole
+  pub idle : (node node' : Node L) (v0 v1 : View) → IsSame node node' → Listened v0 v1 [] Nothing → Received holds stands broken node node' v0 v1 (Some no_tally) Whole None
   idle node node' v0 v1 same l = record {
     answer = Nothing;
-    ended = (None, refl);
+    ended = refl;
     hears = l.hears;
     fed = λ tells n k s peers clock. fed_walked node node' v0 v1 n [] (Some no_tally) true same (listened node n v0 v1 [] Nothing k l tells s);
   }
 
-  pub cut : (node : Node L) (v0 v1 : View) → Listened v0 v1 [] Fault → Received holds stands broken node node v0 v1 None Cut
-  cut node v0 v1 l = record {
+  pub cut : (node : Node L) (v0 v1 : View) (told : Option (List ℕ)) → Listened v0 v1 [] Fault → Received holds stands broken node node v0 v1 None Cut told
+  cut node v0 v1 told l = record {
     answer = Fault;
     ended = refl;
     hears = l.hears;
@@ -322,25 +328,25 @@ module _ {L : Type 0} (holds : L → List Entry → List ℕ → Type 0) (stands
       subst (λ (u : Option Tally). Fed holds stands broken node node' v0 v2 n (Absorb (Datagram x) ∷ []) u ok) (counts_zero t)
       (fed_then holds stands broken law node node node' v0 v1 v2 n [] (Absorb (Datagram x) ∷ []) (Some no_tally) t ok f g)
 
-  pub received_fed : (node node' : Node L) (v0 v1 v2 : View) (x : List ℕ) (i : Input) (t : Tally) → i ≡ Datagram x → (broken node.log ≡ false) → Listened v0 v1 [] (Frame x) → OnlySends v1 v2 → (Tells_bytes v2 → Tells_bytes v1)
+  pub received_fed : (node node' : Node L) (v0 v1 v2 : View) (x : List ℕ) (told : Option (List ℕ)) (i : Input) (t : Tally) → Some x ≡ told → i ≡ Datagram x → (broken node.log ≡ false) → Listened v0 v1 [] (Frame x) → OnlySends v1 v2 → (Tells_bytes v2 → Tells_bytes v1)
       → (Tells_bytes v2 → (n : Situation) → Knows node n → Stored holds node n.history v1 → Fed holds stands broken node node' v1 v2 n (Absorb i ∷ []) (Some t) true)
-      → Received holds stands broken node node' v0 v2 (Some t) Whole
-  received_fed node node' v0 v1 v2 x i t is sound l only mid run = record {
+      → Received holds stands broken node node' v0 v2 (Some t) Whole told
+  received_fed node node' v0 v1 v2 x told i t tells is sound l only mid run = record {
     answer = Frame x;
-    ended = (Some x, refl);
+    ended = ap heard_of tells;
     hears = hears_then v0 v1 v2 [] [] (Frame x ∷ []) [] l.hears (sends_hears v1 v2 only);
     fed = came node node' v0 v1 v2 x i (Some t) true is sound l mid run;
   }
 
-  pub received_stopped : (node node' : Node L) (v0 v1 v2 : View) (x : List ℕ) (i : Input) → i ≡ Datagram x → (broken node.log ≡ false) → Listened v0 v1 [] (Frame x) → OnlySends v1 v2 → (Tells_bytes v2 → Tells_bytes v1)
+  pub received_stopped : (node node' : Node L) (v0 v1 v2 : View) (x : List ℕ) (told : Option (List ℕ)) (i : Input) (e : End) → e ≡ Stopped → i ≡ Datagram x → (broken node.log ≡ false) → Listened v0 v1 [] (Frame x) → OnlySends v1 v2 → (Tells_bytes v2 → Tells_bytes v1)
       → (Tells_bytes v2 → (n : Situation) → Knows node n → Stored holds node n.history v1 → Fed holds stands broken node node' v1 v2 n (Absorb i ∷ []) None false)
-      → Received holds stands broken node node' v0 v2 None Stopped
-  received_stopped node node' v0 v1 v2 x i is sound l only mid run = record {
+      → Received holds stands broken node node' v0 v2 None e told
+  received_stopped node node' v0 v1 v2 x told i e stops is sound l only mid run = subst (λ (f : End). Received holds stands broken node node' v0 v2 None f told) (sym stops) (record {
     answer = Frame x;
     ended = (x, refl);
     hears = hears_then v0 v1 v2 [] [] (Frame x ∷ []) [] l.hears (sends_hears v1 v2 only);
     fed = came node node' v0 v1 v2 x i None false is sound l mid run;
-  }
+  })
 
   -- ---- ticks
 
@@ -356,38 +362,41 @@ module _ {L : Type 0} (holds : L → List Entry → List ℕ → Type 0) (stands
   -- ---- a whole turn
 
   -- it ended in its first part
-  pub turn_early : (peers : List ℕ) (clock : ℕ) (node node' : Node L) (v0 v1 : View) (t : Option Tally) (e : End) → IsEarly e → Received holds stands broken node node' v0 v1 t e → RanTurns holds stands broken peers clock clock node node' v0 v1 1 t e
-  turn_early peers clock node node' v0 v1 t e early r = record {
-    full = [];
-    last = r.answer ∷ [];
-    ended = early_ends e r.answer early r.ended;
-    hears = r.hears;
-    clock_is = sym (early_clock e clock r.answer early r.ended);
-    fed = λ tells n k s. r.fed tells n k s peers clock;
+  pub turn_early : (peers : List ℕ) (clock : ℕ) (node node' : Node L) (v0 v1 : View) (t : Option Tally) (e : End) (told : Option (List ℕ)) → IsEarly e → Received holds stands broken node node' v0 v1 t e told → MadeTurn holds stands broken peers clock clock node node' v0 v1 t e told
+  turn_early peers clock node node' v0 v1 t e told early r = record {
+    ran = record {
+      full = [];
+      last = r.answer ∷ [];
+      ended = early_ends e told r.answer early r.ended;
+      hears = r.hears;
+      clock_is = sym (early_clock e clock told r.answer early r.ended);
+      fed = λ tells n k s. r.fed tells n k s peers clock;
+    };
+    came_in = early_came e [] told early;
   }
 
   -- the answers of a whole turn, as one that was made or as the last
   turn_as : (peers : List ℕ) (clock clock' : ℕ) (node node2 : Node L) (v0 v3 : View) (turn : Turn) (t : Option Tally) (e : End) → IsFull e → Hears v0 v3 [] (of_turn turn) → clock' ≡ clock_of clock (of_turn turn)
       → (Tells_bytes v3 → (n : Situation) → Knows node n → Stored holds node n.history v0 → Fed holds stands broken node node2 v0 v3 n (steps_of peers clock (of_turn turn)) t (is_fed e))
-      → RanTurns holds stands broken peers clock clock' node node2 v0 v3 1 t e
-  turn_as peers clock clock' node node2 v0 v3 turn t Whole is_full hears clocked run = record { full = turn ∷ []; last = []; ended = (refl, refl); hears = hears; clock_is = clocked; fed = run }
-  turn_as peers clock clock' node node2 v0 v3 turn t Stopped is_full hears clocked run = record { full = []; last = of_turn turn; ended = (omega arith, inr (turn, refl)); hears = hears; clock_is = clocked; fed = run }
+      → MadeTurn holds stands broken peers clock clock' node node2 v0 v3 t e turn.came
+  turn_as peers clock clock' node node2 v0 v3 turn t Whole is_full hears clocked run = record { ran = record { full = turn ∷ []; last = []; ended = (refl, refl); hears = hears; clock_is = clocked; fed = run }; came_in = refl }
+  turn_as peers clock clock' node node2 v0 v3 turn t Stopped is_full hears clocked run = record { ran = record { full = []; last = of_turn turn; ended = (omega arith, inr (turn, refl)); hears = hears; clock_is = clocked; fed = run }; came_in = tt }
   turn_as peers clock clock' node node2 v0 v3 turn t Cut is_full hears clocked run = absurd is_full
   turn_as peers clock clock' node node2 v0 v3 turn t Unbegun is_full hears clocked run = absurd is_full
 
   -- the clock was asked, and the ticks that this makes were fed
-  pub turn_clocked : (peers : List ℕ) (clock clock' : ℕ) (node node1 node2 : Node L) (v0 v1 v2 v3 : View) (time : ℕ) (t u : Option Tally) (e : End) → IsFull e → broken node1.log ≡ false → clock' ≡ clock_after clock time
-      → Received holds stands broken node node1 v0 v1 t Whole → Listened v1 v2 [] (Clock time) → OnlySends v2 v3 → (Tells_bytes v3 → Tells_bytes v2)
+  pub turn_clocked : (peers : List ℕ) (clock clock' : ℕ) (node node1 node2 : Node L) (v0 v1 v2 v3 : View) (time : ℕ) (t u : Option Tally) (e : End) (told : Option (List ℕ)) → IsFull e → broken node1.log ≡ false → clock' ≡ clock_after clock time
+      → Received holds stands broken node node1 v0 v1 t Whole told → Listened v1 v2 [] (Clock time) → OnlySends v2 v3 → (Tells_bytes v3 → Tells_bytes v2)
       → (Tells_bytes v3 → (n : Situation) → Knows node1 n → Stored holds node1 n.history v2 → Fed holds stands broken node1 node2 v2 v3 n (clock_steps peers clock time) u (is_fed e))
-      → RanTurns holds stands broken peers clock clock' node node2 v0 v3 1 (counts_sum t u) e
-  turn_clocked peers clock clock' node node1 node2 v0 v1 v2 v3 time t u e is_full sound now r l only mid run =
-      let turn : Turn = record { came = r.ended.0; time = time } in
-      let all : r.answer ∷ Clock time ∷ [] ≡ of_turn turn = ap (λ (a : Heard). a ∷ Clock time ∷ []) r.ended.1 in
+      → MadeTurn holds stands broken peers clock clock' node node2 v0 v3 (counts_sum t u) e told
+  turn_clocked peers clock clock' node node1 node2 v0 v1 v2 v3 time t u e told is_full sound now r l only mid run =
+      let turn : Turn = record { came = told; time = time } in
+      let all : r.answer ∷ Clock time ∷ [] ≡ of_turn turn = ap (λ (a : Heard). a ∷ Clock time ∷ []) r.ended in
       let hears : Hears v0 v3 [] (of_turn turn) = subst (λ (a : List Heard). Hears v0 v3 [] a) all
       (hears_then v0 v1 v3 [] [] (r.answer ∷ []) (Clock time ∷ []) r.hears (hears_then v1 v2 v3 [] [] (Clock time ∷ []) [] l.hears (sends_hears v2 v3 only))) in
-      let clocked : clock' ≡ clock_of clock (of_turn turn) = now ∙ ap (λ (c : ℕ). clock_after c time) (sym (came_clock clock r.ended.0)) in
+      let clocked : clock' ≡ clock_of clock (of_turn turn) = now ∙ ap (λ (c : ℕ). clock_after c time) (sym (came_clock clock told)) in
       let steps : steps_of peers clock (r.answer ∷ []) ++ clock_steps peers clock time ≡ steps_of peers clock (of_turn turn) =
-      ap (λ (a : Heard). steps_of peers clock (a ∷ []) ++ clock_steps peers clock time) r.ended.1 ∙ turn_is peers clock r.ended.0 time in
+      ap (λ (a : Heard). steps_of peers clock (a ∷ []) ++ clock_steps peers clock time) r.ended ∙ turn_is peers clock told time in
       turn_as peers clock clock' node node2 v0 v3 turn (counts_sum t u) e is_full hears clocked
       (λ tells n k s.
       let m2 = mid tells in
@@ -404,26 +413,26 @@ module _ {L : Type 0} (holds : L → List Entry → List ℕ → Type 0) (stands
       (fed_then holds stands broken law node node1 node2 v0 v1 v3 n (steps_of peers clock (r.answer ∷ [])) (clock_steps peers clock time) t u (is_fed e) f g))
 
   -- the clock is not above the call's
-  pub turn_still : (peers : List ℕ) (clock : ℕ) (node node1 : Node L) (v0 v1 v2 : View) (time : ℕ) (t : Tally) → broken node1.log ≡ false → time ≤ clock
-      → Received holds stands broken node node1 v0 v1 (Some t) Whole → Listened v1 v2 [] (Clock time) → RanTurns holds stands broken peers clock clock node node1 v0 v2 1 (Some t) Whole
-  turn_still peers clock node node1 v0 v1 v2 time t sound le r l =
+  pub turn_still : (peers : List ℕ) (clock : ℕ) (node node1 : Node L) (v0 v1 v2 : View) (time : ℕ) (t : Tally) (told : Option (List ℕ)) → broken node1.log ≡ false → time ≤ clock
+      → Received holds stands broken node node1 v0 v1 (Some t) Whole told → Listened v1 v2 [] (Clock time) → MadeTurn holds stands broken peers clock clock node node1 v0 v2 (Some t) Whole told
+  turn_still peers clock node node1 v0 v1 v2 time t told sound le r l =
       let no : nat_lt clock time ≡ false = not_later clock time le in
       let none : [] ≡ clock_steps peers clock time = ap (λ (b : Bool). if b then ticks peers else []) (sym no) in
       let same : clock ≡ clock_after clock time = ap (λ (b : Bool). if b then time else clock) (sym no) in
-      subst (λ (u : Option Tally). RanTurns holds stands broken peers clock clock node node1 v0 v2 1 u Whole) (counts_none t)
-      (turn_clocked peers clock clock node node1 node1 v0 v1 v2 v2 time (Some t) (Some no_tally) Whole tt sound same r l refl (λ tells. tells)
+      subst (λ (u : Option Tally). MadeTurn holds stands broken peers clock clock node node1 v0 v2 u Whole told) (counts_none t)
+      (turn_clocked peers clock clock node node1 node1 v0 v1 v2 v2 time (Some t) (Some no_tally) Whole told tt sound same r l refl (λ tells. tells)
       (λ tells n k s. fed_as holds stands broken law node1 node1 v2 v2 n [] (clock_steps peers clock time) (Some no_tally) true none (fed_none holds stands broken law node1 n v2 k s)))
 
   -- it is, and the peers' ticks were fed
-  pub turn_ticked : (peers : List ℕ) (clock : ℕ) (node node1 node2 : Node L) (v0 v1 v2 v3 : View) (time : ℕ) (t u : Option Tally) (e : End) → IsFull e → broken node1.log ≡ false → clock < time
-      → Received holds stands broken node node1 v0 v1 t Whole → Listened v1 v2 [] (Clock time) → OnlySends v2 v3 → (Tells_bytes v3 → Tells_bytes v2)
+  pub turn_ticked : (peers : List ℕ) (clock : ℕ) (node node1 node2 : Node L) (v0 v1 v2 v3 : View) (time : ℕ) (t u : Option Tally) (e : End) (told : Option (List ℕ)) → IsFull e → broken node1.log ≡ false → clock < time
+      → Received holds stands broken node node1 v0 v1 t Whole told → Listened v1 v2 [] (Clock time) → OnlySends v2 v3 → (Tells_bytes v3 → Tells_bytes v2)
       → (Tells_bytes v3 → (n : Situation) → Knows node1 n → Stored holds node1 n.history v2 → Fed holds stands broken node1 node2 v2 v3 n (ticks peers) u (is_fed e))
-      → RanTurns holds stands broken peers clock time node node2 v0 v3 1 (counts_sum t u) e
-  turn_ticked peers clock node node1 node2 v0 v1 v2 v3 time t u e is_full sound lt r l only mid run =
+      → MadeTurn holds stands broken peers clock time node node2 v0 v3 (counts_sum t u) e told
+  turn_ticked peers clock node node1 node2 v0 v1 v2 v3 time t u e told is_full sound lt r l only mid run =
       let yes : nat_lt clock time ≡ true = lt-ltb clock time lt in
       let all : ticks peers ≡ clock_steps peers clock time = ap (λ (b : Bool). if b then ticks peers else []) (sym yes) in
       let set : time ≡ clock_after clock time = ap (λ (b : Bool). if b then time else clock) (sym yes) in
-      turn_clocked peers clock time node node1 node2 v0 v1 v2 v3 time t u e is_full sound set r l only mid
+      turn_clocked peers clock time node node1 node2 v0 v1 v2 v3 time t u e told is_full sound set r l only mid
       (λ tells n k s. fed_as holds stands broken law node1 node2 v2 v3 n (ticks peers) (clock_steps peers clock time) u (is_fed e) all (run tells n k s))
 
 -- what a call that changes nothing on the disk leaves ready

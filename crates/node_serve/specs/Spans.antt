@@ -11,7 +11,7 @@ use Rattle.node_core.specs.declared.node.Node.{Node}
 use Rattle.node_core.specs.Stands.{ReopensTo}
 use Rattle.node_core.specs.Stored.{Knows, Stored}
 use Rattle.node_serve.specs.Sends.{ToldMore, AreSent, LostFor}
-use Rattle.node_serve.specs.Hears.{steps_of, clock_of, of_turns, Hears, End, AnswersAs, EndsAs, is_fed}
+use Rattle.node_serve.specs.Hears.{steps_of, clock_of, of_turns, Hears, End, AnswersAs, CameIn, EndsAs, is_fed}
 
 -- The image reopens to a prefix of the history after all steps, the one that failed among them. The
 -- prefix has the first history, and each change that was told of: those of inputs that had been
@@ -95,10 +95,11 @@ pub record Fed {L : Type 0} (holds : L → List Entry → List ℕ → Type 0) (
   pub said : Grows before.outside.said now.outside.said (flat_map (λ line. line) (said_in n done))
   pub counted : Counted counts n done lost
 
--- The first part of a turn: one answer of `recv`, and where it is a frame, that is fed.
-pub record Received {L : Type 0} (holds : L → List Entry → List ℕ → Type 0) (stands : List Entry → List ℕ → Type 0) (broken : L → Bool) (old new : Node L) (before now : View) (counts : Option Tally) (end : End) : Type 0 where
+-- The first part of a turn: one answer of `recv`, and where it is a frame, that is fed. Where it was made,
+-- this came.
+pub record Received {L : Type 0} (holds : L → List Entry → List ℕ → Type 0) (stands : List Entry → List ℕ → Type 0) (broken : L → Bool) (old new : Node L) (before now : View) (counts : Option Tally) (end : End) (came : Option (List ℕ)) : Type 0 where
   pub answer : Heard
-  pub ended : AnswersAs end answer
+  pub ended : AnswersAs end came answer
   pub hears : Hears before now [] (answer ∷ [])
   pub fed : Tells_bytes now → (n : Situation) → Knows old n → Stored holds old n.history before → (peers : List ℕ) (clock : ℕ)
       → Fed holds stands broken old new before now n (steps_of peers clock (answer ∷ [])) counts (is_fed end)
@@ -113,3 +114,8 @@ pub record RanTurns {L : Type 0} (holds : L → List Entry → List ℕ → Type
   pub clock_is : clock' ≡ clock_of clock (of_turns full ++ last)
   pub fed : Tells_bytes now → (n : Situation) → Knows old n → Stored holds old n.history before
       → Fed holds stands broken old new before now n (steps_of peers clock (of_turns full ++ last)) counts (is_fed end)
+
+-- one turn: where it was made, this came in it
+pub record MadeTurn {L : Type 0} (holds : L → List Entry → List ℕ → Type 0) (stands : List Entry → List ℕ → Type 0) (broken : L → Bool) (peers : List ℕ) (clock clock' : ℕ) (old new : Node L) (before now : View) (counts : Option Tally) (end : End) (came : Option (List ℕ)) : Type 0 where
+  pub ran : RanTurns holds stands broken peers clock clock' old new before now 1 counts end
+  pub came_in : CameIn end ran.full came

@@ -8,8 +8,9 @@ ghost use Rattle.psb_machine.specs.Commands.{ticks};
 ghost use Rattle.node_core.specs.declared.fault.Fault.TheVariants as fault;
 ghost use Rattle.node_core.specs.Letters.{input_of};
 ghost use Rattle.node_core.specs.Stored.{Knows, Stored, IsCounted};
+ghost use Rattle.node_serve.specs.Buffers.{last_of};
 ghost use Rattle.node_serve.specs.Hears.{End, Stopped};
-ghost use Rattle.node_serve.specs.Spans.{IsReady, Counts, Fed, Received, RanTurns};
+ghost use Rattle.node_serve.specs.Spans.{IsReady, Counts, Fed, Received, MadeTurn, RanTurns};
 ghost use Rattle.node_serve.specs.Turns.{IsEnd, IsEarly, OnlySends, peers_in, end_of, turned_counts, total_counts};
 
 use crate::Buffer;
@@ -79,7 +80,8 @@ fn receive<L: Log, S: Station>(
     requires counted { IsCounted L.size L.keeps_body node.old }
     ensures tells { Tells_bytes (S.view station.new) → Tells_bytes (S.view station.old) }
 
-    ensures ran { Received L.holds L.stands L.is_broken node.old node.new (S.view station.old) (S.view station.new) (turned_counts result) (end_of result) }
+    // What came is what the buffer tells.
+    ensures ran { Received L.holds L.stands L.is_broken node.old node.new (S.view station.old) (S.view station.new) (turned_counts result) (end_of result) (last_of buffer.new) }
     ensures ready { OnOk result (IsReady L.holds node.new (S.view station.new)) }
     ensures counts { Counts (S.view station.old) (S.view station.new) }
     ensures unsaid { (S.view station.new).outside.say_faults ≡ (S.view station.old).outside.say_faults }
@@ -94,6 +96,7 @@ fn receive<L: Log, S: Station>(
     ensures link { (result ≡ Err ServeFault.Link) ⊎ ((S.view station.new).outside.link_faults ≡ (S.view station.old).outside.link_faults) }
     ensures only { OnErr result ((result ≡ Err (ServeFault.Node fault.DiskFault)) ⊎ (result ≡ Err ServeFault.Link) ⊎ (result ≡ Err ServeFault.Memory)) }
 {
+    buffer.count = None;
     let count = match station.recv(&mut buffer.bytes) {
         Err(_) => return Err(ServeFault::Link),
         Ok(None) => {
@@ -106,6 +109,7 @@ fn receive<L: Log, S: Station>(
         }
         Ok(Some(count)) => count,
     };
+    buffer.count = Some(count);
     match feed(node, station, &Input::Frame(&buffer.bytes[..count])) {
         Ok(turned) => Ok(turned),
         Err(fault) => Err(ServeFault::from(fault)),
@@ -169,8 +173,9 @@ pub fn turn<L: Log, S: Station>(
     requires few { length peers.now ≤ most_peers }
     ensures tells { Tells_bytes (S.view station.new) → Tells_bytes (S.view station.old) }
 
-    // It receives once and asks the clock once, whatever the disk is, and absorbs what comes of it.
-    ensures ran { RanTurns L.holds L.stands L.is_broken peers.now clock.old clock.new node.old node.new (S.view station.old) (S.view station.new) 1 (turned_counts result) (end_of result) }
+    // It receives once and asks the clock once, whatever the disk is, and absorbs what comes of it. What
+    // came, the buffer tells.
+    ensures ran { MadeTurn L.holds L.stands L.is_broken peers.now clock.old clock.new node.old node.new (S.view station.old) (S.view station.new) (turned_counts result) (end_of result) (last_of buffer.new) }
     ensures ready { OnOk result (IsReady L.holds node.new (S.view station.new)) }
     ensures counts { Counts (S.view station.old) (S.view station.new) }
     ensures unsaid { (S.view station.new).outside.say_faults ≡ (S.view station.old).outside.say_faults }

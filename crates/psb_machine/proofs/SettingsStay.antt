@@ -1,16 +1,18 @@
 -- The settings stay what they are while inputs come.
-use Rattle.std.proofs.Common.{◌≡◌, ◌||◌, ℕ, List, [], ◌∷◌, Option, Some, None, Result, Ok, Err, refl, ◌∙◌, ap}
+use Rattle.std.proofs.Common.{◌≡◌, ◌||◌, ℕ, Bool, true, false, if◌then◌else◌, option_map, List, [], ◌∷◌, Option, Some, None, Result, Ok, Err, refl, ◌∙◌, ap}
 use Rattle.psb_settings.specs.declared.settings.Settings.{Settings}
 use Rattle.psb_model.specs.State.{State, nothing_yet, row, own_has}
 use Rattle.psb_model.specs.Effects.{after}
 use Rattle.psb_model.specs.History.{state, state_from}
+use Rattle.psb_model.specs.Needed.{last_brought}
 use Rattle.psb_model.proofs.Prefixes.{state_app}
 use Rattle.wire_codec.specs.Frames.{Incoming, read_frame, key_in}
 use Rattle.wire_codec.specs.declared.frame.Dropped.{Dropped}
 use Rattle.wire_codec.specs.declared.frame.Frame.{Frame}
 use Rattle.psb_machine.specs.Deals.{standing, first_that_holds, judged, meets_others, Deal, StoreFresh, deal_of, judged_at}
+use Rattle.psb_machine.specs.Gets.{got_of, has_chunk}
 use Rattle.psb_machine.specs.Stores.{store_reasons, took_fresh}
-use Rattle.psb_machine.specs.Machine.{Situation, Input, Datagram, Tick, Keep, Snap, Forget, Reaction, changes_of, keys_of, quiet, by_standing, on_deal, on_frame, on_keyed, on_read, on_datagram, react, next, has_snapshot}
+use Rattle.psb_machine.specs.Machine.{Situation, Input, Datagram, Tick, Keep, Snap, Forget, Reaction, changes_of, keys_of, quiet, tells_again, by_standing, on_deal, here, on_get, on_other, on_frame, on_keyed, on_read, on_datagram, react, next, has_snapshot}
 use Rattle.psb_model.proofs.ByObject.{by_cases}
 use Rattle.psb_machine.specs.declared.deals.Standing.{Standing}
 use Rattle.psb_machine.specs.declared.deals.Standing.TheVariants.{Fresh, Repeat, Stale, Gap}
@@ -33,11 +35,19 @@ deal_stays Stale settings n p number key deal = refl
 deal_stays Gap settings n p number key deal = refl
 
 frame_stays : (settings : Settings) (n : Situation) (p number : ℕ) (key : List ℕ) (frame : Frame) → Stays (state n.history) (on_frame settings n p number key frame)
-frame_stays settings n p number key frame = either (deal_of frame)
+frame_stays settings n p number key frame = got (got_of frame)
   where
     either : (o : Option Deal) → Stays (state n.history) (elim o [ None ↦ quiet n.volatile | Some d ↦ on_deal settings n p number key d ])
     either None = refl
     either (Some d) = deal_stays (standing (row (state n.history) p).last.number number) settings n p number key d
+
+    given : (name : List ℕ) (b : Bool) → Stays (state n.history) (if b then tells_again (option_map (here settings key p number name) (last_brought name n.history)) n.volatile else quiet n.volatile)
+    given name true = refl
+    given name false = refl
+
+    got : (o : Option (List ℕ)) → Stays (state n.history) (elim o [ None ↦ on_other settings n p number key frame | Some name ↦ on_get settings n p number key name ])
+    got None = either (deal_of frame)
+    got (Some name) = given name (has_chunk (state n.history) p name)
 
 keyed_stays : (settings : Settings) (n : Situation) (i : Incoming) (o : Option (List ℕ)) → Stays (state n.history) (on_keyed settings n i o)
 keyed_stays settings n i None = refl

@@ -1,16 +1,23 @@
 -- The machine on one datagram.
-use Rattle.std.proofs.Common.{◌≡◌, ℕ, List, Option, Some, None, Result, Ok, ◌∙◌, ap}
+use Rattle.std.proofs.Common.{◌≡◌, ℕ, List, Option, Some, None, Result, Ok, refl, ◌∙◌, ap}
 use Rattle.psb_settings.specs.declared.settings.Settings.{Settings}
 use Rattle.psb_model.specs.History.{state}
 use Rattle.wire_codec.specs.Frames.{Incoming, read_frame, key_in}
 use Rattle.wire_codec.specs.declared.frame.Dropped.{Dropped}
 use Rattle.psb_machine.specs.Deals.{Deal, deal_of}
+use Rattle.psb_machine.specs.Gets.{got_of}
 use Rattle.wire_codec.specs.declared.frame.Frame.{Frame}
-use Rattle.psb_machine.specs.Machine.{Situation, Datagram, keys_of, quiet, on_deal, on_keyed, on_read, on_datagram, react}
+use Rattle.wire_codec.specs.declared.frame.Frame.TheVariants.{Get}
+use Rattle.psb_machine.specs.Machine.{Situation, Datagram, keys_of, quiet, on_deal, on_get, on_other, on_keyed, on_read, on_datagram, react}
 
 -- with its settings the machine reads the datagram
 pub react-read : (n : Situation) (x : List ℕ) (settings : Settings) → (state n.history).settings ≡ Some settings → react n (Datagram x) ≡ on_read settings n (read_frame settings.id (keys_of settings) x)
 react-read n x settings present = ap (λ (o : Option Settings). on_datagram o n x) present
+
+-- a frame that asks for a deal is no Get
+pub deal_no_get : (frame : Frame) (deal : Deal) → deal_of frame ≡ Some deal → got_of frame ≡ None
+deal_no_get (Get name) deal asks = absurd (cc)
+deal_no_get _ deal asks = refl
 
 -- a deal of a peer that has a key
 pub on_read-deal : (settings : Settings) (n : Situation) (r : Result Incoming Dropped) (p number : ℕ) (key : List ℕ) (frame : Frame) (deal : Deal) → r ≡ Ok (record { from = p; number = number; frame = frame }) → deal_of frame ≡ Some deal → key_in (keys_of settings) p ≡ Some key
@@ -18,4 +25,12 @@ pub on_read-deal : (settings : Settings) (n : Situation) (r : Result Incoming Dr
 on_read-deal settings n r p number key frame deal read asks keyed =
     ap (λ (q : Result Incoming Dropped). on_read settings n q) read
     ∙ ap (λ (o : Option (List ℕ)). on_keyed settings n (record { from = p; number = number; frame = frame }) o) keyed
+    ∙ ap (λ (o : Option (List ℕ)). elim o [ None ↦ on_other settings n p number key frame | Some name ↦ on_get settings n p number key name ]) (deal_no_get frame deal asks)
     ∙ ap (λ (o : Option Deal). elim o [ None ↦ quiet n.volatile | Some d ↦ on_deal settings n p number key d ]) asks
+
+-- a Get of a peer that has a key
+pub on_read-get : (settings : Settings) (n : Situation) (r : Result Incoming Dropped) (p number : ℕ) (key name : List ℕ) → r ≡ Ok (record { from = p; number = number; frame = Get name }) → key_in (keys_of settings) p ≡ Some key
+    → on_read settings n r ≡ on_get settings n p number key name
+on_read-get settings n r p number key name read keyed =
+    ap (λ (q : Result Incoming Dropped). on_read settings n q) read
+    ∙ ap (λ (o : Option (List ℕ)). on_keyed settings n (record { from = p; number = number; frame = Get name }) o) keyed

@@ -1,5 +1,5 @@
 -- What the machine makes of a valid history is valid.
-use Rattle.std.proofs.Common.{◌≡◌, ℕ, ◌+◌, ◌≤◌, ◌^◌, Bool, true, false, not, ◌&&◌, ◌==◌, nat_le, nat_lt, cond, ◌||◌, ◌<◌, sum_by, List, [], ◌∷◌, ◌++◌, length, Option, Some, None, Result, Ok, Err, refl, sym, ap, subst, arith}
+use Rattle.std.proofs.Common.{◌≡◌, ℕ, ◌+◌, ◌≤◌, ◌^◌, Bool, true, false, not, ◌&&◌, ◌==◌, nat_le, nat_lt, cond, if◌then◌else◌, option_map, ◌||◌, ◌<◌, sum_by, List, [], ◌∷◌, ◌++◌, length, Option, Some, None, Result, Ok, Err, refl, sym, ap, subst, arith}
 use Rattle.std.specs.List.{list_all}
 use Rattle.std.proofs.lemmas.Bool.{and_parts, leb-true, lt-ltb, ltb-false, eq-eqb, le-leb}
 use Rattle.std.proofs.lemmas.List.{append-nil}
@@ -13,7 +13,7 @@ use Rattle.psb_model.specs.Words.{has}
 use Rattle.psb_model.specs.Grammar.{fits_widths, in_grammar, is_u8, is_u32, is_u64, is_count, are_bytes, body_fits}
 use Rattle.psb_model.specs.Conditions.{most_claims, is_next_deal, capacity, allowed}
 use Rattle.psb_model.specs.History.{state}
-use Rattle.psb_model.specs.Needed.{brings_right, IsValid}
+use Rattle.psb_model.specs.Needed.{brings_right, last_brought, IsValid}
 use Rattle.psb_model.specs.declared.change.Change.{Change}
 use Rattle.psb_model.specs.declared.change.Change.TheVariants.{Kept, Forgot, TookFresh, Refused}
 use Rattle.psb_model.proofs.Prefixes.{changes_counted}
@@ -22,11 +22,12 @@ use Rattle.wire_codec.specs.Fields.{within, is_digest as is_wire_digest, are_slo
 use Rattle.wire_codec.specs.Frames.{Incoming, read_frame, key_in, fits as frame_fits}
 use Rattle.wire_codec.specs.declared.frame.Dropped.{Dropped}
 use Rattle.wire_codec.specs.declared.frame.Frame.{Frame}
-use Rattle.wire_codec.specs.declared.frame.Frame.TheVariants.{Store}
+use Rattle.wire_codec.specs.declared.frame.Frame.TheVariants.{Store, Get}
 use Rattle.psb_machine.specs.Laws.{KeepFits, SnapFits}
 use Rattle.psb_model.proofs.ByObject.{by_cases}
 use Rattle.psb_machine.specs.Deals.{standing, code_of, first_that_holds, judged, Deal, StoreFresh, judged_at, meets_others}
-use Rattle.psb_machine.specs.Machine.{Situation, changes_of, kept_with, snapped_with, has_snapshot, on_keep, on_snap, on_forget, keys_of, by_standing, on_deal, on_frame, on_read, on_keyed, on_datagram}
+use Rattle.psb_machine.specs.Machine.{Situation, changes_of, kept_with, snapped_with, has_snapshot, on_keep, on_snap, on_forget, keys_of, quiet, tells_again, by_standing, on_deal, here, on_frame, on_read, on_keyed, on_datagram}
+use Rattle.psb_machine.specs.Gets.{has_chunk}
 use Rattle.psb_machine.specs.declared.deals.Standing.{Standing}
 use Rattle.psb_machine.specs.declared.deals.Standing.TheVariants.{Fresh, Repeat, Stale, Gap}
 use Rattle.psb_machine.specs.declared.deals.Reason.{Reason}
@@ -208,6 +209,11 @@ frame_valid : (settings : Settings) (n : Situation) (p number : ℕ) (key : List
     → FrameFits p number frame → IsValid (n.history ++ changes_of (on_frame settings n p number key frame))
 frame_valid settings n p number key (Store name [] bytes) v present peer f = store_valid settings n p number key name bytes v present peer (store_fits p number name [] bytes f)
 frame_valid settings n p number key (Store name (slot ∷ slots) bytes) v present peer f = unchanged n.history v
+frame_valid settings n p number key (Get name) v present peer f = given (has_chunk (state n.history) p name)
+  where
+    given : (b : Bool) → IsValid (n.history ++ changes_of (if b then tells_again (option_map (here settings key p number name) (last_brought name n.history)) n.volatile else quiet n.volatile))
+    given true = unchanged n.history v
+    given false = unchanged n.history v
 frame_valid settings n p number key _ v present peer f = unchanged n.history v
 
 keyed_valid : (settings : Settings) (n : Situation) (i : Incoming) (o : Option (List ℕ)) → o ≡ key_in (keys_of settings) i.from → IsValid n.history → (state n.history).settings ≡ Some settings

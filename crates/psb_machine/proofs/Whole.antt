@@ -1,19 +1,21 @@
 -- The laws of the machine.
-use Rattle.std.proofs.Common.{◌≡◌, ℕ, ◌≤◌, ◌^◌, ◌||◌, true, slice_get, option_map, is_some, List, [], length, Option, Some, None, Result, Ok, Err, refl, arith}
+use Rattle.std.proofs.Common.{◌≡◌, ℕ, ◌≤◌, ◌^◌, ◌||◌, Bool, true, false, if◌then◌else◌, slice_get, option_map, is_some, List, [], length, Option, Some, None, Result, Ok, Err, refl, arith}
 use Rattle.std.proofs.lemmas.Bool.{lt-ltb}
 use Rattle.std.proofs.lemmas.List.{append-nil}
 use Rattle.psb_bytes.specs.Numbers.{AreBytes}
 use Rattle.psb_settings.specs.declared.settings.Settings.{Settings}
 use Rattle.psb_model.specs.State.{row, own_has}
 use Rattle.psb_model.specs.History.{state}
+use Rattle.psb_model.specs.Needed.{last_brought}
 use Rattle.psb_model.specs.declared.change.Change.{Change}
 use Rattle.wire_codec.specs.Frames.{Incoming, read_frame, key_in}
 use Rattle.wire_codec.specs.declared.frame.Dropped.{Dropped}
 use Rattle.wire_codec.specs.declared.frame.Frame.{Frame}
 use Rattle.wire_codec.proofs.FrameLaws.{takes}
 use Rattle.psb_machine.specs.Deals.{standing, Deal, deal_of, judged_at}
+use Rattle.psb_machine.specs.Gets.{got_of, has_chunk}
 use Rattle.psb_machine.specs.Replies.{reply}
-use Rattle.psb_machine.specs.Machine.{Situation, Volatile, Input, Datagram, Tick, Keep, Snap, Forget, Reaction, quiet, grows, kept_with, snapped_with, has_snapshot, tells_again, settled, ticked, react, keys_of, by_standing, on_deal, on_frame, on_keyed, on_read, on_datagram}
+use Rattle.psb_machine.specs.Machine.{Situation, Volatile, Input, Datagram, Tick, Keep, Snap, Forget, Reaction, quiet, grows, kept_with, snapped_with, has_snapshot, tells_again, settled, ticked, react, keys_of, by_standing, on_deal, here, on_get, on_other, on_frame, on_keyed, on_read, on_datagram}
 use Rattle.psb_machine.specs.declared.deals.Standing.{Standing}
 use Rattle.psb_machine.specs.declared.deals.Standing.TheVariants.{Fresh, Repeat, Stale, Gap}
 use Rattle.psb_machine.specs.Laws.{KeepsValid, AllTellLittle}
@@ -53,22 +55,33 @@ quiet_little n v = record { most = omega arith; letters = λ is. refl; same = λ
 grows_little : (n : Situation) (c : Change) (v : Volatile) → Little n (grows c v)
 grows_little n c v = record { most = omega arith; letters = λ is. refl; same = λ is. absurd (cc) }
 
+again_little : (n : Situation) (o : Option (ℕ × List ℕ)) → Little n (tells_again o n.volatile)
+again_little n None = record { most = omega arith; letters = λ is. refl; same = λ is. absurd (cc) }
+again_little n (Some letter) = record { most = omega arith; letters = λ is. absurd (cc); same = λ is. absurd (cc) }
+
 deal_little : (how : Standing) (settings : Settings) (n : Situation) (p number : ℕ) (key : List ℕ) (c : Change) → Little n (by_standing how settings n p number key c)
 deal_little Fresh settings n p number key c = record { most = omega arith; letters = λ is. absurd (cc); same = λ is. absurd (cc) }
-deal_little Repeat settings n p number key c = again (option_map (reply settings key p number) (slice_get n.history (row (state n.history) p).last.change))
-  where
-    again : (o : Option (ℕ × List ℕ)) → Little n (tells_again o n.volatile)
-    again None = record { most = omega arith; letters = λ is. refl; same = λ is. absurd (cc) }
-    again (Some letter) = record { most = omega arith; letters = λ is. absurd (cc); same = λ is. absurd (cc) }
+deal_little Repeat settings n p number key c = again_little n (option_map (reply settings key p number) (slice_get n.history (row (state n.history) p).last.change))
 deal_little Stale settings n p number key c = quiet_little n n.volatile
 deal_little Gap settings n p number key c = quiet_little n n.volatile
 
+get_little : (settings : Settings) (n : Situation) (p number : ℕ) (key name : List ℕ) → Little n (on_get settings n p number key name)
+get_little settings n p number key name = chosen (has_chunk (state n.history) p name) (option_map (here settings key p number name) (last_brought name n.history))
+  where
+    chosen : (b : Bool) (o : Option (ℕ × List ℕ)) → Little n (if b then tells_again o n.volatile else quiet n.volatile)
+    chosen true o = again_little n o
+    chosen false o = quiet_little n n.volatile
+
 frame_little : (settings : Settings) (n : Situation) (p number : ℕ) (key : List ℕ) (frame : Frame) → Little n (on_frame settings n p number key frame)
-frame_little settings n p number key frame = either (deal_of frame)
+frame_little settings n p number key frame = got (got_of frame)
   where
     either : (o : Option Deal) → Little n (elim o [ None ↦ quiet n.volatile | Some d ↦ on_deal settings n p number key d ])
     either None = quiet_little n n.volatile
     either (Some d) = deal_little (standing (row (state n.history) p).last.number number) settings n p number key (judged_at settings n.history p number d)
+
+    got : (o : Option (List ℕ)) → Little n (elim o [ None ↦ on_other settings n p number key frame | Some name ↦ on_get settings n p number key name ])
+    got None = either (deal_of frame)
+    got (Some name) = get_little settings n p number key name
 
 keyed_little : (settings : Settings) (n : Situation) (i : Incoming) (o : Option (List ℕ)) → Little n (on_keyed settings n i o)
 keyed_little settings n i None = quiet_little n n.volatile

@@ -2,6 +2,8 @@
 use Rattle.std.specs.Prelude.{ℕ, nat_lt, if◌then◌else◌, List, [], ◌∷◌, ◌++◌, map, Option, Some, None}
 use Rattle.psb_settings.specs.declared.settings.PeerRow.{PeerRow}
 use Rattle.psb_settings.specs.declared.settings.Settings.{Settings}
+use Rattle.wire_codec.specs.Frames.{datagram}
+use Rattle.wire_codec.specs.declared.frame.Frame.TheVariants.{Get}
 use Rattle.psb_machine.specs.Machine.{Datagram, Tick}
 use Rattle.psb_machine.specs.Course.{Say, Step, Absorb, Tell}
 
@@ -42,6 +44,14 @@ clock_after clock t = if nat_lt clock t then t else clock
 abbrev pub serve_steps : List ℕ → ℕ → List Turn → List Step
 serve_steps peers clock [] = []
 serve_steps peers clock (t ∷ ts) = turn_steps peers clock t ++ serve_steps peers (clock_after clock t.time) ts
+
+-- ---- the Gets of the bytes under a name: one to each peer in their order, each with the number 0
+
+abbrev pub get_by : ℕ → List ℕ → PeerRow → ℕ × List ℕ
+get_by own name p = (p.id, datagram p.key own p.id 0 (Get name))
+
+abbrev pub gets : Settings → List ℕ → List (ℕ × List ℕ)
+gets settings name = map (get_by settings.id name) settings.peers
 
 -- ---- the lines of any command, at its end
 

@@ -6,13 +6,16 @@ use Rattle.psb_settings.specs.declared.settings.PeerRow.{PeerRow}
 use Rattle.psb_settings.specs.declared.settings.Settings.{Settings}
 use Rattle.psb_model.specs.declared.entries.Snapshot.{Snapshot}
 use Rattle.psb_model.specs.State.{State, row, own_has, is_held, snaps_made}
+use Rattle.psb_model.specs.Needed.{last_brought}
 use Rattle.psb_model.specs.History.{state}
 use Rattle.psb_model.specs.declared.change.Change.{Change}
 use Rattle.psb_model.specs.declared.change.Change.TheVariants.{Kept, Snapped, Forgot}
-use Rattle.wire_codec.specs.Frames.{Incoming, read_frame, key_in}
+use Rattle.wire_codec.specs.Frames.{Incoming, read_frame, key_in, datagram}
 use Rattle.wire_codec.specs.declared.frame.Dropped.{Dropped}
 use Rattle.wire_codec.specs.declared.frame.Frame.{Frame}
+use Rattle.wire_codec.specs.declared.frame.Frame.TheVariants.{Here}
 use Rattle.psb_machine.specs.Deals.{standing, Deal, deal_of, judged_at, meets_others}
+use Rattle.psb_machine.specs.Gets.{has_chunk, got_of}
 use Rattle.psb_machine.specs.Replies.{reply}
 use Rattle.psb_machine.specs.declared.deals.Standing.{Standing}
 use Rattle.psb_machine.specs.declared.deals.Standing.TheVariants.{Fresh, Repeat, Stale, Gap}
@@ -125,9 +128,23 @@ abbrev pub on_deal : Settings → Situation → ℕ → ℕ → List ℕ → Dea
 on_deal settings n p number key deal =
     by_standing (standing (row (state n.history) p).last.number number) settings n p number key (judged_at settings n.history p number deal)
 
--- A frame of a peer. So far nothing comes of one that asks for no deal of a kind that is served.
+-- The answer to a peer's Get: the bytes under their name, with the number of the Get.
+abbrev pub here : Settings → List ℕ → ℕ → ℕ → List ℕ → List ℕ → ℕ × List ℕ
+here settings key p number name bytes = (p, datagram key settings.id p number (Here name bytes))
+
+-- A peer gets the bytes of each chunk that it has here, and of no other.
+abbrev pub on_get : Settings → Situation → ℕ → ℕ → List ℕ → List ℕ → Reaction
+on_get settings n p number key name =
+    if has_chunk (state n.history) p name then tells_again (option_map (here settings key p number name) (last_brought name n.history)) n.volatile
+    else quiet n.volatile
+
+-- A frame of a peer that is no Get. So far nothing comes of one that asks for no deal of a kind that is served.
+abbrev pub on_other : Settings → Situation → ℕ → ℕ → List ℕ → Frame → Reaction
+on_other settings n p number key frame = elim (deal_of frame) [ None ↦ quiet n.volatile | Some d ↦ on_deal settings n p number key d ]
+
+-- A frame of a peer.
 abbrev pub on_frame : Settings → Situation → ℕ → ℕ → List ℕ → Frame → Reaction
-on_frame settings n p number key frame = elim (deal_of frame) [ None ↦ quiet n.volatile | Some d ↦ on_deal settings n p number key d ]
+on_frame settings n p number key frame = elim (got_of frame) [ None ↦ on_other settings n p number key frame | Some name ↦ on_get settings n p number key name ]
 
 -- A datagram that is read: its sender is a peer, and has a key.
 abbrev pub on_keyed : Settings → Situation → Incoming → Option (List ℕ) → Reaction

@@ -11,24 +11,26 @@ ghost use Rattle.psb_machine.specs.Stores.{IsShort};
 
 use super::Node;
 use crate::decision::Decision;
-use crate::offer::{Offer, Reading};
+use crate::offer::{Offer, Reading, Request};
 use crate::reaction::{Reaction, one_letter, quiet};
 use crate::refusal::refusal_of;
-use crate::replies::{brings_new, judged, letter_with, reply_again, reply_to};
+use crate::replies::{brings_new, here_to, judged, letter_with, reply_again, reply_to};
 use crate::{Fault, Input};
+use chunk_store::Owner;
 use node_journal::Log;
 use psb_machine::{Refusal, Standing};
 use psb_station::Disk;
+use wire_codec::MOST_BYTES;
 
 impl<L: Log> Node<L> {
     ghost use Rattle.chunk_store.specs.Store.{record_of};
     ghost use Rattle.node_core.specs.Letters.{letters_of, input_of, is_own};
-    ghost use Rattle.node_core.specs.Offers.{deal_in};
+    ghost use Rattle.node_core.specs.Offers.{IsGet, deal_in};
     ghost use Rattle.node_core.specs.Making.{CanMake, CanTell, made_of, made_in, why_refused};
     ghost use Rattle.node_core.specs.Stored.{Knows, Stored, IsCounted};
     ghost use Rattle.node_core.specs.Unread.{IsUnread, IsCertain};
     ghost use Rattle.node_core.specs.Refusing.{IsApt, is_refused, when_taken, IsHeldAs, Refuses};
-    ghost use Rattle.node_core.specs.Reacting.{Decides, CanDo, Makes, MakesNone, IsToldAgain, Reacts, ReactsSo, MayCome, IsSame};
+    ghost use Rattle.node_core.specs.Reacting.{Decides, CanDo, Makes, MakesNone, IsToldAgain, IsGiven, Reacts, ReactsSo, MayCome, IsSame};
 
     /// What the machine makes of an input. Nothing is written.
     pub(super) fn react<D: Disk>(
@@ -94,6 +96,7 @@ impl<L: Log> Node<L> {
             Decision::Pass => Ok(quiet(self.alloc, None)),
             Decision::Make(offer) => self.judge(disk, &offer),
             Decision::Again(offer, change) => self.tell_again(disk, &offer, change),
+            Decision::Give(request) => self.give(disk, &request),
         }
     }
 
@@ -107,6 +110,7 @@ impl<L: Log> Node<L> {
         let offer = match self.peers.read(datagram) {
             Reading::Fails(why) => return Decision::Drop(why),
             Reading::Other => return Decision::Pass,
+            Reading::Get(request) => return self.decide_get(request),
             Reading::Offer(offer) => offer,
         };
         let last = self.ledger.last(offer.peer);
@@ -115,6 +119,53 @@ impl<L: Log> Node<L> {
             Standing::Repeat => Decision::Again(offer, last.change),
             Standing::Stale | Standing::Gap => Decision::Pass,
         }
+    }
+
+    /// A peer is given the bytes of each chunk that it has here, and of no other.
+    fn decide_get<'a>(&self, request: Request) -> Decision<'a>
+        requires known { (n : Situation) × Knows self.now n }
+        ensures decides { (n : Situation) (x : List ℕ) → Knows self.now n → IsGet self.now.peers.own.id self.now.peers.keys x request → Decides result n x }
+        ensures can { CanDo result self.now.ledger.state }
+    {
+        if self.names.holds(Owner::Peer(request.peer), &request.name) {
+            Decision::Give(request)
+        } else {
+            Decision::Pass
+        }
+    }
+
+    /// Answers a Get with the bytes that are held under its name.
+    fn give<D: Disk>(&mut self, disk: &mut D, request: &Request) -> Result<Reaction, Fault>
+        requires whole { L.is_broken self.old.log ≡ false }
+        requires known { (n : Situation) × Knows self.old n }
+        requires counted { IsCounted L.size L.keeps_body self.old }
+        ensures given { IfOk result (λ r. Tells_bytes (D.view disk.new) → (n : Situation) → Knows self.old n → Stored L.holds self.old n.history (D.view disk.old)
+            → IsGiven n request.now (letters_of r.out)) }
+        ensures none { IfOk result MakesNone }
+        ensures same { IsSame self.old self.new }
+        ensures looked { Looked (result ≡ Err Fault.DiskFault) (D.view disk.old) (D.view disk.new) }
+        ensures reads { (D.view disk.new).write_faults ≡ (D.view disk.old).write_faults }
+        ensures only { OnErr result ((result ≡ Err Fault.DiskFault) ⊎ (result ≡ Err Fault.Memory)) }
+    {
+        let alloc = self.alloc;
+        let mut bytes = Vec::new(alloc);
+        let there = match self.body(disk, &request.name, &mut bytes) {
+            Ok(there) => there,
+            Err(fault) => return Err(fault),
+        };
+        if !there {
+            return Ok(quiet(alloc, None));
+        }
+        // No chunk has more: they stand on a disk that was altered.
+        if bytes.len() > MOST_BYTES as usize {
+            return Ok(quiet(alloc, None));
+        }
+        let letter = here_to(alloc, bytes, self.peers.own().id, request)?;
+        Ok(Reaction {
+            change: None,
+            dropped: None,
+            out: one_letter(alloc, letter)?,
+        })
     }
 
     /// Looks at why a fresh offer is refused, and so at what it makes.

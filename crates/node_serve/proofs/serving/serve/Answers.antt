@@ -49,7 +49,7 @@ returns-in-Err-turn-clause-ran g c =
       fault_is f,
       c.turn.new.clock,
       turns_within g.L.Log.holds g.L.Log.stands g.L.Log.is_broken g.met.L.Log.holds_stands all_peers 0 c.turn.new.clock c.args.node.now c.turn.new.node v0 v2 (i + 1) c.args.turns None (fault_end f) (fault_early f) inside
-          (turns_more g.L.Log.holds g.L.Log.stands g.L.Log.is_broken g.met.L.Log.holds_stands all_peers 0 c.loop-turn.clock c.turn.new.clock c.args.node.now c.loop-turn.node c.turn.new.node v0 v1 v2 i (Some (total_tally c.loop-turn.total)) None (fault_end f) (fault_begun f) c.loop-turn.invariant.whole c.turn.ensures.tells c.loop-turn.invariant.ran (ran_with c.in-Err-turn.ensures.ran)),
+          (turns_more g.L.Log.holds g.L.Log.stands g.L.Log.is_broken g.met.L.Log.holds_stands all_peers 0 c.loop-turn.clock c.turn.new.clock c.args.node.now c.loop-turn.node c.turn.new.node v0 v1 v2 i (Some (total_tally c.loop-turn.total)) None (fault_end f) (fault_begun f) c.loop-turn.invariant.whole c.turn.ensures.tells c.loop-turn.invariant.ran (ran_with c.in-Err-turn.ensures.ran.ran)),
     )
 
 pub returns-in-Err-turn-clause-steady : goal.returns-in-Err-turn-clause-steady
@@ -80,7 +80,7 @@ loop-turn-preserved g c =
     record {
       ran =
           subst (λ (s : Tally). RanTurns g.L.Log.holds g.L.Log.stands g.L.Log.is_broken all_peers 0 c.turn.new.clock c.args.node.now c.turn.new.node v0 v2 (i + 1) (Some s) Whole) sum
-          (turns_more g.L.Log.holds g.L.Log.stands g.L.Log.is_broken g.met.L.Log.holds_stands all_peers 0 c.loop-turn.clock c.turn.new.clock c.args.node.now c.loop-turn.node c.turn.new.node v0 v1 v2 i (Some t) (Some u) Whole tt c.loop-turn.invariant.whole c.turn.ensures.tells c.loop-turn.invariant.ran (ran_with c.in-Ok-turn.ensures.ran));
+          (turns_more g.L.Log.holds g.L.Log.stands g.L.Log.is_broken g.met.L.Log.holds_stands all_peers 0 c.loop-turn.clock c.turn.new.clock c.args.node.now c.loop-turn.node c.turn.new.node v0 v1 v2 i (Some t) (Some u) Whole tt c.loop-turn.invariant.whole c.turn.ensures.tells c.loop-turn.invariant.ran (ran_with c.in-Ok-turn.ensures.ran.ran));
       tells = λ tells. c.loop-turn.invariant.tells (c.turn.ensures.tells tells);
       ready = c.in-Ok-turn.ensures.ready;
       counts = counts_then v0 v1 v2 c.loop-turn.invariant.counts c.in-Ok-turn.ensures.counts;

@@ -1,7 +1,7 @@
 use Rattle.std.proofs.Common.{rules}
 use Rattle.psb_machine.specs.Machine.{Datagram}
 use Rattle.node_core.proofs.Presence.{ok_map, ok_map2}
-use Rattle.node_core.proofs.Reacting.{reacts_made, reacts_made_so, made_may_come, makes_few, unread_unheld, reacts_again, reacts_again_so, never_unread}
+use Rattle.node_core.proofs.Reacting.{reacts_made, reacts_made_so, made_may_come, makes_few, unread_unheld, reacts_again, reacts_again_so, never_unread, reacts_given, reacts_given_so, never_unread_get}
 use Rattle.node_core.proofs.node.Node.on_datagram.Goals as goal
 
 pub returns-in-Make-clause-exact : goal.returns-in-Make-clause-exact
@@ -49,3 +49,21 @@ returns-in-Again-clause-so g c =
     ok_map c.tell_again.result _ _ (λ r none n k.
     reacts_again_so r n (Datagram c.args.datagram.now) _ c.in-Again.offer c.in-Again.change (search rules) (c.in-Again.ensures.decides n k) none)
     c.tell_again.ensures.none
+
+pub returns-in-Give-clause-exact : goal.returns-in-Give-clause-exact
+returns-in-Give-clause-exact g c =
+    ok_map2 c.give.result _ _ _ (λ r given none tells n k s.
+    reacts_given r n (Datagram c.args.datagram.now) _ c.in-Give.request (search rules) (c.in-Give.ensures.decides n k) none (given tells n k s))
+    c.give.ensures.given c.give.ensures.none
+
+pub returns-in-Give-clause-unread : goal.returns-in-Give-clause-unread
+returns-in-Give-clause-unread g c =
+    ok_map c.give.result _ _ (λ r none n k u.
+    never_unread_get n (Datagram c.args.datagram.now) _ c.in-Give.request (search rules) (c.in-Give.ensures.decides n k) u)
+    c.give.ensures.none
+
+pub returns-in-Give-clause-so : goal.returns-in-Give-clause-so
+returns-in-Give-clause-so g c =
+    ok_map c.give.result _ _ (λ r none n k.
+    reacts_given_so r n (Datagram c.args.datagram.now) _ c.in-Give.request (search rules) (c.in-Give.ensures.decides n k) none)
+    c.give.ensures.none

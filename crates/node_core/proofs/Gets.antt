@@ -1,0 +1,149 @@
+-- A node answers a Get as the machine does.
+use Rattle.std.proofs.Common.{◌≡◌, ◌≤◌, ◌<◌, ℕ, Bool, true, false, ◌||◌, ◌&&◌, ◌==◌, nat_le, cond, List, [], ◌∷◌, map, length, get_or, option_map, option_to_list, Option, Some, None, refl, sym, ◌∙◌, ap, arith}
+use Rattle.std.specs.List.{list_any}
+use Rattle.std.proofs.lemmas.Bool.{and_parts, false≢true, true≢false, eqb-true, eq-eqb, leb-true, le-leb}
+use Rattle.psb_bytes.specs.Units.{longest_chunk}
+use Rattle.psb_bytes.specs.declared.ids.Object.{Object}
+use Rattle.psb_bytes.specs.declared.ids.Object.TheVariants.{Chunk}
+use Rattle.psb_station.proofs.Spans.{same_some}
+use Rattle.psb_settings.specs.declared.settings.Settings.{Settings}
+use Rattle.psb_model.specs.Words.{has}
+use Rattle.psb_model.specs.State.{State, Row, row_in, in_key, own_has, is_held}
+use Rattle.psb_model.specs.Heads.{body_of}
+use Rattle.psb_model.specs.Grammar.{in_grammar, is_chunk_len, chunk_fits, numbers_listed}
+use Rattle.psb_model.specs.History.{state, lawful_from}
+use Rattle.psb_model.specs.Conditions.{allowed}
+use Rattle.psb_model.specs.Effects.{after}
+use Rattle.psb_model.specs.Needed.{brings_name, last_bringing, last_brought, IsValid}
+use Rattle.psb_model.specs.declared.change.Change.{Change}
+use Rattle.psb_model.specs.declared.change.Change.TheVariants.{Kept, TookFresh, TookSwap}
+use Rattle.psb_ledger.proofs.Decoded.{all_bytes}
+use Rattle.wire_codec.specs.Fields.{is_digest, is_text, are_bytes}
+use Rattle.wire_codec.specs.Frames.{read_frame, datagram}
+use Rattle.wire_codec.specs.declared.frame.Frame.TheVariants.{Get, Here}
+use Rattle.psb_machine.specs.Commands.{get_by, gets}
+use Rattle.psb_machine.specs.Gets.{has_chunk}
+use Rattle.psb_machine.specs.Machine.{Situation, Datagram, react, quiet, tells_again, here, on_get}
+use Rattle.psb_machine.proofs.Steps.{on_read-get}
+use Rattle.chunk_store.specs.declared.owner.Owner.TheVariants.{Peer}
+use Rattle.chunk_store.specs.Store.{is_owner}
+use Rattle.node_core.specs.declared.node.Node.{Node}
+use Rattle.node_core.specs.declared.offer.Request.{Request}
+use Rattle.node_core.specs.Offers.{IsGet}
+use Rattle.node_core.specs.Peers.{PeersView}
+use Rattle.node_core.specs.Reacting.{GivesBytes, IsGiven}
+use Rattle.node_core.specs.Stored.{Knows}
+use Rattle.node_core.proofs.Brought.{or_this, bytes_of}
+use Rattle.node_core.proofs.Offered.{reads_as, keyed_in, read_is}
+
+-- ---- what the machine makes of a Get
+
+got_as : {L : Type 0} (node : Node L) (n : Situation) (x : List ℕ) (r : Request) (k : Knows node n) → IsGet node.peers.own.id node.peers.keys x r → react n (Datagram x) ≡ on_get k.settings.settings n r.peer r.number r.key r.name
+got_as node n x r k get =
+    reads_as node n x k
+    ∙ on_read-get k.settings.settings n (read_frame node.peers.own.id node.peers.keys x) r.peer r.number r.key r.name get.reads (keyed_in node n r.peer r.key k get.keyed)
+
+-- by whether the store lists the peer for the name
+by_owner : {L : Type 0} (node : Node L) (n : Situation) (x : List ℕ) (r : Request) (b : Bool) (k : Knows node n) → IsGet node.peers.own.id node.peers.keys x r → is_owner node.names (Peer r.peer) r.name ≡ b
+    → react n (Datagram x) ≡ cond b (tells_again (option_map (here k.settings.settings r.key r.peer r.number r.name) (last_brought r.name n.history)) n.volatile) (quiet n.volatile)
+by_owner node n x r b k get is =
+    got_as node n x r k get
+    ∙ ap (λ (t : Bool). cond t (tells_again (option_map (here k.settings.settings r.key r.peer r.number r.name) (last_brought r.name n.history)) n.volatile) (quiet n.volatile)) (sym (k.names.owners (Peer r.peer) r.name) ∙ is)
+
+pub gives_as : {L : Type 0} (node : Node L) (n : Situation) (x : List ℕ) (r : Request) → Knows node n → IsGet node.peers.own.id node.peers.keys x r → is_owner node.names (Peer r.peer) r.name ≡ true → GivesBytes n x r
+gives_as node n x r k get is =
+    let has_it : has_chunk (state n.history) r.peer r.name ≡ true = sym (k.names.owners (Peer r.peer) r.name) ∙ is in
+    record {
+      settings = k.settings.settings;
+      present = k.settings.present;
+      reaction = by_owner node n x r true k get is;
+      has = has_it;
+      read = record { not_unread = λ u. true≢false (sym has_it ∙ (u k.settings.settings r.peer r.number (Get r.name) k.settings.present (read_is node n x k ∙ get.reads)).get r.name refl) };
+    }
+
+pub passes_get : {L : Type 0} (node : Node L) (n : Situation) (x : List ℕ) (r : Request) → Knows node n → IsGet node.peers.own.id node.peers.keys x r → is_owner node.names (Peer r.peer) r.name ≡ false → react n (Datagram x) ≡ quiet n.volatile
+passes_get node n x r k get is = by_owner node n x r false k get is
+
+-- ---- what a peer has here is held
+
+or_later : (a b : Bool) → b ≡ true → (a || b) ≡ true
+or_later true b h = refl
+or_later false b h = h
+
+or_first : (a b : Bool) → a ≡ true → (a || b) ≡ true
+or_first true b h = refl
+or_first false b h = absurd (false≢true h)
+
+some_row : (rows : List (ℕ × Row)) (p : ℕ) (o : Object) → has in_key (row_in rows p).ins o ≡ true → list_any (λ (x : ℕ × Row). has in_key x.1.ins o) rows ≡ true
+some_row [] p o h = absurd (false≢true h)
+some_row (x ∷ xs) p o h = at (x.0 == p) (λ is. some_row xs p o is) h
+  where
+    at : (b : Bool) → (has in_key (row_in xs p).ins o ≡ true → list_any (λ (y : ℕ × Row). has in_key y.1.ins o) xs ≡ true) → has in_key (cond b x.1 (row_in xs p)).ins o ≡ true
+        → (has in_key x.1.ins o || list_any (λ (y : ℕ × Row). has in_key y.1.ins o) xs) ≡ true
+    at true rest is = or_first (has in_key x.1.ins o) (list_any (λ (y : ℕ × Row). has in_key y.1.ins o) xs) is
+    at false rest is = or_later (has in_key x.1.ins o) (list_any (λ (y : ℕ × Row). has in_key y.1.ins o) xs) (rest is)
+
+pub chunk_held : (s : State) (p : ℕ) (name : List ℕ) → has_chunk s p name ≡ true → is_held s name ≡ true
+chunk_held s p name h = or_later (own_has s.own name) (list_any (λ (x : ℕ × Row). has in_key x.1.ins (Chunk name)) s.rows) (some_row s.rows p (Chunk name) h)
+
+-- ---- the bytes of a name are those of a chunk
+
+fits_short : (len : ℕ) (new : Bool) (body : Option (List ℕ)) (b : List ℕ) → chunk_fits len new body ≡ true → new ≡ true → body ≡ Some b → length b ≤ longest_chunk
+fits_short len false body b g is there = absurd (false≢true is)
+fits_short len true None b g is there = absurd (cc)
+fits_short len true (Some bytes) b g is there =
+    let parts = and_parts (is_chunk_len len) (length bytes == len) g in
+    let len_fits = and_parts (nat_le 1 len) (nat_le len longest_chunk) parts.0 in
+    omega (arith, leb-true len 32768 len_fits.1, eqb-true (length bytes) len parts.1, ap (λ (l : List ℕ). length l) (same_some (Some bytes) bytes b refl there))
+
+new_of : (name : List ℕ) (new : Bool) (P : List ℕ → Bool) → elim (cond new (Some name) None) [ None ↦ false | Some n ↦ P n ] ≡ true → new ≡ true
+new_of name true P h = refl
+new_of name false P h = absurd (false≢true h)
+
+change_short : (name : List ℕ) (c : Change) (b : List ℕ) → in_grammar c ≡ true → brings_name name c ≡ true → body_of c ≡ Some b → length b ≤ longest_chunk
+change_short name (Kept n len new body) b g is there = fits_short len new body b g (new_of n new _ is) there
+change_short name (TookFresh p deal n first len new body) b g is there = fits_short len new body b g (new_of n new _ is) there
+change_short name (TookSwap p deal n numbers len new body) b g is there = fits_short len new body b (and_parts (chunk_fits len new body) (numbers_listed numbers) g).0 (new_of n new _ is) there
+change_short name _ b g is there = absurd (false≢true is)
+
+brought_short_from : (s : State) (h : List Change) (name b : List ℕ) → lawful_from s h ≡ true → last_brought name h ≡ Some b → length b ≤ longest_chunk
+brought_short_from s [] name b lawful there = absurd (cc)
+brought_short_from s (c ∷ cs) name b lawful there =
+    let parts = and_parts (in_grammar c && allowed s c) (lawful_from (after s c) cs) lawful in
+    at (last_bringing name cs) (brings_name name c) refl refl (λ found. brought_short_from (after s c) cs name b parts.1 found) (and_parts (in_grammar c) (allowed s c) parts.0).0 there
+  where
+    at : (o : Option Change) (t : Bool) → last_bringing name cs ≡ o → brings_name name c ≡ t → (last_brought name cs ≡ Some b → length b ≤ longest_chunk) → in_grammar c ≡ true → bytes_of (or_this o t c) ≡ Some b → length b ≤ longest_chunk
+    at (Some d) t later is rest grammar found = rest (ap bytes_of later ∙ found)
+    at None true later is rest grammar found = change_short name c b grammar is found
+    at None false later is rest grammar found = absurd (cc)
+
+pub brought_short : (h : List Change) (name b : List ℕ) → IsValid h → last_brought name h ≡ Some b → length b ≤ longest_chunk
+brought_short h name b v there = brought_short_from _ h name b v.lawful there
+
+-- ---- the letters
+
+-- a name has a spelling in a frame, and so have the bytes of a chunk
+pub digest_fits : (name : List ℕ) → length name ≡ 32 → ((k : ℕ) → get_or name k 0 < 256) → is_digest name ≡ true
+digest_fits name long each = rw (eq-eqb (length name) 32 long) (all_bytes name each)
+
+pub text_fits : (bytes : List ℕ) → length bytes ≤ longest_chunk → are_bytes bytes ≡ true → is_text 0 bytes ≡ true
+text_fits bytes short all = rw (le-leb 0 (length bytes) (omega arith), le-leb (length bytes) 32768 short) all
+
+-- to each peer of the settings
+pub gets_are : {L : Type 0} (node : Node L) (n : Situation) (settings : Settings) (name : List ℕ) → Knows node n → (state n.history).settings ≡ Some settings → map (get_by node.peers.own.id name) node.peers.rows ≡ gets settings name
+gets_are node n settings name k present =
+    let same : k.settings.settings ≡ settings = same_some (state n.history).settings k.settings.settings settings k.settings.present present in
+    ap (λ (p : PeersView). map (get_by p.own.id name) p.rows) k.settings.peers ∙ ap (λ (st : Settings). gets st name) same
+
+-- where nothing is held, the peer has nothing there
+pub given_none : (n : Situation) (r : Request) (letters : List (ℕ × List ℕ)) → false ≡ is_held (state n.history) r.name → IsGiven n r letters
+given_none n r letters none = λ has_it settings present. absurd (false≢true (none ∙ chunk_held (state n.history) r.peer r.name has_it))
+
+-- the one letter has the bytes that were brought last
+pub given_bytes : {L : Type 0} (node : Node L) (n : Situation) (r : Request) (bytes : List ℕ) (letters : List (ℕ × List ℕ)) → Knows node n → last_brought r.name n.history ≡ Some bytes
+    → (length bytes ≤ longest_chunk → letters ≡ (r.peer, datagram r.key node.peers.own.id r.peer r.number (Here r.name bytes)) ∷ []) → IsGiven n r letters
+given_bytes node n r bytes letters k brought tells = λ has_it settings present.
+    let same : k.settings.settings ≡ settings = same_some (state n.history).settings k.settings.settings settings k.settings.present present in
+    tells (brought_short n.history r.name bytes k.valid brought)
+    ∙ ap (λ (own : ℕ). (r.peer, datagram r.key own r.peer r.number (Here r.name bytes)) ∷ []) (ap (λ (v : PeersView). v.own.id) k.settings.peers ∙ ap (λ (st : Settings). st.id) same)
+    ∙ ap (λ (o : Option (List ℕ)). option_to_list (option_map (here settings r.key r.peer r.number r.name) o)) (sym brought)
