@@ -32,3 +32,7 @@ text_fits fs places bare room of is fits few = omega (arith, skeleton_is_as_long
 -- the refs of what was kept, by how many were left
 pub room_kept : (es : List Entry) (places : List Place) (left room : ℕ) → es ≡ skeleton_of_tree places → left + length (pieces_of_files places) ≡ room → length (refs_in es) ≤ room
 room_kept es places left room are is = omega (arith, ap (λ (l : List Entry). length (refs_in l)) are, refs_are_pieces places, is)
+
+-- so many refs are those of the tree whose skeleton it is
+pub refs_within : (es : List Entry) (places : List Place) {room : ℕ} → es ≡ skeleton_of_tree places → length (refs_in es) ≤ room → length (refs_in (skeleton_of_tree places)) ≤ room
+refs_within es places are few = omega (arith, ap (λ (l : List Entry). length (refs_in l)) are, few)

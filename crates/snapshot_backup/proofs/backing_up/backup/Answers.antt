@@ -18,7 +18,7 @@ use Rattle.snapshot_backup.proofs.Fronts.{so_untried, so_then}
 use Rattle.snapshot_backup.proofs.Honest.{none_altered_then}
 use Rattle.snapshot_backup.proofs.NodeFaults.{fails_as_node, fails_of_piece, of_pieces}
 use Rattle.snapshot_backup.proofs.NoteFits.{note_fits}
-use Rattle.snapshot_backup.proofs.TreeTexts.{text_fits}
+use Rattle.snapshot_backup.proofs.TreeTexts.{text_fits, refs_within}
 use Rattle.snapshot_backup.proofs.Stops.{calls_none, calls_listed, calls_then, has_tree, is_snap, is_skeleton, none_tried, files_tried, pieces_tried, text_exceeds}
 use Rattle.snapshot_backup.proofs.Backups.{is_noted, stopped_at, not_noted, backed_up}
 use Rattle.snapshot_backup.proofs.backing_up.backup.Goals as goal
@@ -95,10 +95,7 @@ keep_skeleton-requires-clause-short g c =
     let bare : c.in_ok-walked.walked.text_len ≡ bare_len fs = c.in_ok-walked.ensures.text.0 ∙ ap bare_len (sym c.deref.ensures.value) in
     let kept = c.in-Ok.ensures.kept in
     subst (λ (es : List Entry). length (skeleton_text es) ≤ MOST_TEXT_BYTES) (sym kept.1)
-    (text_fits fs kept.0 c.in_ok-walked.walked.text_len _ kept.2 bare (omega (arith, c.in_ok-walked.ensures.text.1)) (fewer _ _ kept.1 c.in-Ok.ensures.fits))
-  where
-    fewer : (es : List Entry) (ps : List Place) {room : ℕ} → es ≡ skeleton_of_tree ps → length (refs_in es) ≤ room → length (refs_in (skeleton_of_tree ps)) ≤ room
-    fewer es ps is few = omega (arith, ap (λ (l : List Entry). length (refs_in l)) is, few)
+    (text_fits fs kept.0 c.in_ok-walked.walked.text_len _ kept.2 bare (omega (arith, c.in_ok-walked.ensures.text.1)) (refs_within _ _ kept.1 c.in-Ok.ensures.fits))
 
 pub returns-in-Err-keep_skeleton-clause-stopped : goal.returns-in-Err-keep_skeleton-clause-stopped
 returns-in-Err-keep_skeleton-clause-stopped g c = λ tells n k s.
@@ -168,7 +165,7 @@ returns-in-Ok-feed_own-clause-made g c =
     let v2 = g.D.Disk.view c.keep_skeleton.new.disk in
     let v3 = g.D.Disk.view c.feed_own.new.disk in
     let bare : c.in_ok-walked.walked.text_len ≡ bare_len fs = c.in_ok-walked.ensures.text.0 ∙ ap bare_len (sym c.deref.ensures.value) in
-    let short = text_fits fs places c.in_ok-walked.walked.text_len _ kept.2 bare (omega (arith, c.in_ok-walked.ensures.text.1)) (fewer _ _ kept.1 c.in-Ok.ensures.fits) in
+    let short = text_fits fs places c.in_ok-walked.walked.text_len _ kept.2 bare (omega (arith, c.in_ok-walked.ensures.text.1)) (refs_within _ _ kept.1 c.in-Ok.ensures.fits) in
     let so = so_then g.L.Log.holds g.L.Log.stands g.L.Log.size g.L.Log.keeps_body g.L.Log.is_broken g.met.L.Log.holds_stands c.args.node.now c.keep_places.new.node c.keep_skeleton.new.node v0 v1 v2 (pieces_of_files places) (pieces_of_levels most_levels (skeleton_text (skeleton_of_tree places))) true kept.4
     (subst (λ (es : List Entry). KeepsSo g.L.Log.holds g.L.Log.stands g.L.Log.size g.L.Log.keeps_body g.L.Log.is_broken c.keep_places.new.node c.keep_skeleton.new.node v1 v2 (pieces_of_levels most_levels (skeleton_text es)) true) kept.1 c.in-Ok-keep_skeleton.ensures.keeps) in (
       places,
@@ -179,9 +176,6 @@ returns-in-Ok-feed_own-clause-made g c =
           backed_up g.L.Log.holds g.L.Log.stands g.L.Log.size g.L.Log.keeps_body g.L.Log.is_broken g.met.L.Log.holds_stands c.args.node.now c.keep_skeleton.new.node c.feed_own.new.node v0 v2 v3 n places note (Snap note) refl so c.feed_own.ensures.works (λ told m known stored. c.in-Ok-feed_own.ensures.fed told m known stored) notes
           (is_skeleton root fs left found places kept.2) short tells k s,
     )
-  where
-    fewer : (es : List Entry) (ps : List Place) {room : ℕ} → es ≡ skeleton_of_tree ps → length (refs_in es) ≤ room → length (refs_in (skeleton_of_tree ps)) ≤ room
-    fewer es ps is few = omega (arith, ap (λ (l : List Entry). length (refs_in l)) is, few)
 
 pub returns-in-Ok-feed_own-clause-noted : goal.returns-in-Ok-feed_own-clause-noted
 returns-in-Ok-feed_own-clause-noted g c =
