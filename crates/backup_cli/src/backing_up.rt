@@ -10,7 +10,7 @@ ghost use Rattle.psb_machine.specs.Machine.{fresh};
 ghost use Rattle.node_core.specs.Stands.{HoldsHistory};
 ghost use Rattle.node_core.specs.Stored.{Knows, Stored};
 ghost use Rattle.snapshot_backup.specs.Backed.{ListsThenReads};
-ghost use Rattle.snapshot_backup.specs.Runs.{IsUp};
+ghost use Rattle.node_serve.specs.Spans.{IsUp};
 ghost use Rattle.backup_cli.specs.BackedUp.{BacksUpTo, BacksUpOn, status_of_node, status_of};
 ghost use Rattle.backup_cli.specs.Says.{Refuses};
 ghost use Rattle.backup_cli.specs.Served.{IsNode};

@@ -9,7 +9,7 @@ use Rattle.psb_machine.specs.Course.{Step, after_all, tellings, sent_in, said_in
 use Rattle.psb_machine.specs.Commands.{Turn}
 use Rattle.node_core.specs.declared.node.Node.{Node}
 use Rattle.node_core.specs.Stands.{ReopensTo}
-use Rattle.node_core.specs.Stored.{Knows, Stored}
+use Rattle.node_core.specs.Stored.{Knows, Stored, IsCounted}
 use Rattle.node_serve.specs.Sends.{ToldMore, AreSent, LostFor}
 use Rattle.node_serve.specs.Hears.{steps_of, clock_of, of_turns, Hears, End, AnswersAs, CameIn, EndsAs, is_fed}
 
@@ -37,6 +37,12 @@ pub record HasAll (stands : List Entry → List ℕ → Type 0) (n : Situation) 
 -- A node that may serve: it knows a situation, and where the disk tells its bytes, it holds its history.
 abbrev pub IsReady : {L : Type 0} → (L → List Entry → List ℕ → Type 0) → Node L → View → Type 0
 IsReady holds node v = (n : Situation) × Knows node n × (Tells_bytes v → Stored holds node n.history v)
+
+-- A node that may be fed: it is ready, its log is not broken, and it has a record for each change.
+pub record IsUp {L : Type 0} (holds : L → List Entry → List ℕ → Type 0) (size : L → ℕ) (keeps : L → ℕ → Bool) (broken : L → Bool) (node : Node L) (v : View) : Type 0 where
+  pub ready : IsReady holds node v
+  pub whole : broken node.log ≡ false
+  pub counted : IsCounted size keeps node
 
 -- no count falls
 pub record Counts (old new : View) : Type 0 where

@@ -210,7 +210,7 @@ pub fn turn<L: Log, S: Station>(
 }
 
 /// The ids of the peers, in the order of the settings.
-fn peers_of<L: Log>(alloc: Global, node: &Node<L>) -> Result<Items<PeerId>, Memory>
+pub fn peers_of<L: Log>(alloc: Global, node: &Node<L>) -> Result<Items<PeerId>, Memory>
     ensures ids { IfOk result (λ ids. ids ≡ peers_in node.now.ledger.state.settings) }
 {
     let mut ids = Vec::new(alloc);

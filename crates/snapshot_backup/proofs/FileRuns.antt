@@ -15,7 +15,8 @@ use Rattle.snapshots.specs.Tickets.{chunks_of, refs_of_text}
 use Rattle.snapshots.proofs.ChunkReads.{first_given}
 use Rattle.snapshots.proofs.Members.{by_cases}
 use Rattle.snapshot_backup.specs.Files.{IsFile, AreFirst, HasMore}
-use Rattle.snapshot_backup.specs.Runs.{IsUp, KeepsSo}
+use Rattle.node_serve.specs.Spans.{IsUp}
+use Rattle.snapshot_backup.specs.Runs.{KeepsSo}
 use Rattle.snapshot_backup.proofs.Fronts.{so_none, so_then, so_stopped}
 
 -- ---- what was read of the file

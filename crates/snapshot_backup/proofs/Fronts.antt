@@ -15,11 +15,11 @@ use Rattle.convergent_seal.specs.Sealing.{sealed, sealed_ref}
 use Rattle.node_core.specs.declared.node.Node.{Node}
 use Rattle.node_core.specs.Refusing.{is_refused, when_taken}
 use Rattle.node_core.specs.Stored.{Knows, Stored}
-use Rattle.node_serve.specs.Spans.{no_tally, IsReady, Fed}
+use Rattle.node_serve.specs.Spans.{no_tally, IsReady, Fed, IsUp}
 use Rattle.node_serve.proofs.Runs.{fed_none, fed_then, fed_as, uncounted, all_done}
 use Rattle.snapshot_backup.specs.Course.{keep_step, keep_steps}
 use Rattle.snapshot_backup.specs.Kept.{KeepsAll, Owns}
-use Rattle.snapshot_backup.specs.Runs.{IsUp, KeepsPieces, KeepsFront, KeepsSo}
+use Rattle.snapshot_backup.specs.Runs.{KeepsPieces, KeepsFront, KeepsSo}
 use Rattle.snapshot_backup.proofs.Keeping.{keeps_none, keeps_then, owns_none, owns_then, keeps_piece, owns_piece, held_brought}
 
 -- where a course of pieces leads

@@ -8,7 +8,7 @@ pub mod PlaceRuns
 pub mod TreeTexts
 pub mod NameSets
 pub mod LevelParts
-pub mod SkeletonCounts
+pub mod SkeletonNames
 pub mod Noted
 pub mod Meant
 pub mod NoteFits

@@ -10,13 +10,14 @@ use Rattle.convergent_seal.specs.Sealing.{sealed_ref}
 use Rattle.skeleton.specs.declared.entry.Entry.{Entry}
 use Rattle.skeleton.specs.declared.limits.TheConstants.{MOST_TEXT_BYTES}
 use Rattle.skeleton.specs.Texts.{skeleton_text, refs_text}
+use Rattle.snapshots.specs.Counts.{one_file, one_folder, its_bytes}
 use Rattle.snapshots.specs.Meaning.{Item, Folder, File, Place, refs_in}
 use Rattle.snapshots.specs.Tickets.{chunks_of, refs_of_text, one_of, ticket_from, most_levels, entry_of, skeleton_of_tree}
 use Rattle.snapshots.proofs.Levels.{count_few, next_long}
 use Rattle.snapshot_backup.specs.Backed.{Notes}
 use Rattle.snapshot_backup.specs.Course.{pieces_in, pieces_of_files, pieces_of_levels, pieces_of}
 use Rattle.snapshot_backup.specs.Kept.{names_of}
-use Rattle.snapshot_backup.specs.Naming.{names_in, one_file, one_folder, its_bytes}
+use Rattle.snapshot_backup.specs.Naming.{names_in}
 use Rattle.snapshot_backup.specs.Runs.{most_refs}
 use Rattle.snapshot_backup.proofs.LevelParts.{refs_named, named_both}
 

@@ -31,7 +31,8 @@ use Rattle.snapshots.proofs.Skeletons.{fits}
 use Rattle.snapshots.proofs.WalkTrees.{in_place}
 use Rattle.snapshot_backup.specs.Course.{pieces_in, pieces_of_files}
 use Rattle.snapshot_backup.specs.Files.{IsFront, IsFile, AreFirst, HasMore, AreFirstAt, HasMoreAt, AreFirstIn, HasMoreIn, IsReading, ReadsFiles}
-use Rattle.snapshot_backup.specs.Runs.{IsUp, KeepsSo}
+use Rattle.node_serve.specs.Spans.{IsUp}
+use Rattle.snapshot_backup.specs.Runs.{KeepsSo}
 use Rattle.snapshot_backup.proofs.Fronts.{so_none, so_untried, so_then}
 use Rattle.snapshot_backup.proofs.FileRuns.{so_cut}
 

@@ -1,11 +1,9 @@
--- The names of the pieces of a snapshot, and the counts of its skeleton.
+-- The names of the pieces of a snapshot.
 use Rattle.std.specs.Prelude.{ℕ, Bool, List, length, map}
 use Rattle.std.specs.Ordering.{nat_cmp}
 use Rattle.std.specs.Cmp.Lexicographic.{slice_cmp}
 use Rattle.std.specs.BTreeSet.{contains}
 use Rattle.psb_bytes.specs.declared.ids.Ref.{Ref}
-use Rattle.skeleton.specs.declared.entry.Entry.{Entry}
-use Rattle.skeleton.specs.declared.entry.EntryKind.TheVariants.{Folder, File}
 use Rattle.snapshot_backup.specs.declared.naming.Names.{Names}
 
 -- whether the name is among them
@@ -18,13 +16,3 @@ count_of names = length names.names.keys
 
 abbrev pub names_in : List Ref → List (List ℕ)
 names_in refs = map (λ (r : Ref). r.name) refs
-
--- what an entry adds to the counts of its tree
-abbrev pub one_file : Entry → ℕ
-one_file e = elim e.kind [ Folder ↦ 0 | File ↦ 1 ]
-
-abbrev pub one_folder : Entry → ℕ
-one_folder e = elim e.kind [ Folder ↦ 1 | File ↦ 0 ]
-
-abbrev pub its_bytes : Entry → ℕ
-its_bytes e = elim e.kind [ Folder ↦ 0 | File ↦ e.size ]

@@ -9,17 +9,11 @@ use Rattle.psb_machine.specs.Machine.{Situation, Keep}
 use Rattle.psb_machine.specs.Course.{after_all}
 use Rattle.node_core.specs.declared.fault.Fault.{Fault}
 use Rattle.node_core.specs.Refusing.{Refuses}
-use Rattle.node_core.specs.Stored.{Knows, Stored, IsCounted}
+use Rattle.node_core.specs.Stored.{Knows, Stored}
 use Rattle.node_core.specs.declared.node.Node.{Node}
-use Rattle.node_serve.specs.Spans.{IsReady, Fed}
+use Rattle.node_serve.specs.Spans.{IsUp, Fed}
 use Rattle.snapshot_backup.specs.Course.{keep_steps}
 use Rattle.snapshot_backup.specs.Kept.{KeepsAll, Owns}
-
--- a node that may be fed
-pub record IsUp {L : Type 0} (holds : L → List Entry → List ℕ → Type 0) (size : L → ℕ) (keeps : L → ℕ → Bool) (broken : L → Bool) (node : Node L) (v : View) : Type 0 where
-  pub ready : IsReady holds node v
-  pub whole : broken node.log ≡ false
-  pub counted : IsCounted size keeps node
 
 -- a run of calls of the disk, of which one failed exactly where the run says so
 pub record Ran (failed : Type 0) (old new : View) : Type 0 where

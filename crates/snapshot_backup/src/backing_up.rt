@@ -14,7 +14,8 @@ ghost use Rattle.snapshots.specs.Meaning.{Place};
 ghost use Rattle.snapshots.specs.Walks.{IsTooLarge};
 ghost use Rattle.snapshot_backup.specs.Backed.{Notes, BacksUp, StopsBackup, IsSnapOf, HasLongText, ListsThenReads, text_len, snapshot_of};
 ghost use Rattle.snapshot_backup.specs.Faults.{IsOfPieces};
-ghost use Rattle.snapshot_backup.specs.Runs.{IsUp, Ran, NoneAltered};
+ghost use Rattle.node_serve.specs.Spans.{IsUp};
+ghost use Rattle.snapshot_backup.specs.Runs.{Ran, NoneAltered};
 
 use crate::BackupFault;
 use crate::note::keep_skeleton;

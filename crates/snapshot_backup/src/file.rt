@@ -6,7 +6,8 @@ ghost use Rattle.snapshots.specs.Reading.{Reads};
 ghost use Rattle.snapshots.specs.Tickets.{chunks_of, refs_of_text};
 ghost use Rattle.snapshot_backup.specs.Faults.{FailsOfPiece};
 ghost use Rattle.snapshot_backup.specs.Files.{IsFile, AreFirst, HasMore};
-ghost use Rattle.snapshot_backup.specs.Runs.{IsUp, Ran, KeepsSo, NoneAltered, most_refs};
+ghost use Rattle.node_serve.specs.Spans.{IsUp};
+ghost use Rattle.snapshot_backup.specs.Runs.{Ran, KeepsSo, NoneAltered, most_refs};
 
 use crate::BackupFault;
 use crate::piece::keep_piece;

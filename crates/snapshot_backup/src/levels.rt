@@ -6,7 +6,8 @@ ghost use Rattle.psb_model.specs.Words.{name_listed};
 ghost use Rattle.snapshot_backup.specs.Course.{pieces_of_levels};
 ghost use Rattle.snapshot_backup.specs.Kept.{names_of};
 ghost use Rattle.snapshot_backup.specs.Naming.{has_name, count_of};
-ghost use Rattle.snapshot_backup.specs.Runs.{IsUp, Ran, KeepsSo, NoneAltered, RefusesPiece};
+ghost use Rattle.node_serve.specs.Spans.{IsUp};
+ghost use Rattle.snapshot_backup.specs.Runs.{Ran, KeepsSo, NoneAltered, RefusesPiece};
 
 use crate::naming::Names;
 use crate::text::keep_text;

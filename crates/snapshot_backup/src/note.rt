@@ -1,5 +1,5 @@
 //! The note of a snapshot.
-ghost use Rattle.std.specs.Prelude.{◌≡◌, ◌⊎◌, ◌≤◌, ◌+◌, ◌<◌, ◌^◌, ℕ, List, length, sum_by, true, is_ok, IfOk, OnErr};
+ghost use Rattle.std.specs.Prelude.{◌≡◌, ◌⊎◌, ◌≤◌, ◌<◌, ◌^◌, ℕ, List, length, true, is_ok, IfOk, OnErr};
 ghost use Rattle.psb_model.specs.Words.{name_listed};
 ghost use Rattle.skeleton.specs.declared.limits.TheConstants.{MOST_TEXT_BYTES};
 ghost use Rattle.skeleton.specs.Texts.{skeleton_text};
@@ -7,8 +7,9 @@ ghost use Rattle.snapshots.specs.Meaning.{Place, refs_in};
 ghost use Rattle.snapshots.specs.Tickets.{skeleton_of_tree, most_levels};
 ghost use Rattle.snapshot_backup.specs.Backed.{Notes};
 ghost use Rattle.snapshot_backup.specs.Course.{pieces_of_levels};
-ghost use Rattle.snapshot_backup.specs.Naming.{has_name, count_of, names_in, one_file, one_folder, its_bytes};
-ghost use Rattle.snapshot_backup.specs.Runs.{IsUp, Ran, KeepsSo, NoneAltered, RefusesPiece};
+ghost use Rattle.snapshot_backup.specs.Naming.{has_name, count_of, names_in};
+ghost use Rattle.node_serve.specs.Spans.{IsUp};
+ghost use Rattle.snapshot_backup.specs.Runs.{Ran, KeepsSo, NoneAltered, RefusesPiece};
 
 use crate::levels::keep_levels;
 use crate::naming::Names;
@@ -17,58 +18,12 @@ use node_journal::Log;
 use psb_bytes::Memory;
 use psb_machine::SnapNote;
 use psb_station::Disk;
-use skeleton::{Entry, EntryKind, Skeleton, WriteError, write_skeleton};
+use skeleton::{Entry, Skeleton, WriteError, write_skeleton};
+use snapshots::{Counts, count};
 use std::alloc::Global;
 
 /// How many lists of refs there are at most above a skeleton's text.
 const MOST_LEVELS: u8 = 4;
-
-/// The counts of a tree: its files, its folders and the bytes of its files.
-#[derive(Drop)]
-struct Counts {
-    files: u32,
-    folders: u32,
-    bytes: u64,
-}
-
-impl Counts {
-    /// Adds what an entry stands for.
-    fn add(&mut self, entry: &Entry)
-        requires files { self.old.files + one_file entry.now < 2 ^ 32 }
-        requires folders { self.old.folders + one_folder entry.now < 2 ^ 32 }
-        requires bytes { self.old.bytes + its_bytes entry.now < 2 ^ 64 }
-        ensures files { self.new.files ≡ self.old.files + one_file entry.now }
-        ensures folders { self.new.folders ≡ self.old.folders + one_folder entry.now }
-        ensures bytes { self.new.bytes ≡ self.old.bytes + its_bytes entry.now }
-    {
-        match entry.kind {
-            EntryKind::Folder => self.folders += 1,
-            EntryKind::File => {
-                self.files += 1;
-                self.bytes += entry.size;
-            }
-        }
-    }
-}
-
-/// The counts of the tree of these entries.
-fn count(entries: &[Entry]) -> Counts
-    requires few { length entries.now < 2 ^ 32 }
-    requires small { sum_by its_bytes entries.now < 2 ^ 64 }
-    ensures files { result.files ≡ sum_by one_file entries.now }
-    ensures folders { result.folders ≡ sum_by one_folder entries.now }
-    ensures bytes { result.bytes ≡ sum_by its_bytes entries.now }
-{
-    let mut counts = Counts {
-        files: 0,
-        folders: 0,
-        bytes: 0,
-    };
-    for entry in entries {
-        counts.add(entry);
-    }
-    counts
-}
 
 /// The names of the pieces of all files.
 fn name_files(alloc: Global, entries: &[Entry]) -> Result<Names, Memory>
@@ -103,13 +58,12 @@ pub(crate) fn keep_skeleton<L: Log, D: Disk>(
     ensures ran { Ran (result ≡ Err Fault.DiskFault) (D.view disk.old) (D.view disk.new) }
     ensures only { OnErr result ((result ≡ Err Fault.DiskFault) ⊎ (result ≡ Err Fault.Memory) ⊎ RefusesPiece result) }
 {
-    let entries = skeleton.entries();
     let Counts {
         files,
         folders,
         bytes,
-    } = count(entries);
-    let mut names = name_files(alloc, entries)?;
+    } = count(skeleton);
+    let mut names = name_files(alloc, skeleton.entries())?;
     let text = match write_skeleton(alloc, skeleton) {
         Ok(text) => text,
         Err(WriteError::Memory) => return Err(Fault::Memory),

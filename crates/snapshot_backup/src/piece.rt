@@ -2,7 +2,8 @@
 ghost use Rattle.std.specs.Prelude.{◌≡◌, ◌⊎◌, ◌≤◌, [], ◌∷◌, ◌++◌, true, length, is_ok, OnOk, OnErr};
 ghost use Rattle.psb_bytes.specs.Units.{longest_chunk};
 ghost use Rattle.convergent_seal.specs.Sealing.{sealed_ref};
-ghost use Rattle.snapshot_backup.specs.Runs.{IsUp, Ran, KeepsSo, NoneAltered, RefusesPiece};
+ghost use Rattle.node_serve.specs.Spans.{IsUp};
+ghost use Rattle.snapshot_backup.specs.Runs.{Ran, KeepsSo, NoneAltered, RefusesPiece};
 
 use convergent_seal::seal;
 use node_core::{Fault, Input, Node};

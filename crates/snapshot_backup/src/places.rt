@@ -10,7 +10,8 @@ ghost use Rattle.snapshot_backup.specs.Course.{pieces_in, pieces_of_files};
 ghost use Rattle.snapshots.specs.Shapes.{IsOf, AreOf, IsReadAt, AreRead};
 ghost use Rattle.snapshot_backup.specs.Faults.{FailsOfPiece};
 ghost use Rattle.snapshot_backup.specs.Files.{AreFirstAt, AreFirstIn, HasMoreAt, HasMoreIn, ReadsFiles};
-ghost use Rattle.snapshot_backup.specs.Runs.{IsUp, Ran, KeepsSo, NoneAltered, most_refs};
+ghost use Rattle.node_serve.specs.Spans.{IsUp};
+ghost use Rattle.snapshot_backup.specs.Runs.{Ran, KeepsSo, NoneAltered, most_refs};
 
 use crate::BackupFault;
 use crate::file::keep_file;

@@ -4,7 +4,8 @@ ghost use Rattle.psb_bytes.specs.Units.{longest_chunk};
 ghost use Rattle.convergent_seal.specs.Sealing.{sealed_ref};
 ghost use Rattle.rolling_chunks.specs.Laws.{part};
 ghost use Rattle.snapshots.specs.Tickets.{chunks_of, refs_of_text};
-ghost use Rattle.snapshot_backup.specs.Runs.{IsUp, Ran, KeepsSo, NoneAltered, RefusesPiece};
+ghost use Rattle.node_serve.specs.Spans.{IsUp};
+ghost use Rattle.snapshot_backup.specs.Runs.{Ran, KeepsSo, NoneAltered, RefusesPiece};
 
 use crate::piece::keep_piece;
 use node_core::{Fault, Node};

@@ -1,19 +1,25 @@
 -- What was read of a ticket is what it means, or two texts were met.
-use Rattle.std.proofs.Common.{◌≡◌, ◌⊎◌, inl, inr, ⊎_elim, ℕ, zero, suc, ◌+◌, Bool, true, false, ◌&&◌, ◌==◌, cond, List, [], ◌∷◌, ◌++◌, length, bytes_eq, Option, Some, None, Result, Ok, Err, refl, sym, ◌∙◌, ap, subst, arith}
-use Rattle.std.proofs.lemmas.Bool.{and_parts, false≢true}
+use Rattle.std.proofs.Common.{◌≡◌, ◌⊎◌, inl, inr, ⊎_elim, ℕ, zero, suc, ◌≤◌, ltb, Bool, true, false, ◌==◌, cond, List, [], ◌∷◌, ◌++◌, length, bytes_eq, Contains, Option, Some, None, Result, Ok, Err, refl, sym, ◌∙◌, ap, subst, arith, length-append}
+use Rattle.std.proofs.lemmas.Bool.{and_parts, false≢true, eqb-true, ltb-false}
+use Rattle.std.proofs.lemmas.List.Elements.{Contains-append_left, Contains-append_right}
+use Rattle.std.proofs.lemmas.List.Sums.{sum_by-cons}
 use Rattle.std.proofs.lemmas.Slice.Eq.{bytes_eq-Decides}
 use Rattle.psb_station.proofs.Spans.{same_some}
 use Rattle.psb_bytes.specs.declared.ids.Ref.{Ref}
-use Rattle.psb_bytes.specs.declared.ids.Ticket.{Ticket}
 use Rattle.psb_digest.specs.Hashes.{sha}
-use Rattle.convergent_seal.specs.Sealing.{opened}
+use Rattle.psb_digest.proofs.Streams.{length-masked_from}
+use Rattle.convergent_seal.specs.Sealing.{seal_key, opened}
 use Rattle.skeleton.specs.declared.entry.Entry.{Entry}
 use Rattle.skeleton.specs.declared.entry.EntryKind.{EntryKind}
 use Rattle.skeleton.specs.declared.entry.EntryKind.TheVariants as kind
-use Rattle.skeleton.specs.Reading.{skeleton_of, refs_of}
-use Rattle.snapshots.specs.Meaning.{Bodies, given, read, opens, plain_of, plains_of, text_behind, Item, Folder, File, Place, item_of, tree_of, means}
-use Rattle.snapshots.specs.Got.{Use, IsGot, AreGot, IsTextGot, IsItemGot, AreItemsGot, IsTreeGot, AreMet}
-use Rattle.snapshots.specs.GotLaws.{ReadsTheMeaning, ReadsTheTexts}
+use Rattle.skeleton.specs.declared.faults.SkelFault.TheVariants.{BadMark, TooLong}
+use Rattle.skeleton.specs.declared.limits.TheConstants.{SKELETON_MARK, REFS_MARK, MARK_BYTES, MOST_TEXT_BYTES}
+use Rattle.skeleton.specs.Entries.{total}
+use Rattle.skeleton.specs.Reading.{◌>>=◌, Unread, refused, bytes_at, refs_at, entries_at, marked, ended, skeleton_of, refs_of}
+use Rattle.skeleton.proofs.Found.{bind_ok, else_ok, found}
+use Rattle.snapshots.specs.Meaning.{Bodies, given, read, opens, plain_of, plains_of, text_behind, Item, Folder, File, Place, item_of, tree_of}
+use Rattle.snapshots.specs.Got.{Use, IsGot, AreGot, IsTextGot, IsBadGot, IsItemGot, AreItemsGot, AreMet}
+use Rattle.snapshots.specs.GotLaws.{ReadsTheMeaning, BadTextsAreMet}
 
 -- what is given comes of something
 from_given : {A B : Type 0} (o : Option A) (f : A → Option B) (y : B) → given o f ≡ Some y → (x : A) × (o ≡ Some x) × (f x ≡ Some y)
@@ -80,38 +86,22 @@ pieces_got bodies used (r ∷ rs) meant got is g =
 same_ok : {A F : Type 0} (r : Result A F) (x y : A) → r ≡ Ok x → r ≡ Ok y → x ≡ y
 same_ok r x y a b = cc
 
+-- a text behind a list: the list is there and can be read
+from_behind : (bodies : Bodies) (levels : ℕ) (refs : List Ref) (text : List ℕ) → text_behind bodies (suc levels) refs ≡ Some text
+    → (list : List ℕ) × (next : List Ref) × (plains_of bodies refs ≡ Some list) × (refs_of list ≡ Ok next) × (text_behind bodies levels next ≡ Some text)
+from_behind bodies levels refs text is =
+    let list = from_given (plains_of bodies refs) (λ l. given (read (refs_of l)) (λ next. text_behind bodies levels next)) text is in
+    let next = from_given (read (refs_of list.0)) (λ next. text_behind bodies levels next) text list.2 in
+    (list.0, next.0, list.1, from_read (refs_of list.0) next.0 next.1, next.2)
+
 text_got : (bodies : Bodies) (used : List Use) (levels : ℕ) (refs : List Ref) (meant got : List ℕ) → text_behind bodies levels refs ≡ Some meant → IsTextGot used levels refs got → (got ≡ meant) ⊎ AreMet bodies used
 text_got bodies used zero refs meant got is g = pieces_got bodies used refs meant got is g
 text_got bodies used (suc levels) refs meant got is g =
-    let list = from_given (plains_of bodies refs) (λ text. given (read (refs_of text)) (λ next. text_behind bodies levels next)) meant is in
-    let next = from_given (read (refs_of list.0)) (λ next. text_behind bodies levels next) meant list.2 in
+    let b = from_behind bodies levels refs meant is in
     ⊎_elim
-    (λ same. text_got bodies used levels next.0 meant got next.2
-    (subst (λ (rs : List Ref). IsTextGot used levels rs got) (same_ok (refs_of g.0) g.1 next.0 g.3 (ap refs_of same ∙ from_read (refs_of list.0) next.0 next.1)) g.4))
+    (λ same. text_got bodies used levels b.1 meant got b.4 (subst (λ (rs : List Ref). IsTextGot used levels rs got) (same_ok (refs_of g.0) g.1 b.1 g.3 (ap refs_of same ∙ b.3)) g.4))
     (λ met. inr met)
-    (pieces_got bodies used refs list.0 g.0 list.1 g.2)
-
--- the text in front of more lists is there and can be read
-front_text : (bodies : Bodies) (levels more n : ℕ) (refs : List Ref) (meant : List ℕ) → n ≡ levels + suc more → text_behind bodies n refs ≡ Some meant → (list : List ℕ) × (next : List Ref) × (text_behind bodies levels refs ≡ Some list) × (refs_of list ≡ Ok next)
-front_text bodies zero more n refs meant deep whole =
-    let count : n ≡ suc more = omega (arith, deep) in
-    let is : text_behind bodies (suc more) refs ≡ Some meant = subst (λ (k : ℕ). text_behind bodies k refs ≡ Some meant) count whole in
-    let list = from_given (plains_of bodies refs) (λ text. given (read (refs_of text)) (λ next. text_behind bodies more next)) meant is in
-    let next = from_given (read (refs_of list.0)) (λ next. text_behind bodies more next) meant list.2 in
-    (list.0, next.0, list.1, from_read (refs_of list.0) next.0 next.1)
-front_text bodies (suc levels) more n refs meant deep whole =
-    let count : n ≡ suc (levels + suc more) = omega (arith, deep) in
-    let is : text_behind bodies (suc (levels + suc more)) refs ≡ Some meant = subst (λ (k : ℕ). text_behind bodies k refs ≡ Some meant) count whole in
-    let list = from_given (plains_of bodies refs) (λ text. given (read (refs_of text)) (λ next. text_behind bodies (levels + suc more) next)) meant is in
-    let next = from_given (read (refs_of list.0)) (λ next. text_behind bodies (levels + suc more) next) meant list.2 in
-    let rest = front_text bodies levels more (levels + suc more) next.0 meant refl next.2 in (
-      rest.0,
-      rest.1,
-      ap (λ (o : Option (List ℕ)). given o (λ text. given (read (refs_of text)) (λ next. text_behind bodies levels next))) list.1
-          ∙ ap (λ (o : Option (List Ref)). given o (λ next. text_behind bodies levels next)) next.1
-          ∙ rest.2,
-      rest.3,
-    )
+    (pieces_got bodies used refs b.0 g.0 b.2 g.2)
 
 -- ---- the tree
 
@@ -152,19 +142,133 @@ reads_the_meaning bodies used t meant got is g =
     (λ met. inr met)
     (text_got bodies used t.levels (t.reference ∷ []) text.0 g.text text.1 g.behind)
 
-pub reads_the_texts : ReadsTheTexts
-reads_the_texts bodies used t meant levels text is g =
-    let behind = from_given (text_behind bodies t.levels (t.reference ∷ [])) (λ l. given (read (skeleton_of l)) (tree_of bodies)) meant is in
-    let entries = from_given (read (skeleton_of behind.0)) (tree_of bodies) meant behind.2 in (
-      λ more deep.
-          let front = front_text bodies levels more t.levels (t.reference ∷ []) behind.0 deep behind.1 in
-          ⊎_elim
-          (λ same. inl (front.1, ap refs_of same ∙ front.3))
-          (λ met. inr met)
-          (text_got bodies used levels (t.reference ∷ []) front.0 text front.2 g),
-      λ last.
-          ⊎_elim
-          (λ same. inl (entries.0, ap skeleton_of same ∙ from_read (skeleton_of behind.0) entries.0 entries.1))
-          (λ met. inr met)
-          (text_got bodies used levels (t.reference ∷ []) behind.0 text (subst (λ (n : ℕ). text_behind bodies n (t.reference ∷ []) ≡ Some behind.0) last behind.1) g),
+-- ---- how long the texts are
+
+-- what opens has the length of its ref
+pub opened_long : (r : Ref) (body : List ℕ) → opens r body ≡ true → length (opened r body) ≡ r.len
+opened_long r body is =
+    length-masked_from (seal_key r.handle) 0 0 body ∙ eqb-true (length body) r.len (and_parts (bytes_eq (sha body) r.name) (length body == r.len) is).1
+
+plains_long : (bodies : Bodies) (rs : List Ref) (text : List ℕ) → plains_of bodies rs ≡ Some text → length text ≡ total rs
+plains_long bodies [] text is = ap length (sym (same_some (Some []) [] text refl is))
+plains_long bodies (r ∷ rs) text is =
+    let front = from_given (plain_of bodies r) (λ front. given (plains_of bodies rs) (λ rest. Some (front ++ rest))) text is in
+    let rest = from_given (plains_of bodies rs) (λ rest. Some (front.0 ++ rest)) text front.2 in
+    let body = from_plain bodies r front.0 front.1 in
+    omega (
+      arith,
+      ap length (same_some (Some (front.0 ++ rest.0)) (front.0 ++ rest.0) text refl rest.2),
+      length-append front.0 rest.0,
+      ap length body.3,
+      opened_long r body.0 body.2,
+      plains_long bodies rs rest.0 rest.1,
+      sum_by-cons (λ (x : Ref). x.len) r rs,
     )
+
+-- a text that is read is short enough
+marked_short : (mark text : List ℕ) (u : Unread) → marked mark text ≡ Ok u → length text ≤ MOST_TEXT_BYTES
+unfolding marked
+marked_short mark text u e =
+    let start : Unread = record { place = 0; bytes = text } in
+    let tested = λ (front : List ℕ × Unread). cond (bytes_eq front.0 mark) (found front.1) (refused BadMark start) in
+    let g = else_ok (ltb MOST_TEXT_BYTES (length text)) (bytes_at MARK_BYTES start >>= tested) (record { fault = TooLong; place = 0 }) u e in
+    ltb-false _ _ g.0
+
+pub refs_text_short : (text : List ℕ) (refs : List Ref) → refs_of text ≡ Ok refs → length text ≤ MOST_TEXT_BYTES
+unfolding refs_of
+refs_text_short text refs e =
+    let b = bind_ok (marked REFS_MARK text) (λ (u : Unread). refs_at u >>= λ x. ended x) refs e in
+    marked_short REFS_MARK text b.0 b.1
+
+pub skeleton_text_short : (text : List ℕ) (entries : List Entry) → skeleton_of text ≡ Ok entries → length text ≤ MOST_TEXT_BYTES
+unfolding skeleton_of
+skeleton_text_short text entries e =
+    let b = bind_ok (marked SKELETON_MARK text) (λ (u : Unread). entries_at u >>= λ x. ended x) entries e in
+    marked_short SKELETON_MARK text b.0 b.1
+
+-- ---- texts that are none
+
+no_fault : {A F : Type 0} (r : Result A F) (x : A) (fault : F) → r ≡ Ok x → r ≡ Err fault → ⊥
+no_fault r x fault a b = cc
+
+bad_got : (bodies : Bodies) (used : List Use) (levels : ℕ) (refs : List Ref) (text : List ℕ) (entries : List Entry) → text_behind bodies levels refs ≡ Some text → skeleton_of text ≡ Ok entries → IsBadGot used levels refs → AreMet bodies used
+bad_got bodies used zero refs text entries is reads (inl long) =
+    absurd (omega (arith, long, plains_long bodies refs text is, skeleton_text_short text entries reads))
+bad_got bodies used zero refs text entries is reads (inr bad) =
+    ⊎_elim
+    (λ same. absurd (no_fault (skeleton_of bad.0) entries bad.1 (ap skeleton_of same ∙ reads) bad.3))
+    (λ met. met)
+    (pieces_got bodies used refs text bad.0 is bad.2)
+bad_got bodies used (suc levels) refs text entries is reads (inl long) =
+    let b = from_behind bodies levels refs text is in
+    absurd (omega (arith, long, plains_long bodies refs b.0 b.2, refs_text_short b.0 b.1 b.3))
+bad_got bodies used (suc levels) refs text entries is reads (inr (inl bad)) =
+    let b = from_behind bodies levels refs text is in
+    ⊎_elim
+    (λ same. absurd (no_fault (refs_of bad.0) b.1 bad.1 (ap refs_of same ∙ b.3) bad.3))
+    (λ met. met)
+    (pieces_got bodies used refs b.0 bad.0 b.2 bad.2)
+bad_got bodies used (suc levels) refs text entries is reads (inr (inr later)) =
+    let b = from_behind bodies levels refs text is in
+    ⊎_elim
+    (λ same. bad_got bodies used levels b.1 text entries b.4 reads (subst (IsBadGot used levels) (same_ok (refs_of later.0) later.1 b.1 later.3 (ap refs_of same ∙ b.3)) later.4))
+    (λ met. met)
+    (pieces_got bodies used refs b.0 later.0 b.2 later.2)
+
+pub bad_texts_are_met : BadTextsAreMet
+bad_texts_are_met bodies used t meant is bad =
+    let behind = from_given (text_behind bodies t.levels (t.reference ∷ [])) (λ text. given (read (skeleton_of text)) (tree_of bodies)) meant is in
+    let entries = from_given (read (skeleton_of behind.0)) (tree_of bodies) meant behind.2 in
+    bad_got bodies used t.levels (t.reference ∷ []) behind.0 entries.0 behind.1 (from_read (skeleton_of behind.0) entries.0 entries.1) bad
+
+-- ---- where more bodies were used
+
+piece_wider : (used wider : List Use) → ((u : Use) → Contains used u → Contains wider u) → (r : Ref) (plain : List ℕ) → IsGot used r plain → IsGot wider r plain
+piece_wider used wider all r plain g = record {
+  body = g.body;
+  used_for = all (record { name = r.name; body = g.body }) g.used_for;
+  opens_it = g.opens_it;
+  plain_is = g.plain_is;
+}
+
+got_wider : (used wider : List Use) → ((u : Use) → Contains used u → Contains wider u) → (refs : List Ref) (text : List ℕ) → AreGot used refs text → AreGot wider refs text
+got_wider used wider all [] text g = g
+got_wider used wider all (r ∷ rs) text g = (g.0, g.1, piece_wider used wider all r g.0 g.2, got_wider used wider all rs g.1 g.3, g.4)
+
+text_wider : (used wider : List Use) → ((u : Use) → Contains used u → Contains wider u) → (levels : ℕ) (refs : List Ref) (text : List ℕ) → IsTextGot used levels refs text → IsTextGot wider levels refs text
+text_wider used wider all zero refs text g = got_wider used wider all refs text g
+text_wider used wider all (suc levels) refs text g = (g.0, g.1, got_wider used wider all refs g.0 g.2, g.3, text_wider used wider all levels g.1 text g.4)
+
+item_wider : (used wider : List Use) → ((u : Use) → Contains used u → Contains wider u) → (k : EntryKind) (refs : List Ref) (item : Item) → IsItemGot used k refs item → IsItemGot wider k refs item
+item_wider used wider all kind.Folder refs item g = g
+item_wider used wider all kind.File refs item g = (g.0, got_wider used wider all refs g.0 g.1, g.2)
+
+items_wider : (used wider : List Use) → ((u : Use) → Contains used u → Contains wider u) → (es : List Entry) (places : List Place) → AreItemsGot used es places → AreItemsGot wider es places
+items_wider used wider all [] places g = g
+items_wider used wider all (e ∷ es) places g = (g.0, g.1, item_wider used wider all e.kind e.refs g.0 g.2, items_wider used wider all es g.1 g.3, g.4)
+
+-- behind the others
+pub got_more : (used more : List Use) (refs : List Ref) (text : List ℕ) → AreGot used refs text → AreGot (used ++ more) refs text
+got_more used more = got_wider used (used ++ more) (Contains-append_left used more)
+
+pub text_more : (used more : List Use) (levels : ℕ) (refs : List Ref) (text : List ℕ) → IsTextGot used levels refs text → IsTextGot (used ++ more) levels refs text
+text_more used more = text_wider used (used ++ more) (Contains-append_left used more)
+
+pub item_more : (used more : List Use) (k : EntryKind) (refs : List Ref) (item : Item) → IsItemGot used k refs item → IsItemGot (used ++ more) k refs item
+item_more used more = item_wider used (used ++ more) (Contains-append_left used more)
+
+pub items_more : (used more : List Use) (es : List Entry) (places : List Place) → AreItemsGot used es places → AreItemsGot (used ++ more) es places
+items_more used more = items_wider used (used ++ more) (Contains-append_left used more)
+
+-- and before them
+pub got_before : (used more : List Use) (refs : List Ref) (text : List ℕ) → AreGot used refs text → AreGot (more ++ used) refs text
+got_before used more = got_wider used (more ++ used) (Contains-append_right more used)
+
+pub text_before : (used more : List Use) (levels : ℕ) (refs : List Ref) (text : List ℕ) → IsTextGot used levels refs text → IsTextGot (more ++ used) levels refs text
+text_before used more = text_wider used (more ++ used) (Contains-append_right more used)
+
+pub item_before : (used more : List Use) (k : EntryKind) (refs : List Ref) (item : Item) → IsItemGot used k refs item → IsItemGot (more ++ used) k refs item
+item_before used more = item_wider used (more ++ used) (Contains-append_right more used)
+
+pub items_before : (used more : List Use) (es : List Entry) (places : List Place) → AreItemsGot used es places → AreItemsGot (more ++ used) es places
+items_before used more = items_wider used (more ++ used) (Contains-append_right more used)

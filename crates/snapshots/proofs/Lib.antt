@@ -3,12 +3,14 @@ pub mod GotReads
 pub mod Members
 pub mod Skeletons
 pub mod Levels
+pub mod SkeletonCounts
 pub mod PathSplits
 pub mod Seen
 pub mod WalkSteps
 pub mod WalkTurns
 pub mod WalkEnds
 pub mod WalkTrees
+pub mod GotTrees
 pub mod Written
 pub mod WalkPlaces
 pub mod ChunkLengths

@@ -1,6 +1,6 @@
 -- What is read of a ticket by the bodies that were used for the names of its places, whatever else stands under them
 -- elsewhere: a relation, where the meaning of a ticket is a function of a map of bodies.
-use Rattle.std.specs.Prelude.{◌≡◌, ℕ, zero, suc, true, List, [], ◌∷◌, ◌++◌, Contains, Some, Ok}
+use Rattle.std.specs.Prelude.{◌≡◌, ◌⊎◌, ℕ, zero, suc, ◌<◌, true, List, [], ◌∷◌, ◌++◌, Contains, Some, Ok, Err}
 use Rattle.psb_bytes.specs.declared.ids.Ref.{Ref}
 use Rattle.psb_bytes.specs.declared.ids.Ticket.{Ticket}
 use Rattle.psb_digest.specs.Hashes.{sha}
@@ -8,6 +8,9 @@ use Rattle.convergent_seal.specs.Sealing.{opened}
 use Rattle.skeleton.specs.declared.entry.Entry.{Entry}
 use Rattle.skeleton.specs.declared.entry.EntryKind.{EntryKind}
 use Rattle.skeleton.specs.declared.entry.EntryKind.TheVariants as kind
+use Rattle.skeleton.specs.declared.faults.FaultAt.{FaultAt}
+use Rattle.skeleton.specs.declared.limits.TheConstants.{MOST_TEXT_BYTES}
+use Rattle.skeleton.specs.Entries.{total}
 use Rattle.skeleton.specs.Reading.{skeleton_of, refs_of}
 use Rattle.snapshots.specs.Meaning.{Bodies, opens, Item, Folder, File, Place}
 
@@ -32,6 +35,14 @@ AreGot used (r ∷ rs) text = (front : List ℕ) × (rest : List ℕ) × IsGot u
 abbrev pub IsTextGot : List Use → ℕ → List Ref → List ℕ → Type 0
 IsTextGot used zero refs text = AreGot used refs text
 IsTextGot used (suc levels) refs text = (list : List ℕ) × (next : List Ref) × AreGot used refs list × (refs_of list ≡ Ok next) × IsTextGot used levels next text
+
+-- a text on the way is none: it would be too long, or it is outside the grammar
+abbrev pub IsBadGot : List Use → ℕ → List Ref → Type 0
+IsBadGot used zero refs = (MOST_TEXT_BYTES < total refs) ⊎ ((text : List ℕ) × (fault : FaultAt) × AreGot used refs text × (skeleton_of text ≡ Err fault))
+IsBadGot used (suc levels) refs =
+    (MOST_TEXT_BYTES < total refs)
+    ⊎ ((text : List ℕ) × (fault : FaultAt) × AreGot used refs text × (refs_of text ≡ Err fault))
+    ⊎ ((text : List ℕ) × (next : List Ref) × AreGot used refs text × (refs_of text ≡ Ok next) × IsBadGot used levels next)
 
 -- what stands at a path, and at the paths of all entries
 abbrev pub IsItemGot : List Use → EntryKind → List Ref → Item → Type 0

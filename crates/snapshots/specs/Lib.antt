@@ -1,6 +1,7 @@
 pub mod Meaning
 pub mod Tickets
 pub mod Trees
+pub mod Counts
 pub mod Laws
 pub mod Got
 pub mod GotLaws

@@ -1,6 +1,6 @@
 //! The laws of tickets, of trees, of walks and of readers.
 ghost use Rattle.snapshots.specs.Laws.{TicketMeansItsTree, TreesAreInPlace, PlacesHaveSkeletons, TreesHaveTickets};
-ghost use Rattle.snapshots.specs.GotLaws.{ReadsTheMeaning, ReadsTheTexts};
+ghost use Rattle.snapshots.specs.GotLaws.{ReadsTheMeaning, BadTextsAreMet, ReadTreesAreInPlace, ReadTreesAreCounted};
 ghost use Rattle.snapshots.specs.Reading.{EndedReadersGaveAll, ReadersGiveFirstChunks, ReadersReadOnePieceAhead};
 ghost use Rattle.snapshots.specs.Writing.{EmptyFoldersAreBare, WritingsAreTrees, WritingsStayBelow};
 ghost use Rattle.snapshots.specs.Shapes.{WalksHavePlaces, SkeletonsAreAsLong, WalksAreInPlace, WalksFindTrees};
@@ -18,9 +18,20 @@ pub fn reads_the_meaning()
     ensures { ReadsTheMeaning }
 {}
 
-/// So are the texts on the way: none of them is outside the grammar, or two such texts were met.
-pub fn reads_the_texts()
-    ensures { ReadsTheTexts }
+/// Over bodies over which the ticket means something, a text on the way that is too long, or outside the
+/// grammar, was read only where two such texts were met.
+pub fn bad_texts_are_met()
+    ensures { BadTextsAreMet }
+{}
+
+/// A tree that was read of a ticket is in place, whatever bodies were used.
+pub fn read_trees_are_in_place()
+    ensures { ReadTreesAreInPlace }
+{}
+
+/// The entries that were read count the files, the folders and the bytes of that tree.
+pub fn read_trees_are_counted()
+    ensures { ReadTreesAreCounted }
 {}
 
 /// What stands below a folder, in the order of the paths, is in place: each behind the folders that it

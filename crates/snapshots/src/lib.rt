@@ -1,7 +1,8 @@
-//! Snapshots: what a ticket means, the ticket of a tree, the walk that finds a tree, and the chunks of its
-//! files as they are read.
+//! Snapshots: what a ticket means, the ticket of a tree and its counts, the walk that finds a tree, and
+//! the chunks of its files as they are read.
 #![tactic(auto)]
 
+mod counting;
 mod gathering;
 mod laws;
 mod paths;
@@ -11,9 +12,11 @@ mod unread;
 mod walking;
 mod writing;
 
+pub use counting::{Counts, count};
 pub use laws::{
-    a_ticket_means_its_tree, empty_folders_are_bare, ended_readers_gave_all, places_have_skeletons,
-    readers_give_first_chunks, readers_read_one_piece_ahead, reads_the_meaning, reads_the_texts,
+    a_ticket_means_its_tree, bad_texts_are_met, empty_folders_are_bare, ended_readers_gave_all,
+    places_have_skeletons, read_trees_are_counted, read_trees_are_in_place,
+    readers_give_first_chunks, readers_read_one_piece_ahead, reads_the_meaning,
     skeletons_are_as_long, trees_are_in_place, trees_have_tickets, walks_are_in_place,
     walks_find_trees, walks_have_places, writings_are_trees, writings_stay_below,
 };

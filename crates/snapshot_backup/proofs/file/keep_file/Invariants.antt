@@ -1,6 +1,6 @@
 use Rattle.std.proofs.Common.{◌≡◌, ◌≤◌, ◌+◌, ◌*◌}
 use Rattle.snapshots.specs.Reading.{Reads}
-use Rattle.snapshot_backup.specs.Runs.{IsUp}
+use Rattle.node_serve.specs.Spans.{IsUp}
 use Rattle.snapshot_backup.proofs.FileRuns.{KeepsFile}
 use Rattle.snapshot_backup.proofs.file.keep_file.Given as goal
 

@@ -1,4 +1,4 @@
-use Rattle.std.proofs.Common.{◌≤◌, ◌<◌, ◌^◌, ◌||◌, ℕ, List, length, sum_by, true, false, sym, ◌∙◌, ap, subst}
+use Rattle.std.proofs.Common.{◌≤◌, ◌||◌, ℕ, List, length, true, false, sym, ◌∙◌, ap, subst}
 use Rattle.psb_model.specs.Words.{name_listed}
 use Rattle.psb_machine.specs.declared.snap_note.SnapNote.{SnapNote}
 use Rattle.node_core.specs.declared.fault.Fault.TheVariants.{Altered}
@@ -11,18 +11,12 @@ use Rattle.snapshots.specs.Tickets.{ticket_from, most_levels}
 use Rattle.snapshots.proofs.Levels.{text_has_ticket}
 use Rattle.snapshot_backup.specs.Course.{pieces_of_levels}
 use Rattle.snapshot_backup.specs.Kept.{names_of}
-use Rattle.snapshot_backup.specs.Naming.{count_of, names_in, one_file, one_folder, its_bytes}
+use Rattle.snapshot_backup.specs.Naming.{count_of, names_in}
 use Rattle.snapshot_backup.proofs.Fronts.{so_untried, so_not_ok}
 use Rattle.snapshot_backup.proofs.LevelParts.{levels_as, levels_then_not}
-use Rattle.snapshot_backup.proofs.SkeletonCounts.{few_entries, few_bytes, few_refs}
+use Rattle.snapshot_backup.proofs.SkeletonNames.{few_refs}
 use Rattle.snapshot_backup.proofs.Noted.{noted, few_names}
 use Rattle.snapshot_backup.proofs.note.keep_skeleton.Goals as goal
-
-pub count-files-requires-clause-few : goal.count-files-requires-clause-few
-count-files-requires-clause-few g c = subst (λ (es : List Entry). length es < 2 ^ 32) (sym c.entries-entries.ensures.all) (few_entries c.args.skeleton.now c.entries-entries.ensures.skeleton c.requires.short)
-
-pub count-files-requires-clause-small : goal.count-files-requires-clause-small
-count-files-requires-clause-small g c = subst (λ (es : List Entry). sum_by its_bytes es < 2 ^ 64) (sym c.entries-entries.ensures.all) (few_bytes c.args.skeleton.now c.entries-entries.ensures.skeleton c.requires.short)
 
 pub returns-in_err-names-clause-keeps : goal.returns-in_err-names-clause-keeps
 returns-in_err-names-clause-keeps g c =
@@ -55,13 +49,13 @@ returns-clause-note g c =
     let is = (c.deref.ensures.value ∙ c.in-Ok.ensures.exact) in
     noted c.args.skeleton.now note
     (ap (ticket_from most_levels) (sym is) ∙ c.in-Ok-keep_levels.ensures.ticket)
-    (c.count-files.ensures.files ∙ ap (sum_by one_file) c.entries-entries.ensures.all)
-    (c.count-files.ensures.folders ∙ ap (sum_by one_folder) c.entries-entries.ensures.all)
-    (c.count-files.ensures.bytes ∙ ap (sum_by its_bytes) c.entries-entries.ensures.all)
+    c.count-files.ensures.files
+    c.count-files.ensures.folders
+    c.count-files.ensures.bytes
     c.in_ok-list.ensures.ascend
     (λ q.
     c.in_ok-list.ensures.same q ∙ c.in-Ok-keep_levels.ensures.names q
-    ∙ ap (λ b. b || name_listed (names_of (pieces_of_levels most_levels c.deref.result.now)) q) (c.in_ok-names.ensures.names q ∙ ap (λ (es : List Entry). name_listed (names_in (refs_in es)) q) c.entries-entries.ensures.all)
+    ∙ ap (λ b. b || name_listed (names_of (pieces_of_levels most_levels c.deref.result.now)) q) (c.in_ok-names.ensures.names q ∙ ap (λ (es : List Entry). name_listed (names_in (refs_in es)) q) c.entries.ensures.all)
     ∙ ap (λ (t : List ℕ). name_listed (names_in (refs_in c.args.skeleton.now)) q || name_listed (names_of (pieces_of_levels most_levels t)) q) is)
 
 pub returns-clause-few : goal.returns-clause-few
@@ -69,6 +63,6 @@ returns-clause-few g c =
     subst (λ (n : ℕ). n ≤ 1048576) (sym c.in_ok-list.ensures.count)
     (few_names c.deref.result.now (length (refs_in c.args.skeleton.now)) (count_of c.in_ok-names.names) (count_of c.keep_levels.new.names)
     (subst (λ (t : List ℕ). length t ≤ MOST_TEXT_BYTES) (sym (c.deref.ensures.value ∙ c.in-Ok.ensures.exact)) c.requires.short)
-    (few_refs c.args.skeleton.now c.entries-entries.ensures.skeleton c.requires.short)
-    (subst (λ (es : List Entry). count_of c.in_ok-names.names ≤ length (refs_in es)) c.entries-entries.ensures.all c.in_ok-names.ensures.count)
+    (few_refs c.args.skeleton.now c.entries.ensures.skeleton c.requires.short)
+    (subst (λ (es : List Entry). count_of c.in_ok-names.names ≤ length (refs_in es)) c.entries.ensures.all c.in_ok-names.ensures.count)
     c.in-Ok-keep_levels.ensures.count)

@@ -1,7 +1,7 @@
 use Rattle.std.proofs.Common.{◌∙◌, ap}
 use Rattle.skeleton.specs.declared.entry.Entry.{Entry}
 use Rattle.snapshot_backup.specs.Naming.{has_name, count_of}
-use Rattle.snapshot_backup.proofs.SkeletonCounts.{names_next, count_next}
+use Rattle.snapshot_backup.proofs.SkeletonNames.{names_next, count_next}
 use Rattle.snapshot_backup.proofs.note.name_files.Goals as goal
 
 pub loop-entry-preserved : goal.loop-entry-preserved

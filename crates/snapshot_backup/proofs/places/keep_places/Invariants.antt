@@ -1,6 +1,6 @@
 use Rattle.std.proofs.Common.{◌≡◌, ◌≤◌, take}
 use Rattle.snapshot_backup.specs.Files.{ReadsFiles}
-use Rattle.snapshot_backup.specs.Runs.{IsUp}
+use Rattle.node_serve.specs.Spans.{IsUp}
 use Rattle.snapshot_backup.proofs.PlaceRuns.{KeepsPlaces}
 use Rattle.snapshot_backup.proofs.places.keep_places.Given as goal
 

@@ -1,0 +1,16 @@
+pub mod Results
+pub mod Asking
+pub mod Listening
+pub mod Rounds
+pub mod Courses
+pub mod Awaiting
+pub mod Fetches
+pub mod Lists
+pub mod Taking
+pub mod TextRuns
+pub mod LevelRuns
+pub mod AppendRuns
+pub mod EntryRuns
+pub mod TreeRuns
+pub mod GotTaken
+pub mod Restores

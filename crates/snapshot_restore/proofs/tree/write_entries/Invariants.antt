@@ -1,0 +1,13 @@
+use Rattle.std.proofs.Common.{take}
+use Rattle.node_serve.specs.Spans.{IsUp}
+use Rattle.snapshot_restore.specs.Faults.{Neither, Faults, FolderCounts}
+use Rattle.snapshot_restore.specs.Written.{WritesAll}
+use Rattle.snapshot_restore.proofs.tree.write_entries.Given as goal
+
+abbrev pub invariant-loop-entry : goal.invariant-loop-entry
+invariant-loop-entry g l = record {
+  so_far : WritesAll g.L.Log.holds g.L.Log.stands g.L.Log.is_broken l.fn.waiting l.waiting l.fn.node l.node (g.S.Disk.view l.fn.station) (g.S.Disk.view l.station) l.root (g.F.Folder.view l.fn.folder) (g.F.Folder.view l.folder) (take l.entry-index l.entries);
+  up : IsUp g.L.Log.holds g.L.Log.size g.L.Log.keeps_body g.L.Log.is_broken l.node (g.S.Disk.view l.station);
+  faults : Faults Neither (g.S.Disk.view l.fn.station) (g.S.Disk.view l.station);
+  folder_faults : FolderCounts Neither (g.F.Folder.view l.fn.folder).folder_faults (g.F.Folder.view l.folder).folder_faults;
+}

@@ -1,0 +1,9 @@
+pub mod Answers
+pub mod Course
+pub mod Taken
+pub mod Faults
+pub mod Fetching
+pub mod Reading
+pub mod StoppedTexts
+pub mod Written
+pub mod Restored
