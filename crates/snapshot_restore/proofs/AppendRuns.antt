@@ -14,7 +14,7 @@ use Rattle.node_serve.proofs.Tries.{grows_none, grows_then}
 use Rattle.snapshots.specs.Writing.{Adds, Writes, file_at}
 use Rattle.snapshot_restore.specs.Taken.{Taken, taken_refs, taken_text}
 use Rattle.snapshot_restore.specs.Fetching.{Stops}
-use Rattle.snapshot_restore.specs.Written.{appends, TriesFirst, AppendsAll, StopsAppending}
+use Rattle.snapshot_restore.specs.Written.{appends, TriesFirst, AppendsAll, IsAppended, StopsAppending}
 use Rattle.snapshot_restore.specs.declared.fault.RestoreFault.{RestoreFault}
 use Rattle.snapshot_restore.specs.declared.fault.RestoreFault.TheVariants as restore_fault
 use Rattle.snapshot_restore.specs.declared.waiting.Waiting.{Waiting}
@@ -77,6 +77,16 @@ one_more ts t before r are is = refs-append ts (t ∷ []) ∙ ap (λ (l : List R
 text_more : (ts : List Taken) (t : Taken) (plain : List ℕ) → plain ≡ opened t.reference t.body → taken_text (ts ++ t ∷ []) ≡ taken_text ts ++ plain
 text_more ts t plain is = text-append ts (t ∷ []) ∙ ap (λ (l : List ℕ). taken_text ts ++ l) (append-nil (opened t.reference t.body) ∙ sym is)
 
+none_left : (e : RestoreFault) → IsAppended e []
+none_left (restore_fault.Node f) = refl
+none_left restore_fault.Link = refl
+none_left restore_fault.Folder = tt
+none_left restore_fault.NotEmpty = refl
+none_left (restore_fault.Missing name) = refl
+none_left (restore_fault.Altered name got) = refl
+none_left (restore_fault.BadSkeleton f place) = refl
+none_left restore_fault.Memory = refl
+
 module _ {L : Type 0} (holds : L → List Entry → List ℕ → Type 0) (stands : List Entry → List ℕ → Type 0) (broken : L → Bool) (law : (log : L) (es : List Entry) (c : List ℕ) → holds log es c → stands es c) where
   pub appends_none : (w : Waiting) (node : Node L) (v : View) (f : FolderView) (at : List ℕ) → broken node.log ≡ false → AppendsAll holds stands broken w w node node v v f f at []
   appends_none w node v f at sound = record {
@@ -109,6 +119,7 @@ module _ {L : Type 0} (holds : L → List Entry → List ℕ → Type 0) (stands
     added = taken_text so.ts;
     left = [];
     text_is = sym (append-nil (taken_text so.ts));
+    appended = none_left e;
     adds = so.adds;
     tries = tries_front f0 f1 at before (r ∷ after) so.grown;
   }
@@ -129,6 +140,7 @@ module _ {L : Type 0} (holds : L → List Entry → List ℕ → Type 0) (stands
         added = taken_text so.ts ++ part.added;
         left = part.left;
         text_is = text_more so.ts f.0 plain f.2 ∙ ap (λ (l : List ℕ). taken_text so.ts ++ l) part.parts ∙ sym (append_assoc (taken_text so.ts) part.added part.left);
+        appended = tt;
         adds = adds_then f0 f1 f2 at (taken_text so.ts) part.added so.adds part.adds;
         tries = subst (λ (l : List Ref). TriesFirst f0 f2 (appends at l)) (sym whole) (tries_front f0 f2 at (before ++ r ∷ []) after (appends_more f0 f1 f2 at before r so.grown t));
       }

@@ -71,7 +71,7 @@ module _ {L : Type 0} (holds : L → List ARecord → List ℕ → Type 0) (stan
     parts = refl;
     stops = stops_none holds stands broken law w node v (refs_of_entry e.kind e.refs) (of_writing fault) sound (writing_quiet fault);
     places = [];
-    begun = inl refl;
+    begun = inl (refl, refl);
     writes = writes;
     tries = tries_or_none f0 f1 (making e.kind (child root e.path)) (appends (child root e.path) (refs_of_entry e.kind e.refs)) fault failed idle;
   }
@@ -115,7 +115,7 @@ module _ {L : Type 0} (holds : L → List ARecord → List ℕ → Type 0) (stan
         parts = sym all ∙ s.parts;
         stops = s.stops;
         places = file_at e.path s.added ∷ [];
-        begun = inr (s.added, s.left, s.text_is, sym (ap (λ (k : EntryKind). item_at e (item_begun k s.added) ∷ []) is));
+        begun = inr (s.added, s.left, s.text_is, s.appended, sym (ap (λ (k : EntryKind). item_at e (item_begun k s.added) ∷ []) is));
         writes = file_added root f0 f1 f2 e s.added is writes (λ w. s.adds root e.path [] f0 [] refl w);
         tries = subst (λ (l : List Ref). TriesFirst f0 f2 (making e.kind at ∷ appends at l)) all (tries_behind f0 f1 f2 (making e.kind at) (appends at e.refs) t s.tries);
       }

@@ -156,7 +156,7 @@ module _ {L : Type 0} (holds : L → List ARecord → List ℕ → Type 0) (stan
   }
 
   below_stopped : (w0 w1 : Waiting) (n0 n1 : Node L) (v0 v1 : View) (was is : FolderView) (t : Ticket) (root : List ℕ) (turns : ℕ) (ts : List Taken) (next : List Ref) (e : RestoreFault) (places : List Place) → IsFresh w0 n0 turns → AreNext t ts next → IsBadBy t.levels (t.reference ∷ []) ts e
-      → Stops holds stands broken w0 w1 n0 n1 v0 v1 ts next e → Writes root was is places → IsLeft t root [] ts was is places → StopsBelow holds stands broken n0 n1 v0 v1 was is t root turns [] e
+      → Stops holds stands broken w0 w1 n0 n1 v0 v1 ts next e → Writes root was is places → IsLeft t root [] ts was is places e → StopsBelow holds stands broken n0 n1 v0 v1 was is t root turns [] e
   below_stopped w0 w1 n0 n1 v0 v1 was is t root turns ts next e places fresh inside bad s writes left = record {
     leaves = record {
       ts = ts;
@@ -257,8 +257,8 @@ module _ {L : Type 0} (holds : L → List ARecord → List ℕ → Type 0) (stan
     grown = grows_then was.folder_calls mid.folder_calls is.folder_calls (Listing root ∷ []) f.tried tries.calls f.grown;
   }
 
-  left_behind : (was mid is : FolderView) (t : Ticket) (root : List ℕ) (ts : List Taken) (places : List Place) → Tries (Listing root) was mid → IsLeft t root [] ts mid is places → IsLeft t root (Listing root ∷ []) ts was is places
-  left_behind was mid is t root ts places tries left = ⊎_elim
+  left_behind : (was mid is : FolderView) (t : Ticket) (root : List ℕ) (ts : List Taken) (places : List Place) (e : RestoreFault) → Tries (Listing root) was mid → IsLeft t root [] ts mid is places e → IsLeft t root (Listing root ∷ []) ts was is places e
+  left_behind was mid is t root ts places e tries left = ⊎_elim
       (λ none. inl (none.0, tries_behind was mid is root [] tries none.1))
       (λ part. inr (record {
         texts = part.texts;
@@ -305,7 +305,7 @@ module _ {L : Type 0} (holds : L → List ARecord → List ℕ → Type 0) (stan
             spends = l.spends;
             places = l.places;
             writes = behind_look was mid is root l.places same tries l.writes;
-            left = left_behind was mid is t root l.ts l.places tries l.left;
+            left = left_behind was mid is t root l.ts l.places e tries l.left;
           };
           run = s.run;
           unbroken = s.unbroken;

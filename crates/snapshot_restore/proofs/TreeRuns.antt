@@ -140,7 +140,8 @@ module _ {L : Type 0} (holds : L → List ARecord → List ℕ → Type 0) (stan
         places = so.places ++ s.places;
         begun = record {
           front = before;
-          behind = e ∷ after;
+          e = e;
+          behind = after;
           entries_are = refl;
           whole = so.ts;
           part = s.ts;

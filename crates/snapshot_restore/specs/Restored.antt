@@ -85,7 +85,7 @@ pub record Restores {L : Type 0} (holds : L → List ARecord → List ℕ → Ty
 -- ---- what was left
 
 -- the first entries of the skeleton that was read stand there, the last of them perhaps in part
-pub record IsWrittenInPart (t : Ticket) (root : List ℕ) (front : List FolderCall) (ts : List Taken) (was is : FolderView) (places : List Place) : Type 0 where
+pub record IsWrittenInPart (t : Ticket) (root : List ℕ) (front : List FolderCall) (ts : List Taken) (was is : FolderView) (places : List Place) (e : RestoreFault) : Type 0 where
   pub texts : List Taken
   pub files : List Taken
   pub text : List ℕ
@@ -93,12 +93,12 @@ pub record IsWrittenInPart (t : Ticket) (root : List ℕ) (front : List FolderCa
   pub parts : ts ≡ texts ++ files
   pub reads_text : IsTextRead t.levels (t.reference ∷ []) texts text
   pub reads : skeleton_of text ≡ Ok entries
-  pub begun : AreBegun entries files places
+  pub begun : AreBegun e entries files places
   pub tries : TriesFirst was is (front ++ entries_calls root entries)
 
 -- or the skeleton was not read, and nothing was made
-abbrev pub IsLeft : Ticket → List ℕ → List FolderCall → List Taken → FolderView → FolderView → List Place → Type 0
-IsLeft t root front ts was is places = ((places ≡ []) × TriesFirst was is front) ⊎ IsWrittenInPart t root front ts was is places
+abbrev pub IsLeft : Ticket → List ℕ → List FolderCall → List Taken → FolderView → FolderView → List Place → RestoreFault → Type 0
+IsLeft t root front ts was is places e = ((places ≡ []) × TriesFirst was is front) ⊎ IsWrittenInPart t root front ts was is places e
 
 -- The bodies of the first places in the order of reading were taken, and then it stopped.
 pub record LeavesTree (was is : FolderView) (t : Ticket) (root : List ℕ) (turns : ℕ) (front : List FolderCall) (e : RestoreFault) : Type 0 where
@@ -111,7 +111,7 @@ pub record LeavesTree (was is : FolderView) (t : Ticket) (root : List ℕ) (turn
   pub spends : Spends turns next last e
   pub places : List Place
   pub writes : Writes root was is places
-  pub left : IsLeft t root front ts was is places
+  pub left : IsLeft t root front ts was is places e
 
 pub record StopsBelow {L : Type 0} (holds : L → List ARecord → List ℕ → Type 0) (stands : List ARecord → List ℕ → Type 0) (broken : L → Bool) (old new : Node L) (before now : View) (was is : FolderView) (t : Ticket) (root : List ℕ) (turns : ℕ) (front : List FolderCall) (e : RestoreFault) : Type 0 where
   pub leaves : LeavesTree was is t root turns front e

@@ -15,6 +15,7 @@ use Rattle.snapshot_restore.specs.Taken.{Taken, taken_refs, taken_text}
 use Rattle.snapshot_restore.specs.Fetching.{Takes, Stops}
 use Rattle.snapshot_restore.specs.Reading.{refs_of_entry, refs_of_files, item_read, AreItemsRead}
 use Rattle.snapshot_restore.specs.declared.fault.RestoreFault.{RestoreFault}
+use Rattle.snapshot_restore.specs.declared.fault.RestoreFault.TheVariants as restore_fault
 use Rattle.snapshot_restore.specs.declared.waiting.Waiting.{Waiting}
 
 -- ---- the calls of the folder
@@ -47,6 +48,17 @@ pub record AppendsAll {L : Type 0} (holds : L → List ARecord → List ℕ → 
   pub adds : Adds was is at (taken_text ts)
   pub grown : Grows was.folder_calls is.folder_calls (appends at refs)
 
+-- what was taken was appended, unless the folder failed at it
+abbrev pub IsAppended : RestoreFault → List ℕ → Type 0
+IsAppended (restore_fault.Node f) left = left ≡ []
+IsAppended restore_fault.Link left = left ≡ []
+IsAppended restore_fault.Folder left = Unit {0}
+IsAppended restore_fault.NotEmpty left = left ≡ []
+IsAppended (restore_fault.Missing name) left = left ≡ []
+IsAppended (restore_fault.Altered name got) left = left ≡ []
+IsAppended (restore_fault.BadSkeleton f place) left = left ≡ []
+IsAppended restore_fault.Memory left = left ≡ []
+
 -- some first bytes of those that were taken were appended
 pub record StopsAppending {L : Type 0} (holds : L → List ARecord → List ℕ → Type 0) (stands : List ARecord → List ℕ → Type 0) (broken : L → Bool) (w0 w1 : Waiting) (old new : Node L) (before now : View) (was is : FolderView) (at : List ℕ) (refs : List Ref) (e : RestoreFault) : Type 0 where
   pub ts : List Taken
@@ -56,6 +68,7 @@ pub record StopsAppending {L : Type 0} (holds : L → List ARecord → List ℕ 
   pub added : List ℕ
   pub left : List ℕ
   pub text_is : taken_text ts ≡ added ++ left
+  pub appended : IsAppended e left
   pub adds : Adds was is at added
   pub tries : TriesFirst was is (appends at refs)
 
@@ -73,11 +86,11 @@ abbrev pub item_begun : EntryKind → List ℕ → Item
 item_begun kind.Folder bytes = Folder
 item_begun kind.File bytes = File bytes
 
--- nothing stands there yet, or the entry with some first bytes of those that were taken for it
-abbrev pub IsBegun : Entry → List Taken → List Place → Type 0
-IsBegun e ts places =
-    (places ≡ [])
-    ⊎ ((bytes : List ℕ) × (left : List ℕ) × (taken_text ts ≡ bytes ++ left) × (places ≡ record { path = e.path; item = item_begun e.kind bytes } ∷ []))
+-- nothing was taken for it and nothing stands there, or the entry with the first bytes of those that were taken for it
+abbrev pub IsBegun : RestoreFault → Entry → List Taken → List Place → Type 0
+IsBegun fault e ts places =
+    ((ts ≡ []) × (places ≡ []))
+    ⊎ ((bytes : List ℕ) × (left : List ℕ) × (taken_text ts ≡ bytes ++ left) × IsAppended fault left × (places ≡ record { path = e.path; item = item_begun e.kind bytes } ∷ []))
 
 pub record StopsEntry {L : Type 0} (holds : L → List ARecord → List ℕ → Type 0) (stands : List ARecord → List ℕ → Type 0) (broken : L → Bool) (w0 w1 : Waiting) (old new : Node L) (before now : View) (root : List ℕ) (was is : FolderView) (e : Entry) (fault : RestoreFault) : Type 0 where
   pub ts : List Taken
@@ -85,7 +98,7 @@ pub record StopsEntry {L : Type 0} (holds : L → List ARecord → List ℕ → 
   pub parts : refs_of_entry e.kind e.refs ≡ taken_refs ts ++ next
   pub stops : Stops holds stands broken w0 w1 old new before now ts next fault
   pub places : List Place
-  pub begun : IsBegun e ts places
+  pub begun : IsBegun fault e ts places
   pub writes : Writes root was is places
   pub tries : TriesFirst was is (entry_calls root e)
 
@@ -99,16 +112,12 @@ pub record WritesAll {L : Type 0} (holds : L → List ARecord → List ℕ → T
   pub writes : Writes root was is places
   pub grown : Grows was.folder_calls is.folder_calls (entries_calls root es)
 
--- the last entry that was begun, if one was
-abbrev pub IsLastBegun : List Entry → List Taken → List Place → Type 0
-IsLastBegun [] ts places = (ts ≡ []) × (places ≡ [])
-IsLastBegun (e ∷ es) ts places = IsBegun e ts places
-
--- The first entries stand there, the last one of them perhaps in part.
-pub record AreBegun (es : List Entry) (ts : List Taken) (places : List Place) : Type 0 where
+-- The first entries stand there, and the next one as far as it was begun.
+pub record AreBegun (fault : RestoreFault) (es : List Entry) (ts : List Taken) (places : List Place) : Type 0 where
   pub front : List Entry
+  pub e : Entry
   pub behind : List Entry
-  pub entries_are : es ≡ front ++ behind
+  pub entries_are : es ≡ front ++ e ∷ behind
   pub whole : List Taken
   pub part : List Taken
   pub taken_are : ts ≡ whole ++ part
@@ -116,7 +125,7 @@ pub record AreBegun (es : List Entry) (ts : List Taken) (places : List Place) : 
   pub last : List Place
   pub places_are : places ≡ written ++ last
   pub items : AreItemsRead front whole written
-  pub begun : IsLastBegun behind part last
+  pub begun : IsBegun fault e part last
 
 pub record StopsTree {L : Type 0} (holds : L → List ARecord → List ℕ → Type 0) (stands : List ARecord → List ℕ → Type 0) (broken : L → Bool) (w0 w1 : Waiting) (old new : Node L) (before now : View) (root : List ℕ) (was is : FolderView) (es : List Entry) (fault : RestoreFault) : Type 0 where
   pub ts : List Taken
@@ -124,6 +133,6 @@ pub record StopsTree {L : Type 0} (holds : L → List ARecord → List ℕ → T
   pub parts : refs_of_files es ≡ taken_refs ts ++ next
   pub stops : Stops holds stands broken w0 w1 old new before now ts next fault
   pub places : List Place
-  pub begun : AreBegun es ts places
+  pub begun : AreBegun fault es ts places
   pub writes : Writes root was is places
   pub tries : TriesFirst was is (entries_calls root es)
