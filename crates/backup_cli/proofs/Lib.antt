@@ -1,4 +1,5 @@
 pub mod LineLemmas
+pub mod TicketTexts
 pub mod WordLemmas
 pub mod Utterances
 pub mod LinesSaid
@@ -12,3 +13,6 @@ pub mod Beginnings
 pub mod Forgettings
 pub mod Backups
 pub mod Answered
+pub mod Elsewhere
+pub mod Restorings
+pub mod Tickets

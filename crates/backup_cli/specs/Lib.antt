@@ -9,3 +9,4 @@ pub mod Forgotten
 pub mod Files
 pub mod Begun
 pub mod BackedUp
+pub mod RestoredTo

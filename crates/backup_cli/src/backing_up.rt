@@ -13,6 +13,7 @@ ghost use Rattle.snapshot_backup.specs.Backed.{ListsThenReads};
 ghost use Rattle.node_serve.specs.Spans.{IsUp};
 ghost use Rattle.backup_cli.specs.BackedUp.{BacksUpTo, BacksUpOn, status_of_node, status_of};
 ghost use Rattle.backup_cli.specs.Says.{Refuses};
+ghost use Rattle.backup_cli.specs.Status.{IsElsewhere};
 ghost use Rattle.backup_cli.specs.Served.{IsNode};
 
 use crate::Status;
@@ -75,6 +76,7 @@ fn backup_opened<L: Log, S: Station, F: Folder>(
     ensures only { (result ≢ Status.Usage) × (result ≢ Status.LinkFault) × (result ≢ Status.Already) × (result ≢ Status.BadSettings) }
     ensures no_number { (k : ℕ) → result ≢ Status.NoSnapshot k }
     ensures altered { result ≡ Status.NotNode → Tells_bytes (S.view station.new) → (h : List Change) → Knows node.old (fresh h) → ¬ Stored L.holds node.old h (S.view station.old) }
+    ensures elsewhere { IsElsewhere result }
 {
     match backup(alloc, node, station, folder, path) {
         Ok(_) => {}
@@ -125,6 +127,7 @@ pub(crate) fn backup_command<L: Log, S: Station, F: Folder>(
     ensures calls { ListsThenReads (F.view folder.old) (F.view folder.new) }
     ensures only { (result ≢ Status.Usage) × (result ≢ Status.LinkFault) × (result ≢ Status.Already) × (result ≢ Status.BadSettings) }
     ensures no_number { (k : ℕ) → result ≢ Status.NoSnapshot k }
+    ensures elsewhere { IsElsewhere result }
 {
     let mut node = match open_or_refuse::<L, S>(alloc, station) {
         Ok(node) => node,

@@ -4,6 +4,7 @@ ghost use Rattle.psb_station.specs.Calls.{Rose};
 ghost use Rattle.psb_station.specs.Span.{Keeps, DiskWorks, Tells_bytes};
 ghost use Rattle.backup_cli.specs.Files.{OnlyReads};
 ghost use Rattle.backup_cli.specs.Begun.{IsEmpty, HasBegun, Begins, Stops};
+ghost use Rattle.backup_cli.specs.Status.{IsElsewhere};
 
 use crate::Status;
 use crate::files::{ReadError, read_file};
@@ -85,6 +86,7 @@ pub(crate) fn init_command<L: Log, S: Station, F: Folder>(
     ensures link { (S.view station.new).outside.link_faults ≡ (S.view station.old).outside.link_faults }
     ensures folder { (result ≡ Status.FolderFault) ⊎ ((F.view folder.new).folder_faults ≡ (F.view folder.old).folder_faults) }
     ensures said { result ≡ Status.Done → (S.view station.new).outside.say_faults ≡ (S.view station.old).outside.say_faults }
+    ensures elsewhere { IsElsewhere result }
 {
     let node = match begin_from::<L, S, F>(alloc, station, folder, file) {
         Ok(node) => node,

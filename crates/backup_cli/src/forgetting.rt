@@ -12,6 +12,7 @@ ghost use Rattle.node_core.specs.Stands.{HoldsHistory};
 ghost use Rattle.node_core.specs.Stored.{Knows, Stored, IsCounted};
 ghost use Rattle.node_serve.specs.Spans.{IsReady, Fed};
 ghost use Rattle.backup_cli.specs.Says.{Refuses};
+ghost use Rattle.backup_cli.specs.Status.{IsElsewhere};
 ghost use Rattle.backup_cli.specs.Served.{IsNode};
 ghost use Rattle.backup_cli.specs.Forgotten.{Forgets, ForgetsOn, StopsForget};
 
@@ -69,6 +70,7 @@ fn forget_opened<L: Log, S: Station>(node: &mut Node<L>, station: &mut S, number
     ensures no_begin { (result ≢ Status.FolderFault) × (result ≢ Status.Already) × (result ≢ Status.BadSettings) }
     ensures no_backup { (result ≢ Status.TooLarge) × ((c : Pair) → result ≢ Status.Clash c) }
     ensures number { (k : ℕ) → result ≡ Status.NoSnapshot k → k ≡ number }
+    ensures elsewhere { IsElsewhere result }
 {
     match give_up(node, station, number) {
         Ok(()) => {}
@@ -109,6 +111,7 @@ pub(crate) fn forget_command<L: Log, S: Station>(
     ensures no_begin { (result ≢ Status.FolderFault) × (result ≢ Status.Already) × (result ≢ Status.BadSettings) }
     ensures no_backup { (result ≢ Status.TooLarge) × ((c : Pair) → result ≢ Status.Clash c) }
     ensures number { (k : ℕ) → result ≡ Status.NoSnapshot k → k ≡ number }
+    ensures elsewhere { IsElsewhere result }
 {
     let mut node = match open_or_refuse::<L, S>(alloc, station) {
         Ok(node) => node,

@@ -10,6 +10,7 @@ mod listing;
 mod number;
 mod opening;
 mod program;
+mod restoring;
 mod saying;
 mod serving;
 mod short_line;
@@ -18,5 +19,6 @@ mod words;
 
 pub use number::read_number;
 pub use program::run;
+pub use restoring::backups_come_back;
 pub use status::Status;
-pub use words::{read_path, words_fix_the_command};
+pub use words::{Which, read_path, words_fix_the_command};

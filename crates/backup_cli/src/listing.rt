@@ -9,6 +9,7 @@ ghost use Rattle.psb_model.specs.Needed.{IsValid};
 ghost use Rattle.psb_model.specs.declared.change.Change.{Change};
 ghost use Rattle.node_core.specs.Stands.{HoldsHistory};
 ghost use Rattle.backup_cli.specs.Says.{OnlySays, SaysLines, Refuses};
+ghost use Rattle.backup_cli.specs.Status.{IsElsewhere};
 ghost use Rattle.backup_cli.specs.Served.{IsNode};
 ghost use Rattle.backup_cli.specs.Listed.{Lists, listed_lines};
 
@@ -76,6 +77,7 @@ pub(crate) fn list_command<L: Log, S: Station>(
     ensures no_begin { (result ≢ Status.FolderFault) × (result ≢ Status.Already) × (result ≢ Status.BadSettings) }
     ensures no_backup { (result ≢ Status.TooLarge) × ((c : Pair) → result ≢ Status.Clash c) }
     ensures no_number { (k : ℕ) → result ≢ Status.NoSnapshot k }
+    ensures elsewhere { IsElsewhere result }
 {
     let node = match open_or_refuse::<L, S>(alloc, station) {
         Ok(node) => node,

@@ -1,8 +1,10 @@
 ghost use Rattle.std.specs.Prelude.{◌≡◌, ◌≢◌, ℕ, ◌≤◌, [], ◌∷◌, true, false, Ok, None, IfOk, IfSome, IfNone, map, string_bytes, decimal};
-ghost use Rattle.backup_cli.specs.Words.{is_path, is_folder, below_root, IsCommand, IsNoCommand, FixTheCommand};
+ghost use Rattle.psb_bytes.specs.declared.ids.Ticket.{Ticket};
+ghost use Rattle.backup_cli.specs.declared.words.Which.{Which};
+ghost use Rattle.backup_cli.specs.Words.{is_path, is_folder, below_root, IsTicketText, IsWhich, IsCommand, IsNoCommand, FixTheCommand};
 
 use crate::read_number;
-use psb_bytes::{Memory, Text, has_names};
+use psb_bytes::{Memory, Text, Ticket, has_names};
 use std::alloc::Global;
 
 /// The greatest number of turns that one command asks for.
@@ -13,6 +15,15 @@ const MOST_NUMBER: u64 = 4_294_967_295;
 
 /// The most bytes of a path.
 const MOST_PATH_BYTES: usize = 4_096;
+
+/// The snapshot that a word names.
+#[derive(Clone, Copy, Debug, PartialEq, Eq)]
+pub enum Which {
+    /// The kept one of this number.
+    Number(u32),
+    /// The one that this is the ticket of.
+    Of(Ticket),
+}
 
 /// What the words ask for.
 #[derive(Clone, Copy, Debug, PartialEq, Eq)]
@@ -29,6 +40,13 @@ pub(crate) enum Command<'a> {
     Forget(u32),
     /// `backup FOLDER`: a snapshot of the folder at this path is made.
     Backup(&'a str),
+    /// `restore TICKET FOLDER TURNS`: a snapshot is written into the folder at this path, with so many turns
+    /// for each chunk that peers are asked for.
+    Restore {
+        which: Which,
+        folder: &'a str,
+        turns: u32,
+    },
 }
 
 /// The command that words are, if they are one.
@@ -39,6 +57,12 @@ pub(crate) fn read_words(words: &[String]) -> Option<Command<'_>>
     match words {
         [command] => read_single(command.as_str()),
         [command, word] => read_command(command.as_str(), word.as_str()),
+        [command, ticket, folder, turns] => read_long(
+            command.as_str(),
+            ticket.as_str(),
+            folder.as_str(),
+            turns.as_str(),
+        ),
         _ => None,
     }
 }
@@ -67,6 +91,56 @@ fn read_command<'a>(command: &str, word: &'a str) -> Option<Command<'a>>
         "backup" if is_folder(word) => Some(Command::Backup(word)),
         _ => None,
     }
+}
+
+/// The command that four words are, if they are one.
+fn read_long<'a>(command: &str, ticket: &str, folder: &'a str, turns: &str) -> Option<Command<'a>>
+    ensures some { IfSome result (λ c. IsCommand (command.now ∷ ticket.now ∷ folder.now ∷ turns.now ∷ []) c) }
+    ensures none { IfNone result (IsNoCommand (command.now ∷ ticket.now ∷ folder.now ∷ turns.now ∷ [])) }
+{
+    if command != "restore" || !is_folder(folder) {
+        return None;
+    }
+    let which = read_which(ticket)?;
+    let turns = read_turns(turns)?;
+    Some(Command::Restore {
+        which,
+        folder,
+        turns,
+    })
+}
+
+/// The snapshot that a text names, if it does: a number, or the 138 lower-case hexadecimal digits of a ticket.
+fn read_which(text: &str) -> Option<Which>
+    ensures some { IfSome result (λ which. IsWhich text.now which) }
+    ensures none { IfNone result ((which : Which) → ¬ IsWhich text.now which) }
+{
+    match read_snapshot(text) {
+        Some(number) => Some(Which::Number(number)),
+        None => match read_ticket(text) {
+            Some(ticket) => Some(Which::Of(ticket)),
+            None => None,
+        },
+    }
+}
+
+/// The ticket whose bytes a text spells in lower-case hexadecimal digits, if it does.
+fn read_ticket(text: &str) -> Option<Ticket>
+    ensures some { IfSome result (λ t. IsTicketText text.now t) }
+    ensures none { IfNone result ((t : Ticket) → ¬ IsTicketText text.now t) }
+{
+    let mut bytes = [0; 69];
+    if hex::decode_to_slice(text, &mut bytes).is_err() {
+        return None;
+    }
+    let mut digits = [0; 138];
+    if hex::encode_to_slice(&bytes, &mut digits).is_err() {
+        unreachable!();
+    }
+    if digits.as_slice() != text.as_bytes() {
+        return None;
+    }
+    Ticket::read(&bytes)
 }
 
 /// The path that a text is, if it is one: 1 to 4,096 bytes, a `/` in front or none, and then names with

@@ -1,7 +1,7 @@
 //! The program's run over the machine: one file, one UDP socket, standard output, the clock and the folders.
-ghost use Rattle.std.specs.Prelude.{◌≡◌, ◌≢◌, ◌⊎◌, ◌↔◌, Bool, List, ℕ, [], Some, map, string_bytes};
+ghost use Rattle.std.specs.Prelude.{◌≡◌, ◌≢◌, ◌⊎◌, ◌↔◌, Bool, List, ℕ, [], Some, IfSome, map, string_bytes};
 ghost use Rattle.psb_station.specs.Calls.{Rose};
-ghost use Rattle.psb_station.specs.Folder.{File as IsFile, Tells_content, found};
+ghost use Rattle.psb_station.specs.Folder.{File as IsFile, Lists as Lists_folder, Tells_content, found};
 ghost use Rattle.psb_station.specs.Span.{Tells_bytes};
 ghost use Rattle.psb_host.specs.HonestFolder.{IsFirst};
 ghost use Rattle.psb_host.specs.HonestStation.{IsBegun};
@@ -16,16 +16,19 @@ ghost use Rattle.psb_machine.specs.declared.snap_note.SnapNote.{SnapNote};
 ghost use Rattle.node_journal.specs.Format.{Stands};
 ghost use Rattle.node_core.specs.Stands.{HoldsHistory};
 ghost use Rattle.snapshots.specs.Meaning.{Place, means};
+ghost use Rattle.snapshots.specs.Writing.{IsNotEmpty};
 ghost use Rattle.snapshot_backup.specs.Backed.{IsSnapOf, ListsThenReads};
 ghost use Rattle.snapshot_backup.specs.Course.{backup_course};
 ghost use Rattle.snapshot_backup.specs.Kept.{own_bodies};
 ghost use Rattle.backup_cli.specs.BackedUp.{BacksUpTo};
 ghost use Rattle.backup_cli.specs.Begun.{Begins};
+ghost use Rattle.backup_cli.specs.RestoredTo.{RestoresTo};
 ghost use Rattle.backup_cli.specs.Says.{Utters, IsRefusal, peer_lines, snapshot_lines};
 ghost use Rattle.backup_cli.specs.Served.{Serves};
 ghost use Rattle.backup_cli.specs.Listed.{Lists};
 ghost use Rattle.backup_cli.specs.Forgotten.{Forgets};
-ghost use Rattle.backup_cli.specs.Words.{IsServe, IsLedger, IsInit, IsSnapshots, IsForget, IsBackup, IsQuiet, IsNoCommand};
+ghost use Rattle.backup_cli.specs.Words.{IsServe, IsLedger, IsInit, IsSnapshots, IsForget, IsBackup, IsRestore, IsQuiet, IsNoCommand};
+ghost use Rattle.backup_cli.specs.declared.words.Which.{Which};
 ghost use Rattle.backup_cli.specs.declared.status.Status.TheVariants as status;
 
 use backup_cli::{Status, run};
@@ -91,6 +94,18 @@ where
 
     // It lists all folders before it reads the first file.
     ensures calls { (root : List ℕ) → IsBackup (map string_bytes words.now) root → ListsThenReads (⟦<HostFolder<Q, T> as Folder>⟧.view folder.old) (⟦<HostFolder<Q, T> as Folder>⟧.view folder.new) }
+
+    // The headline of `restore`: the snapshot of that number or ticket stands below the folder, or what is missing or
+    // altered is named.
+    ensures restores { (which : Which) (root : List ℕ) (turns : ℕ) → IsRestore (map string_bytes words.now) which root turns → Tells_bytes (⟦<HostStation<R, S> as Disk>⟧.view station.new)
+        → (h : List Change) (settings : Settings) → IsValid h → HoldsHistory Stands h S.Start.first → (state h).settings ≡ Some settings
+        → (opened : Bool) × RestoresTo Stands h settings which root turns opened (⟦<HostStation<R, S> as Disk>⟧.view station.old) (⟦<HostStation<R, S> as Disk>⟧.view station.new) (⟦<HostFolder<Q, T> as Folder>⟧.view folder.old) (⟦<HostFolder<Q, T> as Folder>⟧.view folder.new) result }
+
+    // Nothing is restored into a folder that held anything first, and none is refused that holds nothing.
+    ensures empty { (which : Which) (root : List ℕ) (turns : ℕ) → IsRestore (map string_bytes words.now) which root turns
+        → (result ≡ status.Done) ⊎ (result ≡ status.SayFault) → Tells_content (⟦<HostFolder<Q, T> as Folder>⟧.view folder.new) → Lists_folder T.StartFolder.tree root [] }
+    ensures not_empty { (which : Which) (root : List ℕ) (turns : ℕ) → IsRestore (map string_bytes words.now) which root turns
+        → result ≡ status.NotEmpty → IfSome (⟦<HostFolder<Q, T> as Folder>⟧.view folder.new).content (λ c. IsNotEmpty c root) }
 
     // Whatever the file answers, nothing is joined, heard or sent for these four.
     ensures quiet { IsQuiet (map string_bytes words.now) → (⟦<HostStation<R, S> as Disk>⟧.view station.new).outside ≡ record (⟦<HostStation<R, S> as Disk>⟧.view station.old).outside { said = (⟦<HostStation<R, S> as Disk>⟧.view station.new).outside.said; say_faults = (⟦<HostStation<R, S> as Disk>⟧.view station.new).outside.say_faults } }

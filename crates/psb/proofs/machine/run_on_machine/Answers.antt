@@ -1,6 +1,6 @@
-use Rattle.std.proofs.Common.{◌≡◌, ⊎_elim, ℕ, List, Some, ◌∙◌, ap}
+use Rattle.std.proofs.Common.{◌≡◌, ⊎_elim, ℕ, List, [], Some, ◌∙◌, ap}
 use Rattle.psb_station.specs.View.{View}
-use Rattle.psb_station.specs.Folder.{FolderView, Content}
+use Rattle.psb_station.specs.Folder.{FolderView, Content, Lists}
 use Rattle.psb_station.proofs.Spans.{at_some}
 use Rattle.psb_model.specs.Needed.{IsValid}
 use Rattle.psb_model.specs.declared.change.Change.{Change}
@@ -34,6 +34,12 @@ returns-clause-snapped g c = λ root words well told shows h valid holds.
     let made = (c.run.ensures.backs_up root words told h (held_first _ _ h c.requires.begun.reads valid holds)).1.made well in
     let tree = c.run.ensures.content root words shows ∙ ap (λ (v : FolderView). v.content) c.requires.first in
     (made.places, made.note, at_some _ (λ (t : Content). IsSnapOf t root made.places made.note.left) _ made.of tree, made.means_it)
+
+pub returns-clause-restores : goal.returns-clause-restores
+returns-clause-restores g c = λ which root turns words told h settings valid holds set. c.run.ensures.restores which root turns words told h settings (held_first _ _ h c.requires.begun.reads valid holds) set
+
+pub returns-clause-empty : goal.returns-clause-empty
+returns-clause-empty g c = λ which root turns words done shows. at_some _ (λ (t : Content). Lists t root []) _ (c.run.ensures.empty which root turns words done shows) (ap (λ (v : FolderView). v.content) c.requires.first)
 
 pub returns-clause-content : goal.returns-clause-content
 returns-clause-content g c = λ words told.
