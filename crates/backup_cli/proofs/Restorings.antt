@@ -1,10 +1,9 @@
 -- What `restore` comes to.
-use Rattle.std.proofs.Common.{◌≡◌, ◌≢◌, ◌⊎◌, inl, inr, ⊎_elim, ℕ, ◌+◌, ◌<◌, ◌≤◌, Bool, true, false, List, [], ◌∷◌, ◌++◌, length, take, Option, Some, None, Result, Ok, Err, refl, sym, ◌∙◌, ap, subst, arith}
+use Rattle.std.proofs.Common.{◌≡◌, ◌≢◌, ◌⊎◌, inl, inr, ⊎_elim, ℕ, ◌+◌, ◌≤◌, Bool, true, false, List, [], ◌∷◌, ◌++◌, length, take, Some, None, Ok, Err, refl, sym, ◌∙◌, ap, subst, arith}
 use Rattle.std.proofs.lemmas.Bool.{false≢true}
 use Rattle.std.proofs.lemmas.List.{append-nil}
 use Rattle.psb_bytes.specs.declared.ids.Ticket.{Ticket}
 use Rattle.psb_station.specs.View.{View, Outside, Heard}
-use Rattle.psb_station.specs.View.Heard.{Fault}
 use Rattle.psb_station.specs.Folder.{FolderView}
 use Rattle.psb_station.specs.Span.{Tells_bytes, Keeps}
 use Rattle.node_journal.specs.Entry.{Entry}
@@ -33,7 +32,7 @@ use Rattle.backup_cli.specs.Commanded.{Halted, IfThrough, UnlessHarmed, joined_l
 use Rattle.backup_cli.specs.Lines.{restored_line}
 use Rattle.backup_cli.specs.Says.{Utters, IsRefusal, NotOpened}
 use Rattle.backup_cli.specs.Served.{ending_of, refused_of}
-use Rattle.backup_cli.specs.RestoredTo.{status_of, kept_ticket, ticket_at, ComesTo, Fares, RestoresTo, RestoresOn}
+use Rattle.backup_cli.specs.RestoredTo.{status_of, kept_ticket, ticket_at, Fares, RestoresTo, RestoresOn}
 use Rattle.backup_cli.specs.declared.words.Which.{Which}
 use Rattle.backup_cli.specs.declared.words.Which.TheVariants.{Number}
 use Rattle.backup_cli.specs.declared.status.Status.{Status}

@@ -1,5 +1,5 @@
 -- Texts of tickets: which they are, and that a word names one snapshot.
-use Rattle.std.proofs.Common.{◌≡◌, ◌≢◌, ℕ, ◌*◌, ◌≤◌, List, length, decimal, Bool, true, false, Result, Ok, Err, Option, Some, None, refl, sym, ◌∙◌, ap, subst, arith}
+use Rattle.std.proofs.Common.{◌≡◌, ◌≢◌, ℕ, ◌≤◌, List, length, decimal, true, false, Result, Ok, Err, Option, Some, None, refl, sym, ◌∙◌, ap, subst, arith}
 use Rattle.std.proofs.lemmas.Fmt.{decimal_injective}
 use Rattle.std.specs.Prelude.{◌↔◌, IsSome, IsTrue, IfSome, IfNone, MatchResult, is_err}
 use Rattle.hex.specs.Hex.{decode_of, decode_sized, encode_lower, lower_digits}

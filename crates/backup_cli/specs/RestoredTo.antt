@@ -6,7 +6,6 @@ use Rattle.psb_station.specs.Folder.{FolderView, Listing}
 use Rattle.psb_station.specs.Span.{Leaves}
 use Rattle.node_journal.specs.Entry.{Entry}
 use Rattle.psb_settings.specs.declared.settings.Settings.{Settings}
-use Rattle.psb_model.specs.State.{State}
 use Rattle.psb_model.specs.History.{state}
 use Rattle.psb_model.specs.declared.entries.Snapshot.{Snapshot}
 use Rattle.psb_model.specs.declared.change.Change.{Change}

@@ -205,7 +205,7 @@ fn read_snapshot(text: &str) -> Option<u32>
     Some(number as u32)
 }
 
-/// The law that words are those of one command at most, and name one number or one file.
+/// The law that words are those of one command at most, and name one thing.
 #[tactic(auto, using(crate::proofs::WordLemmas::command_is_fixed))]
 pub fn words_fix_the_command()
     ensures { FixTheCommand }

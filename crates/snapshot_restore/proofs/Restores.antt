@@ -334,7 +334,7 @@ module _ {L : Type 0} (holds : L → List ARecord → List ℕ → Type 0) (stan
             let bare = empty_folders_are_bare c root whole (at_some mid.content (λ x. Lists x root []) c empty mid_is) in
             let place = read_trees_are_in_place (taken_uses r.ts) t r.tree (tree_got t r.ts r.entries r.tree r.read r.open_all).0 in
             subst (λ (x : Content). IsTree x root r.tree) (sym (r.writes.content c now before after)) (writings_are_trees c root r.tree bare place);
-        else = λ c now before after. r.writes.content c now before after;
+        around = λ c now before after. r.writes.content c now before after;
       })
 
   pub restored : (n0 n1 : Node L) (v0 v1 : View) (was mid is : FolderView) (t : Ticket) (root : List ℕ) (turns : ℕ) (d : Restored) → (Tells_content mid → mid.content ≡ was.content) → IfSome mid.content (λ c. Lists c root []) → Tries (Listing root) was mid

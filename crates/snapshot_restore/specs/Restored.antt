@@ -69,7 +69,7 @@ pub record CountsTree (d : Restored) (tree : List Place) : Type 0 where
 pub record IsRestored (was is : FolderView) (root : List ℕ) (d : Restored) (tree : List Place) : Type 0 where
   pub counts : CountsTree d tree
   pub stands : (c now : Content) → was.content ≡ Some c → is.content ≡ Some now → IsWhole c → IsTree now root tree
-  pub else : (c now : Content) → was.content ≡ Some c → is.content ≡ Some now → now ≡ with_places root c tree
+  pub around : (c now : Content) → was.content ≡ Some c → is.content ≡ Some now → now ≡ with_places root c tree
 
 -- These are the counts of the tree. Over any bodies over which the ticket means one, it is that tree; or two unequal
 -- texts were met that share a SHA-256: one of these bodies, and one that was used in this very call for a place of that

@@ -1,6 +1,6 @@
 use Rattle.std.proofs.Common.{true, false, Err, ap}
 use Rattle.backup_cli.proofs.Ends.{why_unopened}
-use Rattle.backup_cli.proofs.Opened.{held, is_node, known_as, ready}
+use Rattle.backup_cli.proofs.Opened.{held, is_node, known_as}
 use Rattle.backup_cli.proofs.Restorings.{unrestored, restores_from}
 use Rattle.backup_cli.proofs.restoring.restore_command.Goals as goal
 

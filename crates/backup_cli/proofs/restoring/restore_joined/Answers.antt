@@ -1,4 +1,3 @@
-use Rattle.std.proofs.Common.{◌≡◌}
 use Rattle.psb_machine.specs.Machine.{fresh}
 use Rattle.backup_cli.proofs.Outcomes.{ready_then}
 use Rattle.backup_cli.proofs.Restorings.{fares_restored, fares_short, fares_unjoined}

@@ -1,12 +1,10 @@
-use Rattle.std.proofs.Common.{◌≡◌, ◌⊎◌, inl, inr, ⊎_elim, ℕ, List, Option, None, Some, Err, sym, ◌∙◌, ap, subst, rules}
-use Rattle.psb_bytes.specs.declared.ids.Ticket.{Ticket}
+use Rattle.std.proofs.Common.{◌≡◌, inl, inr, ⊎_elim, List, Err, sym, ◌∙◌, ap, subst}
 use Rattle.psb_model.specs.declared.entries.Snapshot.{Snapshot}
 use Rattle.psb_machine.specs.Machine.{fresh}
 use Rattle.psb_station.specs.View.{View}
 use Rattle.backup_cli.specs.Says.{Utters, IsRefusal}
 use Rattle.backup_cli.specs.RestoredTo.{RestoresOn, kept_ticket, ticket_at}
-use Rattle.backup_cli.specs.declared.status.Status.{Status}
-use Rattle.backup_cli.specs.declared.status.Status.TheVariants.{DiskFault, NoSnapshot, Memory}
+use Rattle.backup_cli.specs.declared.status.Status.TheVariants.{Memory}
 use Rattle.backup_cli.proofs.Restorings.{line_said, line_failed, line_unmade, short_by, absent}
 use Rattle.backup_cli.proofs.Utterances.{utters_tells}
 use Rattle.backup_cli.proofs.restoring.restore_opened.Goals as goal

@@ -1,4 +1,4 @@
-use Rattle.std.proofs.Common.{◌≡◌, ◌≢◌, List, ℕ, rules, true, false, sym, ◌∙◌}
+use Rattle.std.proofs.Common.{◌≡◌, ◌≢◌, rules, true, false}
 use Rattle.std.specs.Prelude.{is_err}
 use Rattle.hex.specs.Hex.{encode_lower}
 use Rattle.backup_cli.proofs.TicketTexts.{never_refused, never_other, is_ticket_text, no_ticket_text}
