@@ -1,12 +1,13 @@
 #!/usr/bin/env python3
-"""Times the backup of a folder, first whole and then again unchanged. Not a part of the gate.
+"""Times the backup of a folder, first whole and then again unchanged, and its restore. Not a part of the gate.
 
     tests/bench/backup.py [PROGRAM]     times crates/psb/out/psb, or the program that is named
 
 Makes one tree of files, whose sizes and bytes are drawn from a fixed seed, in memory (/dev/shm) and on the disk of the
 system's temporary folder, and prints for each backup the time, the time of the processor in the program and in the
-system, and the size of the node's file. Where restic or borg are installed, they back the same tree up without
-compression, into a repository beside it.
+system, and the size of the node's file; then the same of a restore of the second snapshot into an empty folder, and
+whether the two trees are equal. Where restic or borg are installed, they back the same tree up without compression,
+into a repository beside it.
 """
 
 import os
@@ -62,6 +63,12 @@ def time_in(place, program):
         for how in ("whole", "again"):
             said = tell(f"psb, {how}", [program, path, "backup", tree])
             print(said.decode().split(" ticket ")[0], f"file {os.path.getsize(path)}", flush=True)
+        target = os.path.join(room, "back")
+        os.mkdir(target)
+        said = tell("psb, restored", [program, path, "restore", "2", target, "1"])
+        differs = subprocess.run(["diff", "-rq", tree, target], stdout=subprocess.DEVNULL).returncode
+        print(said.decode().strip(), "and the trees differ" if differs else "and the trees are equal", flush=True)
+        shutil.rmtree(target)
         for tool, begin, run in (
             ("restic", ["init"], ["backup", "--compression", "off", tree]),
             ("borg", ["init", "-e", "none"], ["create", "-C", "none", "::{now}", tree]),
