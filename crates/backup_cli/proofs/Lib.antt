@@ -16,3 +16,4 @@ pub mod Answered
 pub mod Elsewhere
 pub mod Restorings
 pub mod Tickets
+pub mod Supplied

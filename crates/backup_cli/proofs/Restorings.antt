@@ -144,7 +144,7 @@ module _ {L : Type 0} (holds : L → List Entry → List ℕ → Type 0) (stands
         hears = hears_joined n0 h settings v1 m v2 (heard_in (fetches l.ts ++ l.last)) j b.run.hears;
         fed = fed_joined n0 n2 h settings v1 m v2 steps a.ok sound mid st j a.fed;
         all_fed = λ is. absurd (false≢true is);
-        comes_to = inr (e, record { left = l; met = r.met; taken = a.taken; ok = a.ok; in_vain = a.in_vain; hears = record { all_joined = j.whole refl; answers_are = refl }; steps_are = refl }, by);
+        comes_to = inr (e, record { left = l; met = r.met; taken = a.taken; ok = a.ok; in_vain = a.in_vain; at_once = r.at_once; hears = record { all_joined = j.whole refl; answers_are = refl }; steps_are = refl }, by);
       }
 
   pub fares_unjoined : (n0 : Node L) (h : List Change) (settings : Settings) (v1 m : View) (t : Ticket) (root : List ℕ) (turns : ℕ) (was : FolderView) → broken n0.log ≡ false → Stored holds n0 h v1 → Tells_bytes m → JoinsAll holds stands broken n0 v1 m (fresh h) settings false

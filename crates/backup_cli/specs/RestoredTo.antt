@@ -1,6 +1,8 @@
 -- The headline of `restore`.
 use Rattle.std.specs.Prelude.{◌≡◌, ◌⊎◌, ℕ, ◌<◌, ◌==◌, Bool, true, false, if◌then◌else◌, List, [], ◌∷◌, ◌++◌, length, take, Option, Some, None, Result, Ok, Err, is_ok}
+use Rattle.psb_bytes.specs.declared.ids.Ref.{Ref}
 use Rattle.psb_bytes.specs.declared.ids.Ticket.{Ticket}
+use Rattle.skeleton.specs.declared.faults.SkelFault.{SkelFault}
 use Rattle.psb_station.specs.View.{View, Heard}
 use Rattle.psb_station.specs.Folder.{FolderView, Listing}
 use Rattle.psb_station.specs.Span.{Leaves}
@@ -9,7 +11,7 @@ use Rattle.psb_settings.specs.declared.settings.Settings.{Settings}
 use Rattle.psb_model.specs.History.{state}
 use Rattle.psb_model.specs.declared.entries.Snapshot.{Snapshot}
 use Rattle.psb_model.specs.declared.change.Change.{Change}
-use Rattle.psb_machine.specs.Machine.{fresh}
+use Rattle.psb_machine.specs.Machine.{Situation, fresh}
 use Rattle.psb_machine.specs.Course.{Step, Tell, Say, after_all}
 use Rattle.psb_machine.specs.Commands.{says}
 use Rattle.node_core.specs.declared.node.Node.{Node}
@@ -19,11 +21,13 @@ use Rattle.node_serve.specs.Spans.{Fed}
 use Rattle.snapshots.specs.Got.{AreMet}
 use Rattle.snapshot_backup.specs.Course.{backup_course}
 use Rattle.snapshot_backup.specs.Kept.{own_bodies}
-use Rattle.snapshot_restore.specs.Course.{heard_in, restore_steps}
+use Rattle.snapshot_restore.specs.Course.{Fetch, all_of, heard_in, restore_steps}
+use Rattle.snapshot_restore.specs.Answers.{answers}
 use Rattle.snapshots.specs.Meaning.{Place}
-use Rattle.snapshot_restore.specs.Taken.{Taken, taken_uses, fetches, AreTaken}
+use Rattle.snapshot_restore.specs.Taken.{Taken, taken_uses, fetches, NoneOwn, NoneOpens, AreTaken, IsSpent}
+use Rattle.snapshot_restore.specs.Reading.{AreNext, IsBadText}
 use Rattle.snapshot_restore.specs.Fetching.{IsInVain}
-use Rattle.snapshot_restore.specs.Restored.{MakesTree, IsExact, LeavesTree, IsMetBy, IsRestored}
+use Rattle.snapshot_restore.specs.Restored.{MakesTree, IsExact, LeavesTree, IsMetBy, IsAtOnce, IsRestored}
 use Rattle.snapshot_restore.specs.declared.fault.RestoreFault.{RestoreFault}
 use Rattle.snapshot_restore.specs.declared.fault.RestoreFault.TheVariants as restore_fault
 use Rattle.snapshot_restore.specs.declared.restoring.Restored.{Restored}
@@ -80,6 +84,7 @@ pub record FallsShort (h : List Change) (settings : Settings) (t : Ticket) (root
   pub taken : AreTaken settings turns (fresh h) 0 left.ts
   pub ok : Bool
   pub in_vain : IsInVain settings (after_all (fresh h) (restore_steps settings 0 (fetches left.ts))) left.next left.last e ok
+  pub at_once : IsAtOnce e left.ts left.last left.places
   pub hears : HearsThen settings made answers (heard_in (fetches left.ts ++ left.last))
   pub steps_are : steps ≡ restore_steps settings 0 (fetches left.ts ++ left.last)
 
@@ -134,6 +139,22 @@ abbrev pub RestoresOn : (List Entry → List ℕ → Type 0) → List Change →
 RestoresOn stands h settings which root turns old new was is status =
     (r : RestoresTo stands h settings which root turns true old new was is status)
     × Leaves old new (λ c k. IsMoment stands h r.course.done r.course.failed (refused_of status) old.told c k)
+
+-- ---- when it does not fall short
+
+-- not that the node has no body that opens, nor that none came in these turns
+abbrev pub IsSuppliedAt : Settings → Situation → Ref → List (List Heard) → Type 0
+IsSuppliedAt settings n r rounds = (¬ NoneOwn n.history r) ⊎ (¬ NoneOpens r (answers settings r.name (all_of rounds)))
+
+-- Each place of the ticket at which all turns were spent in this run has such a body; and the bodies that were taken form
+-- no text that is too long or outside the grammar.
+pub record IsSupplied (h : List Change) (settings : Settings) (t : Ticket) (turns : ℕ) (old new : View) : Type 0 where
+  pub bodies : (ts : List Taken) (r : Ref) (more : List Ref) (rounds : List (List Heard)) → AreNext t ts (r ∷ more) → AreTaken settings turns (fresh h) 0 ts → IsSpent turns rounds
+      → Hears old new (nodes_of settings) (join_answers (length (nodes_of settings)) true ++ heard_in (fetches ts ++ record { name = r.name; rounds = rounds } ∷ []))
+      → IsSuppliedAt settings (after_all (fresh h) (restore_steps settings 0 (fetches ts))) r rounds
+  pub texts : (ts : List Taken) (last : List Fetch) (fault : SkelFault) (place : ℕ) → AreTaken settings turns (fresh h) 0 ts
+      → Hears old new (nodes_of settings) (join_answers (length (nodes_of settings)) true ++ heard_in (fetches ts ++ last))
+      → ¬ IsBadText t.levels (t.reference ∷ []) ts fault place
 
 -- ---- on the way
 

@@ -1,5 +1,6 @@
 //! The program's run over the machine: one file, one UDP socket, standard output, the clock and the folders.
 ghost use Rattle.std.specs.Prelude.{◌≡◌, ◌≢◌, ◌⊎◌, ◌↔◌, Bool, List, ℕ, [], Some, IfSome, map, string_bytes};
+ghost use Rattle.psb_bytes.specs.declared.ids.Ticket.{Ticket};
 ghost use Rattle.psb_station.specs.Calls.{Rose};
 ghost use Rattle.psb_station.specs.Folder.{File as IsFile, Lists as Lists_folder, Tells_content, found};
 ghost use Rattle.psb_station.specs.Span.{Tells_bytes};
@@ -22,7 +23,7 @@ ghost use Rattle.snapshot_backup.specs.Course.{backup_course};
 ghost use Rattle.snapshot_backup.specs.Kept.{own_bodies};
 ghost use Rattle.backup_cli.specs.BackedUp.{BacksUpTo};
 ghost use Rattle.backup_cli.specs.Begun.{Begins};
-ghost use Rattle.backup_cli.specs.RestoredTo.{RestoresTo};
+ghost use Rattle.backup_cli.specs.RestoredTo.{RestoresTo, IsSupplied, ticket_at};
 ghost use Rattle.backup_cli.specs.Says.{Utters, IsRefusal, peer_lines, snapshot_lines};
 ghost use Rattle.backup_cli.specs.Served.{Serves};
 ghost use Rattle.backup_cli.specs.Listed.{Lists};
@@ -106,6 +107,15 @@ where
         → (result ≡ status.Done) ⊎ (result ≡ status.SayFault) → Tells_content (⟦<HostFolder<Q, T> as Folder>⟧.view folder.new) → Lists_folder T.StartFolder.tree root [] }
     ensures not_empty { (which : Which) (root : List ℕ) (turns : ℕ) → IsRestore (map string_bytes words.now) which root turns
         → result ≡ status.NotEmpty → IfSome (⟦<HostFolder<Q, T> as Folder>⟧.view folder.new).content (λ c. IsNotEmpty c root) }
+
+    // Where it held nothing, no device fails, and each place of the ticket has a body that opens, of the node's own or of
+    // those that came in its turns, the snapshot comes back, unless memory is short.
+    ensures supplied { (which : Which) (root : List ℕ) (turns : ℕ) → IsRestore (map string_bytes words.now) which root turns → Tells_bytes (⟦<HostStation<R, S> as Disk>⟧.view station.new) → Tells_content (⟦<HostFolder<Q, T> as Folder>⟧.view folder.new)
+        → (h : List Change) (settings : Settings) → IsValid h → HoldsHistory Stands h S.Start.first → (state h).settings ≡ Some settings
+        → (t : Ticket) → ticket_at (state h).kept which ≡ Some t → ¬ IsNotEmpty T.StartFolder.tree root → IsSupplied h settings t turns (⟦<HostStation<R, S> as Disk>⟧.view station.old) (⟦<HostStation<R, S> as Disk>⟧.view station.new)
+        → ¬ Rose (⟦<HostStation<R, S> as Disk>⟧.view station.old).disk_faults (⟦<HostStation<R, S> as Disk>⟧.view station.new).disk_faults → ¬ Rose (⟦<HostStation<R, S> as Disk>⟧.view station.old).outside.link_faults (⟦<HostStation<R, S> as Disk>⟧.view station.new).outside.link_faults
+        → ¬ Rose (⟦<HostFolder<Q, T> as Folder>⟧.view folder.old).folder_faults (⟦<HostFolder<Q, T> as Folder>⟧.view folder.new).folder_faults → ¬ Rose (⟦<HostStation<R, S> as Disk>⟧.view station.old).outside.say_faults (⟦<HostStation<R, S> as Disk>⟧.view station.new).outside.say_faults
+        → (result ≡ status.Done) ⊎ (result ≡ status.Memory) }
 
     // Whatever the file answers, nothing is joined, heard or sent for these four.
     ensures quiet { IsQuiet (map string_bytes words.now) → (⟦<HostStation<R, S> as Disk>⟧.view station.new).outside ≡ record (⟦<HostStation<R, S> as Disk>⟧.view station.old).outside { said = (⟦<HostStation<R, S> as Disk>⟧.view station.new).outside.said; say_faults = (⟦<HostStation<R, S> as Disk>⟧.view station.new).outside.say_faults } }

@@ -26,13 +26,14 @@ use Rattle.snapshots.specs.Writing.{Writes}
 use Rattle.snapshots.proofs.GotReads.{reads_the_meaning, bad_texts_are_met}
 use Rattle.snapshots.proofs.GotTrees.{read_trees_are_in_place, read_trees_are_counted}
 use Rattle.snapshots.proofs.Written.{writings_are_trees, empty_folders_are_bare}
+use Rattle.snapshot_restore.specs.Course.{Fetch}
 use Rattle.snapshot_restore.specs.Taken.{Taken, taken_uses, AllOpen}
-use Rattle.snapshot_restore.specs.Faults.{IsOfTree}
+use Rattle.snapshot_restore.specs.Faults.{IsOfTree, IsOfBelow}
 use Rattle.snapshot_restore.specs.Fetching.{Begins, Takes, TakesAll, Spends, Stops, StopsAll}
 use Rattle.snapshot_restore.specs.Reading.{IsTextRead, IsInText, IsBadBy, IsTreeRead, AreNext}
 use Rattle.snapshot_restore.specs.StoppedTexts.{StopsLevels}
 use Rattle.snapshot_restore.specs.Written.{entries_calls, TriesFirst, WritesAll, StopsTree}
-use Rattle.snapshot_restore.specs.Restored.{HearsAll, MakesTree, RestoresBelow, CountsTree, IsRestored, Restores, IsLeft, StopsBelow, IsMetBy, StopsRestore}
+use Rattle.snapshot_restore.specs.Restored.{HearsAll, MakesTree, RestoresBelow, CountsTree, IsRestored, Restores, IsLeft, StopsBelow, IsMetBy, IsAtOnce, StopsRestore}
 use Rattle.snapshot_restore.specs.declared.fault.RestoreFault.{RestoreFault}
 use Rattle.snapshot_restore.specs.declared.fault.RestoreFault.TheVariants as restore_fault
 use Rattle.snapshot_restore.specs.declared.restoring.Restored.{Restored}
@@ -283,15 +284,36 @@ module _ {L : Type 0} (holds : L → List ARecord → List ℕ → Type 0) (stan
   met_by t ts (restore_fault.BadSkeleton f place) o bad = λ bodies meant is. bad_texts_are_met bodies (taken_uses ts) t meant is (bad_got t.levels (t.reference ∷ []) ts f place bad o)
   met_by t ts restore_fault.Memory o bad = tt
 
+  early_at_once : (e : RestoreFault) → IsEarly e → IsAtOnce e [] [] []
+  early_at_once (restore_fault.Node f) early = tt
+  early_at_once restore_fault.Link early = tt
+  early_at_once restore_fault.Folder early = tt
+  early_at_once restore_fault.NotEmpty early = (refl, refl, refl)
+  early_at_once (restore_fault.Missing n) early = tt
+  early_at_once (restore_fault.Altered n got) early = tt
+  early_at_once (restore_fault.BadSkeleton f place) early = tt
+  early_at_once restore_fault.Memory early = tt
+
+  below_not_at_once : (e : RestoreFault) (ts : List Taken) (last : List Fetch) (places : List Place) → IsOfBelow e → IsAtOnce e ts last places
+  below_not_at_once (restore_fault.Node f) ts last places below = tt
+  below_not_at_once restore_fault.Link ts last places below = tt
+  below_not_at_once restore_fault.Folder ts last places below = tt
+  below_not_at_once restore_fault.NotEmpty ts last places below = absurd below
+  below_not_at_once (restore_fault.Missing n) ts last places below = tt
+  below_not_at_once (restore_fault.Altered n got) ts last places below = tt
+  below_not_at_once (restore_fault.BadSkeleton f place) ts last places below = tt
+  below_not_at_once restore_fault.Memory ts last places below = tt
+
   pub refused : (node : Node L) (v : View) (was is : FolderView) (t : Ticket) (root : List ℕ) (turns : ℕ) (e : RestoreFault) → broken node.log ≡ false → IsEarly e → (Tells_content is → is.content ≡ was.content) → Tries (Listing root) was is
       → StopsRestore holds stands broken node node v v was is t root turns e
+  unfolding unbegun
   refused node v was is t root turns e sound early same tries =
       let below = unbegun node v was is t root turns (Listing root ∷ []) e sound early (looked was is root same tries) (listed was is root tries) in
-      record { below = below; met = early_not_met t below.leaves.ts e early }
+      record { below = below; met = early_not_met t below.leaves.ts e early; at_once = early_at_once e early }
 
-  pub stopped : (n0 n1 : Node L) (v0 v1 : View) (was mid is : FolderView) (t : Ticket) (root : List ℕ) (turns : ℕ) (e : RestoreFault) → (Tells_content mid → mid.content ≡ was.content) → Tries (Listing root) was mid → StopsBelow holds stands broken n0 n1 v0 v1 mid is t root turns [] e
+  pub stopped : (n0 n1 : Node L) (v0 v1 : View) (was mid is : FolderView) (t : Ticket) (root : List ℕ) (turns : ℕ) (e : RestoreFault) → IsOfBelow e → (Tells_content mid → mid.content ≡ was.content) → Tries (Listing root) was mid → StopsBelow holds stands broken n0 n1 v0 v1 mid is t root turns [] e
       → StopsRestore holds stands broken n0 n1 v0 v1 was is t root turns e
-  stopped n0 n1 v0 v1 was mid is t root turns e same tries s =
+  stopped n0 n1 v0 v1 was mid is t root turns e below same tries s =
       let l = s.leaves in
       record {
         below = record {
@@ -312,6 +334,7 @@ module _ {L : Type 0} (holds : L → List ARecord → List ℕ → Type 0) (stan
           all = s.all;
         };
         met = met_by t l.ts e l.open_all l.bad;
+        at_once = below_not_at_once e l.ts l.last l.places below;
       }
 
   counted : (t : Ticket) (ts : List Taken) (entries : List Entry) (tree : List Place) (d : Restored) → IsTreeRead t ts entries tree → AllOpen ts → d.files ≡ sum_by one_file entries → d.folders ≡ sum_by one_folder entries → d.bytes ≡ sum_by its_bytes entries → CountsTree d tree

@@ -125,6 +125,12 @@ abbrev pub IsMetBy : Ticket → List Taken → RestoreFault → Type 0
 IsMetBy t ts (restore_fault.BadSkeleton fault place) = (bodies : Bodies) (meant : List Place) → means bodies t ≡ Some meant → AreMet bodies (taken_uses ts)
 IsMetBy t ts e = Unit {0}
 
+-- A target that is not empty is found to be so before anything is asked, read or made.
+abbrev pub IsAtOnce : RestoreFault → List Taken → List Fetch → List Place → Type 0
+IsAtOnce restore_fault.NotEmpty ts last places = (ts ≡ []) × (last ≡ []) × (places ≡ [])
+IsAtOnce e ts last places = Unit {0}
+
 pub record StopsRestore {L : Type 0} (holds : L → List ARecord → List ℕ → Type 0) (stands : List ARecord → List ℕ → Type 0) (broken : L → Bool) (old new : Node L) (before now : View) (was is : FolderView) (t : Ticket) (root : List ℕ) (turns : ℕ) (e : RestoreFault) : Type 0 where
   pub below : StopsBelow holds stands broken old new before now was is t root turns (Listing root ∷ []) e
   pub met : IsMetBy t below.leaves.ts e
+  pub at_once : IsAtOnce e below.leaves.ts below.leaves.last below.leaves.places

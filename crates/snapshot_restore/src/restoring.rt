@@ -99,6 +99,10 @@ pub fn restore<L: Log, S: Station, F: Folder>(
     ensures stopped { IfErr result (λ e. StopsRestore L.holds L.stands L.is_broken node.old node.new (S.view station.old) (S.view station.new) (F.view folder.old) (F.view folder.new) ticket.now path.now turns e) }
     ensures empty { OnOk result (Tells_content (F.view folder.new) → IfSome (F.view folder.old).content (λ c. Lists c path.now [])) }
     ensures not_empty { result ≡ Err RestoreFault.NotEmpty → IfSome (F.view folder.new).content (λ c. IsNotEmpty c path.now) }
+
+    // And then nothing was asked, read or made.
+    ensures unasked { result ≡ Err RestoreFault.NotEmpty → station.new ≡ station.old }
+    ensures unmade { result ≡ Err RestoreFault.NotEmpty → Tells_content (F.view folder.new) → (F.view folder.new).content ≡ (F.view folder.old).content }
     ensures up { OnOk result (IsUp L.holds L.size L.keeps_body L.is_broken node.new (S.view station.new)) }
     ensures faults { Faults (failed result) (S.view station.old) (S.view station.new) }
     ensures folder_faults { FolderCounts (failed result) (F.view folder.old).folder_faults (F.view folder.new).folder_faults }

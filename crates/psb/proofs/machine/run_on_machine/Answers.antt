@@ -1,4 +1,4 @@
-use Rattle.std.proofs.Common.{◌≡◌, ⊎_elim, ℕ, List, [], Some, ◌∙◌, ap}
+use Rattle.std.proofs.Common.{◌≡◌, ⊎_elim, ℕ, List, [], Option, Some, IfSome, ◌∙◌, ap, sym, subst}
 use Rattle.psb_station.specs.View.{View}
 use Rattle.psb_station.specs.Folder.{FolderView, Content, Lists}
 use Rattle.psb_station.proofs.Spans.{at_some}
@@ -6,6 +6,7 @@ use Rattle.psb_model.specs.Needed.{IsValid}
 use Rattle.psb_model.specs.declared.change.Change.{Change}
 use Rattle.node_journal.specs.Format.{Stands}
 use Rattle.node_core.specs.Stands.{HoldsHistory}
+use Rattle.snapshots.specs.Writing.{IsNotEmpty}
 use Rattle.snapshot_backup.specs.Backed.{IsSnapOf}
 use Rattle.backup_cli.specs.Served.{IsNode}
 use Rattle.psb.proofs.machine.run_on_machine.Goals as goal
@@ -40,6 +41,11 @@ returns-clause-restores g c = λ which root turns words told h settings valid ho
 
 pub returns-clause-empty : goal.returns-clause-empty
 returns-clause-empty g c = λ which root turns words done shows. at_some _ (λ (t : Content). Lists t root []) _ (c.run.ensures.empty which root turns words done shows) (ap (λ (v : FolderView). v.content) c.requires.first)
+
+pub returns-clause-supplied : goal.returns-clause-supplied
+returns-clause-supplied g c = λ which root turns words told shows h settings valid holds set t found empty supplied disk link folder say.
+    let first = ap (λ (v : FolderView). v.content) c.requires.first in
+    c.run.ensures.supplied which root turns words told shows h settings (held_first _ _ h c.requires.begun.reads valid holds) set t found (subst (λ (o : Option Content). IfSome o (λ c. ¬ IsNotEmpty c root)) (sym first) empty) supplied disk link folder say
 
 pub returns-clause-content : goal.returns-clause-content
 returns-clause-content g c = λ words told.
