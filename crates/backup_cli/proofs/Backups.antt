@@ -37,6 +37,7 @@ use Rattle.backup_cli.specs.BackedUp.{status_of, noted_line, Made, IsTooMuch, Is
 use Rattle.backup_cli.specs.declared.status.Status.{Status}
 use Rattle.backup_cli.specs.declared.status.Status.TheVariants.{Done, DiskFault, FolderFault, SayFault, TooLarge, Clash, Memory}
 use Rattle.backup_cli.proofs.Commanding.{NoOther, long_says, ended, lines_behind, lines_left, from_before}
+use Rattle.backup_cli.proofs.FileReads.{if_one}
 use Rattle.backup_cli.proofs.Ends.{refused_since, quiet_since, unopened_command}
 use Rattle.backup_cli.proofs.Forgettings.{quiet_then}
 use Rattle.backup_cli.proofs.Outcomes.{utters_as}
@@ -60,15 +61,11 @@ last_is {A = A} l before x y is got =
 
 -- ---- what is too much
 
-some_as : {A : Type 0} (o : Option A) (P Q : A → Type 0) → ((x : A) → P x → Q x) → IfSome o P → IfSome o Q
-some_as None P Q f h = tt
-some_as (Some x) P Q f h = f x h
-
 pub too_much : (s : State) (h : List Change) (root : List ℕ) (folder : FolderView) {P Q R : Type 0} → s ≡ state h
     → ((snaps_made s ≡ 4294967295) × P × R) ⊎ (IfSome folder.content (λ c. IsTooLarge c root) × Q) ⊎ IfSome folder.content (λ c. HasLongText c root) → IsTooMuch h root folder
 too_much s h root folder same (inl full) = inl (ap snaps_made (sym same) ∙ full.0)
-too_much s h root folder same (inr (inl walked)) = inr (some_as folder.content (λ c. IsTooLarge c root) (λ c. IsTooLarge c root ⊎ HasLongText c root) (λ c is. inl is) walked.0)
-too_much s h root folder same (inr (inr long)) = inr (some_as folder.content (λ c. HasLongText c root) (λ c. IsTooLarge c root ⊎ HasLongText c root) (λ c is. inr is) long)
+too_much s h root folder same (inr (inl walked)) = inr (if_one folder.content (λ c. IsTooLarge c root) (λ c. IsTooLarge c root ⊎ HasLongText c root) (λ c is. inl is) walked.0)
+too_much s h root folder same (inr (inr long)) = inr (if_one folder.content (λ c. HasLongText c root) (λ c. IsTooLarge c root ⊎ HasLongText c root) (λ c is. inr is) long)
 
 -- ---- the node was not opened
 

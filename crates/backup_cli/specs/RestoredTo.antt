@@ -1,5 +1,5 @@
 -- The headline of `restore`.
-use Rattle.std.specs.Prelude.{◌≡◌, ◌⊎◌, ℕ, ◌<◌, ◌==◌, Bool, true, false, if◌then◌else◌, List, [], ◌∷◌, ◌++◌, length, take, Option, Some, None, Result, Ok, Err, is_ok}
+use Rattle.std.specs.Prelude.{◌≡◌, ◌⊎◌, ℕ, ◌<◌, ◌==◌, Bool, true, false, if◌then◌else◌, List, [], ◌∷◌, ◌++◌, length, take, Option, Some, None, IfSome, Result, Ok, Err, is_ok}
 use Rattle.psb_bytes.specs.declared.ids.Ref.{Ref}
 use Rattle.psb_bytes.specs.declared.ids.Ticket.{Ticket}
 use Rattle.skeleton.specs.declared.faults.SkelFault.{SkelFault}
@@ -19,6 +19,7 @@ use Rattle.node_serve.specs.Hears.{Hears}
 use Rattle.node_serve.specs.Joins.{nodes_of, join_answers}
 use Rattle.node_serve.specs.Spans.{Fed}
 use Rattle.snapshots.specs.Got.{AreMet}
+use Rattle.snapshots.specs.Trees.{IsTree}
 use Rattle.snapshot_backup.specs.Course.{backup_course}
 use Rattle.snapshot_backup.specs.Kept.{own_bodies}
 use Rattle.snapshot_restore.specs.Course.{Fetch, all_of, heard_in, restore_steps}
@@ -189,10 +190,15 @@ Stops s = ⊥
 
 -- ---- from folder to folder
 
+-- The tree that stood in a folder as it was backed up stands in the target, with its counts.
+pub record IsBackAgain (root : List ℕ) (folder was is : FolderView) (target : List ℕ) (d : Restored) (tree : List Place) : Type 0 where
+  pub stood : IfSome folder.content (λ c. IsTree c root tree)
+  pub again : IsRestored was is target d tree
+
 -- What a backup said as its ticket, restored, is the folder's tree again; or two unequal texts were met that share a
 -- SHA-256: a body that the node had for itself behind the backup, and one that was used in the restore.
 abbrev pub BackupsComeBack : Type 0
 BackupsComeBack =
     (h : List Change) (root : List ℕ) (folder : FolderView) (steps : List Step) (made : Made h root folder steps)
     (was is : FolderView) (target : List ℕ) (d : Restored) (ts : List Taken) (tree : List Place) → IsExact was is made.note.ticket target d ts tree
-    → IsRestored was is target d made.places ⊎ AreMet (own_bodies (after_all (fresh h) (backup_course made.places made.note)).history) (taken_uses ts)
+    → IsBackAgain root folder was is target d made.places ⊎ AreMet (own_bodies (after_all (fresh h) (backup_course made.places made.note)).history) (taken_uses ts)

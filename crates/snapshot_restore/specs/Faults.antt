@@ -76,64 +76,31 @@ pub record Faults (device : Device) (old new : View) : Type 0 where
 abbrev pub IsOfTurn : RestoreFault → Type 0
 IsOfTurn (restore_fault.Node f) = f ≡ fault.DiskFault
 IsOfTurn restore_fault.Link = Unit {0}
-IsOfTurn restore_fault.Folder = ⊥
-IsOfTurn restore_fault.NotEmpty = ⊥
-IsOfTurn (restore_fault.Missing name) = ⊥
-IsOfTurn (restore_fault.Altered name got) = ⊥
-IsOfTurn (restore_fault.BadSkeleton f place) = ⊥
 IsOfTurn restore_fault.Memory = Unit {0}
+IsOfTurn e = ⊥
 
 -- at a place
 abbrev pub IsOfPlace : RestoreFault → Type 0
-IsOfPlace (restore_fault.Node f) = f ≡ fault.DiskFault
-IsOfPlace restore_fault.Link = Unit {0}
-IsOfPlace restore_fault.Folder = ⊥
-IsOfPlace restore_fault.NotEmpty = ⊥
 IsOfPlace (restore_fault.Missing name) = Unit {0}
 IsOfPlace (restore_fault.Altered name got) = Unit {0}
-IsOfPlace (restore_fault.BadSkeleton f place) = ⊥
-IsOfPlace restore_fault.Memory = Unit {0}
+IsOfPlace e = IsOfTurn e
 
 -- in a text
 abbrev pub IsOfText : RestoreFault → Type 0
-IsOfText (restore_fault.Node f) = f ≡ fault.DiskFault
-IsOfText restore_fault.Link = Unit {0}
-IsOfText restore_fault.Folder = ⊥
-IsOfText restore_fault.NotEmpty = ⊥
-IsOfText (restore_fault.Missing name) = Unit {0}
-IsOfText (restore_fault.Altered name got) = Unit {0}
 IsOfText (restore_fault.BadSkeleton f place) = Unit {0}
-IsOfText restore_fault.Memory = Unit {0}
+IsOfText e = IsOfPlace e
 
 -- in the tree
 abbrev pub IsOfTree : RestoreFault → Type 0
-IsOfTree (restore_fault.Node f) = f ≡ fault.DiskFault
-IsOfTree restore_fault.Link = Unit {0}
 IsOfTree restore_fault.Folder = Unit {0}
-IsOfTree restore_fault.NotEmpty = ⊥
-IsOfTree (restore_fault.Missing name) = Unit {0}
-IsOfTree (restore_fault.Altered name got) = Unit {0}
-IsOfTree (restore_fault.BadSkeleton f place) = ⊥
-IsOfTree restore_fault.Memory = Unit {0}
+IsOfTree e = IsOfPlace e
 
 -- in both
 abbrev pub IsOfBelow : RestoreFault → Type 0
-IsOfBelow (restore_fault.Node f) = f ≡ fault.DiskFault
-IsOfBelow restore_fault.Link = Unit {0}
 IsOfBelow restore_fault.Folder = Unit {0}
-IsOfBelow restore_fault.NotEmpty = ⊥
-IsOfBelow (restore_fault.Missing name) = Unit {0}
-IsOfBelow (restore_fault.Altered name got) = Unit {0}
-IsOfBelow (restore_fault.BadSkeleton f place) = Unit {0}
-IsOfBelow restore_fault.Memory = Unit {0}
+IsOfBelow e = IsOfText e
 
 -- in all
 abbrev pub IsOfRestore : RestoreFault → Type 0
-IsOfRestore (restore_fault.Node f) = f ≡ fault.DiskFault
-IsOfRestore restore_fault.Link = Unit {0}
-IsOfRestore restore_fault.Folder = Unit {0}
 IsOfRestore restore_fault.NotEmpty = Unit {0}
-IsOfRestore (restore_fault.Missing name) = Unit {0}
-IsOfRestore (restore_fault.Altered name got) = Unit {0}
-IsOfRestore (restore_fault.BadSkeleton f place) = Unit {0}
-IsOfRestore restore_fault.Memory = Unit {0}
+IsOfRestore e = IsOfBelow e

@@ -3,7 +3,6 @@ use node_serve::ServeFault;
 use psb_bytes::{Bytes, Digest, Memory};
 use skeleton::SkelFault;
 use snapshots::WriteFault;
-use std::alloc::{AllocError, AllocFailed};
 use std::fmt::{self, Debug, Formatter, Write};
 use thiserror::Error;
 
@@ -92,28 +91,6 @@ impl From<Memory> for RestoreFault {
     ghost from_gives = { λ _ f. f ≡ restore_fault.Memory };
 
     fn from(_: Memory) -> Self {
-        RestoreFault::Memory
-    }
-}
-
-impl From<AllocError> for RestoreFault {
-    ghost use Rattle.std.specs.Prelude.{◌≡◌};
-    ghost use Rattle.snapshot_restore.specs.declared.fault.RestoreFault.TheVariants as restore_fault;
-
-    ghost from_gives = { λ _ f. f ≡ restore_fault.Memory };
-
-    fn from(_: AllocError) -> Self {
-        RestoreFault::Memory
-    }
-}
-
-impl<T: Drop> From<AllocFailed<T>> for RestoreFault {
-    ghost use Rattle.std.specs.Prelude.{◌≡◌};
-    ghost use Rattle.snapshot_restore.specs.declared.fault.RestoreFault.TheVariants as restore_fault;
-
-    ghost from_gives = { λ _ f. f ≡ restore_fault.Memory };
-
-    fn from(_: AllocFailed<T>) -> Self {
         RestoreFault::Memory
     }
 }

@@ -2,7 +2,8 @@ use Rattle.std.proofs.Common.{◌≡◌, ◌-◌, ℕ, suc, List, ◌++◌, refl
 use Rattle.psb_bytes.specs.declared.ids.Ref.{Ref}
 use Rattle.snapshot_restore.specs.Reading.{IsTextRead}
 use Rattle.snapshot_restore.specs.StoppedTexts.{StopsLevels}
-use Rattle.snapshot_restore.proofs.Results.{ok_also, err_also}
+use Rattle.node_core.proofs.Presence.{ok_map}
+use Rattle.snapshot_restore.proofs.Results.{err_also}
 use Rattle.snapshot_restore.proofs.Taking.{takes_then}
 use Rattle.snapshot_restore.proofs.LevelRuns.{levels_cut, levels_stopped}
 use Rattle.snapshot_restore.proofs.texts.+fetch_skeleton.Goals as goal
@@ -18,7 +19,7 @@ returns-clause-read g n c =
     let some : suc (c.args.levels - 1) ≡ c.args.levels = search rules in
     let first = c.in-Ok.ensures.read in
     let next = c.as_slice.ensures in
-    ok_also c.fetch_skeleton.result _ _
+    ok_map c.fetch_skeleton.result _ _
     (λ s r.
     let ts = first.0 ++ r.0 in (
       ts,
