@@ -11,10 +11,10 @@ use Rattle.chunk_store.specs.Records.{or_else}
 use Rattle.chunk_store.specs.Store.{record_of, is_owner}
 use Rattle.psb_model.specs.declared.entries.OwnEntry.{OwnEntry}
 use Rattle.psb_model.specs.declared.change.Change.{Change}
-use Rattle.psb_model.specs.declared.change.Change.TheVariants.{Begun, Kept, Snapped, Forgot, TookFresh, Refused}
+use Rattle.psb_model.specs.declared.change.Change.TheVariants.{Begun, Kept, Snapped, Forgot, TookFresh, TookSwap, LetGo, LetGoBack, Refused}
 use Rattle.psb_model.specs.Words.{name_eq, name_listed, has}
 use Rattle.psb_model.specs.State.{Row, State, nothing_yet, row, row_in, has_row, at_row, is_peer, in_key, own_has, is_held}
-use Rattle.psb_model.specs.Conditions.{allowed, tests, settings_of_body}
+use Rattle.psb_model.specs.Conditions.{allowed, tests, settings_of_body, peer_of, is_begun}
 use Rattle.psb_model.specs.Effects.{after, kept_lists, kept_without}
 use Rattle.psb_model.specs.History.{state, is_built, is_lawful}
 use Rattle.psb_model.specs.Needed.{brings_name}
@@ -22,12 +22,13 @@ use Rattle.psb_model.proofs.ByObject.{by_cases}
 use Rattle.psb_model.proofs.Own.{name_same}
 use Rattle.psb_model.proofs.Rows.{row_in-at_row, row_in-at_other, row_in-first_rows}
 use Rattle.psb_model.proofs.Steps.{parts}
-use Rattle.psb_model.proofs.Built.{IsPlain, plain_state, allows, begun_before, changed, rows_fresh, rows_refused, held_in, own_is, own_with_is, Gains, fresh_gains, refused_gains, all_gain, none_first, was_held, brings_none}
+use Rattle.psb_model.proofs.Built.{IsPlain, plain_state, allows, begun_before, changed, rows_one, row_then, held_in, own_is, own_with_is, Gains, Loses, fresh_gains, swap_gains, refused_gains, let_go_loses, put_back_loses, all_gain, none_first, was_held, brings_none}
 use Rattle.psb_model.proofs.Prefixes.{state_snoc, changes_counted}
 use Rattle.node_core.specs.declared.entering.Entering.{Entering}
-use Rattle.node_core.specs.Names.{owns, brought_from, KnowsNames, AreThere, Adds, SameNames, HasNoOwner, IsLeft, Forgets, Enters, IsEntering, Enter, IsNew}
+use Rattle.node_core.specs.Names.{owns, brought_from, KnowsNames, AreThere, Adds, SameNames, HasNoOwner, IsLeft, Drops, Forgets, Enters, IsEntering, Enter, IsNew}
 use Rattle.node_core.proofs.Brought.{brought_snoc}
-use Rattle.node_core.proofs.Ordering.{ordered_state, none_in_row, none_in_rows}
+use Rattle.node_core.proofs.Ordering.{IsOrdered, ordered_state, ordered_after, none_in_row, none_in_rows}
+use Rattle.node_core.proofs.Dropping.{owner_same}
 
 -- ---- one of two
 
@@ -147,14 +148,18 @@ kept_brings : (name : List ℕ) (len : ℕ) (new : Bool) (body : Option (List �
 kept_brings name len true body q = refl
 kept_brings name len false body q = refl
 
+swap_brings : (p deal : ℕ) (name numbers : List ℕ) (len : ℕ) (new : Bool) (body : Option (List ℕ)) (q : List ℕ) → brings_name q (TookSwap p deal name numbers len new body) ≡ (new && name_eq name q)
+swap_brings p deal name numbers len true body q = refl
+swap_brings p deal name numbers len false body q = refl
+
 fresh_brings : (p deal : ℕ) (name : List ℕ) (first len : ℕ) (new : Bool) (body : Option (List ℕ)) (q : List ℕ) → brings_name q (TookFresh p deal name first len new body) ≡ (new && name_eq name q)
 fresh_brings p deal name first len true body q = refl
 fresh_brings p deal name first len false body q = refl
 
 -- what is left of a name that has a record has it still
-left_record : (old new : Store) (q : List ℕ) (k : ℕ) → IsLeft old new q → record_of new q ≡ Some k → record_of old q ≡ Some k
-left_record old new q k (inl was) is = sym was.0 ∙ is
-left_record old new q k (inr none) is = absurd (let clash : None ≡ Some k = sym none.0 ∙ is in cc)
+left_record : (old new : Store) (owner : Owner) (q : List ℕ) (k : ℕ) → IsLeft old new owner q → record_of new q ≡ Some k → record_of old q ≡ Some k
+left_record old new owner q k (inl was) is = sym was.0 ∙ is
+left_record old new owner q k (inr none) is = absurd (let clash : None ≡ Some k = sym none.0 ∙ is in cc)
 
 pub placed : (old new : Store) (h : List Change) (c : Change) (number : ℕ) → is_lawful h ≡ true → list_all is_built h ≡ true → is_built c ≡ true → allowed (state h) c ≡ true → KnowsNames old h → Enters (state h) old new c number → (q : List ℕ) (k : ℕ) → record_of new q ≡ Some k → IsPlaced old c number q k
 placed old new h (Begun body) number lawful built is may knows enters q k here = inl (sym (enters.records q) ∙ here, refl)
@@ -163,11 +168,17 @@ placed old new h (Kept name len brings body) number lawful built is may knows en
     let ts = parts (tests (state h) c) (allows (state h) c may).tests in
     added_placed old new h c Own name brings number refl may (kept_brings name len brings body) (λ free. is_fresh (is_held (state h) name) brings ts.1.0 free) knows enters q k here
 placed old new h (Snapped snapshot ticket files folders bytes left names) number lawful built is may knows enters q k here = inl (sym (enters.records q) ∙ here, refl)
-placed old new h (Forgot snapshot) number lawful built is may knows enters q k here = inl (left_record old new q k (enters.drops.records q) here, refl)
+placed old new h (Forgot snapshot) number lawful built is may knows enters q k here = inl (left_record old new Own q k (enters.drops.records q) here, refl)
 placed old new h (TookFresh p deal name first len brings body) number lawful built is may knows enters q k here =
     let c : Change = TookFresh p deal name first len brings body in
     let ts = parts (tests (state h) c) (allows (state h) c may).tests in
     added_placed old new h c (Peer p) name brings number refl may (fresh_brings p deal name first len brings body) (λ free. is_fresh (is_held (state h) name) brings ts.1.1.0 free) knows enters q k here
+placed old new h (TookSwap p deal name numbers len brings body) number lawful built is may knows enters q k here =
+    let c : Change = TookSwap p deal name numbers len brings body in
+    let ts = parts (tests (state h) c) (allows (state h) c may).tests in
+    added_placed old new h c (Peer p) name brings number refl may (swap_brings p deal name numbers len brings body) (λ free. is_fresh (is_held (state h) name) brings ts.1.1.0 free) knows enters q k here
+placed old new h (LetGo p deal name numbers) number lawful built is may knows enters q k here = inl (left_record old new (Peer p) q k (enters.records q) here, refl)
+placed old new h (LetGoBack p deal name numbers body) number lawful built is may knows enters q k here = inl (left_record old new (Peer p) q k (enters.records q) here, refl)
 placed old new h (Refused p deal why detail) number lawful built is may knows enters q k here = inl (sym (enters.records q) ∙ here, refl)
 placed old new h _ number lawful built is may knows enters q k here = absurd (false≢true is)
 
@@ -206,16 +217,62 @@ or_parts : (a b : Bool) → (a || b) ≡ false → (a ≡ false) × (b ≡ false
 or_parts true b h = absurd (false≢true (sym h))
 or_parts false b h = (refl, h)
 
-forgot_names : (old new : Store) (h : List Change) (number : ℕ) → is_lawful h ≡ true → list_all is_built h ≡ true → allowed (state h) (Forgot number) ≡ true → KnowsNames old h → Forgets (state h) old new number → KnowsNames new (h ++ Forgot number ∷ [])
-forgot_names old new h number lawful built may knows f = record {
+and_true : (a : Bool) → (a && true) ≡ a
+and_true true = refl
+and_true false = refl
+
+-- where the store has the owners of a state: who is not held has no owner, and who has none is not held
+nobody_has : (store : Store) (s : State) (q : List ℕ) → ((o : Owner) → is_owner store o q ≡ owns s o q) → is_held s q ≡ false → HasNoOwner store q
+nobody_has store s q owners free Own = owners Own ∙ (or_parts (own_has s.own q) (held_in s.rows q) free).0
+nobody_has store s q owners free (Peer p) = owners (Peer p) ∙ none_in_row s.rows q p (or_parts (own_has s.own q) (held_in s.rows q) free).1
+
+not_held : (store : Store) (s : State) (q : List ℕ) → IsOrdered s → ((o : Owner) → is_owner store o q ≡ owns s o q) → HasNoOwner store q → is_held s q ≡ false
+not_held store s q ordered owners nobody =
+    let own : own_has s.own q ≡ false = sym (owners Own) ∙ nobody Own in
+    let rows : held_in s.rows q ≡ false = none_in_rows s.rows q ordered.rows (λ p. sym (owners (Peer p)) ∙ nobody (Peer p)) in
+    rw own rows
+
+-- An owner was taken from some names by a change that brings no bytes: a name is held where it has an owner left.
+left_names : (old new : Store) (h : List Change) (c : Change) (owner : Owner) (gone : List ℕ → Bool) → is_lawful h ≡ true → list_all is_built h ≡ true → is_built c ≡ true → is_begun c ≡ false → allowed (state h) c ≡ true → ((q : List ℕ) → brings_name q c ≡ false)
+    → KnowsNames old h → Drops old new owner gone → ((o : Owner) (q : List ℕ) → is_owner new o q ≡ owns (after (state h) c) o q) → KnowsNames new (h ++ c ∷ [])
+left_names old new h c owner gone lawful built is later may none knows drops owners_now = record {
   owners = λ o q. owners_now o q ∙ ap (λ (x : State). owns x o q) (sym (state_snoc h c));
-  held = λ q. held_now q (f.drops.records q) ∙ ap (λ (x : State). is_held x q) (sym (state_snoc h c));
-  records = λ q k is. brought_snoc 0 q h c ∙ knows.records q k (left_record old new q k (f.drops.records q) is);
+  held = λ q. held_now q (drops.records q) ∙ ap (λ (x : State). is_held x q) (sym (state_snoc h c));
+  records = λ q k there. brought_snoc 0 q h c ∙ ap (λ (b : Bool). cond b (Some (0 + length h)) (brought_from 0 q h)) (none q) ∙ knows.records q k (left_record old new owner q k (drops.records q) there);
 }
   where
-    c : Change
-    c = Forgot number
+    t : State
+    t = after (state h) c
 
+    ordered : IsOrdered (state h)
+    ordered = ordered_state h lawful built
+
+    ordered_now : IsOrdered t
+    ordered_now = ordered_after (state h) c (plain_state h lawful built) is may ordered
+
+    -- where this owner has the name as before, each other has
+    same_owners : (q : List ℕ) → is_owner new owner q ≡ is_owner old owner q → (o : Owner) → is_owner new o q ≡ is_owner old o q
+    same_owners q same o = by_cases (owner_eq owner o)
+        (λ k. subst (λ (x : Owner). is_owner new x q ≡ is_owner old x q) (owner_same owner o k) same)
+        (λ k. drops.owners o q ∙ ap (λ (b : Bool). is_owner old o q && not (gone q && b)) k ∙ ap (λ (b : Bool). is_owner old o q && not b) (and_none (gone q)) ∙ and_true (is_owner old o q))
+
+    was : (q : List ℕ) → is_held t q ≡ true → is_held (state h) q ≡ true
+    was q held = was_held (state h) c q (begun_before (state h) c later may) (plain_state h lawful built) is may held (none q)
+
+    held_now : (q : List ℕ) → IsLeft old new owner q → is_some (record_of new q) ≡ is_held t q
+    held_now q (inl (record_is, inl same)) = ap is_some record_is ∙ knows.held q ∙ by_cases (is_held t q)
+        (λ held. was q held ∙ sym held)
+        (λ free.
+        let nobody : HasNoOwner old q = λ o. sym (same_owners q same o) ∙ nobody_has new t q (λ x. owners_now x q) free o in
+        not_held old (state h) q ordered (λ o. knows.owners o q) nobody ∙ sym free)
+    held_now q (inl (record_is, inr owned)) = by_cases (is_held t q)
+        (λ held. ap is_some record_is ∙ knows.held q ∙ was q held ∙ sym held)
+        (λ free. absurd (owned.some (nobody_has new t q (λ o. owners_now o q) free)))
+    held_now q (inr (gone_is, nobody)) = ap is_some gone_is ∙ sym (not_held new t q ordered_now (λ o. owners_now o q) nobody)
+
+forgot_names : (old new : Store) (h : List Change) (number : ℕ) → is_lawful h ≡ true → list_all is_built h ≡ true → allowed (state h) (Forgot number) ≡ true → KnowsNames old h → Forgets (state h) old new number → KnowsNames new (h ++ Forgot number ∷ [])
+forgot_names old new h number lawful built may knows f = left_names old new h (Forgot number) Own f.gone lawful built refl refl may (λ q. refl) knows f.drops owners_now
+  where
     own_now : (q : List ℕ) → own_has (after (state h) (Forgot number)).own q ≡ (own_has (state h).own q && kept_lists (kept_without number (state h).kept) q)
     own_now q = ap (λ own. own_has own q) (own_is (state h) (Forgot number) (plain_state h lawful built) refl) ∙ own_filtered (kept_lists (kept_without number (state h).kept)) (state h).own q
 
@@ -223,10 +280,6 @@ forgot_names old new h number lawful built may knows f = record {
     gone_own false g w is = refl
     gone_own true g true is = ap (λ (b : Bool). not (b && true)) (is refl)
     gone_own true g false is = ap (λ (b : Bool). not (b && true)) (is refl)
-
-    and_true : (a : Bool) → (a && true) ≡ a
-    and_true true = refl
-    and_true false = refl
 
     owners_now : (o : Owner) (q : List ℕ) → is_owner new o q ≡ owns (after (state h) (Forgot number)) o q
     owners_now Own q =
@@ -236,25 +289,22 @@ forgot_names old new h number lawful built may knows f = record {
         ∙ sym (own_now q)
     owners_now (Peer p) q = f.drops.owners (Peer p) q ∙ ap (λ (b : Bool). is_owner old (Peer p) q && not b) (and_none (f.gone q)) ∙ and_true (is_owner old (Peer p) q) ∙ knows.owners (Peer p) q
 
-    -- a name that is not held has no owner, and one without an owner is not held
-    no_owner : (q : List ℕ) → is_held (after (state h) (Forgot number)) q ≡ false → HasNoOwner new q
-    no_owner q free Own = owners_now Own q ∙ (or_parts (own_has (after (state h) (Forgot number)).own q) (held_in (state h).rows q) free).0
-    no_owner q free (Peer p) = owners_now (Peer p) q ∙ none_in_row (state h).rows q p (or_parts (own_has (after (state h) (Forgot number)).own q) (held_in (state h).rows q) free).1
+-- a peer let a chunk go
+let_go_names : (old new : Store) (h : List Change) (c : Change) (p : ℕ) (name : List ℕ) → is_lawful h ≡ true → list_all is_built h ≡ true → is_built c ≡ true → is_begun c ≡ false → peer_of c ≡ Some p → is_peer (state h) p ≡ true → (after (state h) c).own ≡ (state h).own → allowed (state h) c ≡ true → ((q : List ℕ) → brings_name q c ≡ false) → ((q : List ℕ) → Loses (changed (state h) c) name q)
+    → KnowsNames old h → Drops old new (Peer p) (name_eq name) → KnowsNames new (h ++ c ∷ [])
+let_go_names old new h c p name lawful built is later peer here own may none loses knows drops = left_names old new h c (Peer p) (name_eq name) lawful built is later may none knows drops owners_now
+  where
+    s : State
+    s = state h
 
-    not_held : (q : List ℕ) → HasNoOwner new q → is_held (after (state h) (Forgot number)) q ≡ false
-    not_held q nobody =
-        let own : own_has (after (state h) (Forgot number)).own q ≡ false = sym (owners_now Own q) ∙ nobody Own in
-        let rows : held_in (state h).rows q ≡ false = none_in_rows (state h).rows q (ordered_state h lawful built).rows (λ p. sym (owners_now (Peer p) q) ∙ nobody (Peer p)) in
-        rw own rows
+    row_now : (r : ℕ) (q : List ℕ) → has in_key (row (after s c) r).ins (Chunk q) ≡ (has in_key (row s r).ins (Chunk q) && not (name_eq name q && (p == r)))
+    row_now r q = ap (λ (x : Row). has in_key x.ins (Chunk q)) (row_then s c p r (plain_state h lawful built).rows is peer here) ∙ by_cases (p == r)
+        (λ k. rw k (loses q (row s r) ∙ ap (λ (b : Bool). has in_key (row s r).ins (Chunk q) && not b) (sym (and_true (name_eq name q)))))
+        (λ k. rw k (sym (ap (λ (b : Bool). has in_key (row s r).ins (Chunk q) && not b) (and_none (name_eq name q)) ∙ and_true (has in_key (row s r).ins (Chunk q)))))
 
-    held_now : (q : List ℕ) → IsLeft old new q → is_some (record_of new q) ≡ is_held (after (state h) (Forgot number)) q
-    held_now q (inl (was, inl same)) =
-        ap is_some was ∙ knows.held q
-        ∙ ap (λ (b : Bool). b || held_in (state h).rows q) (sym (knows.owners Own q) ∙ sym same ∙ owners_now Own q)
-    held_now q (inl (was, inr owned)) = by_cases (is_held (after (state h) (Forgot number)) q)
-        (λ held. ap is_some was ∙ knows.held q ∙ was_held (state h) (Forgot number) q (begun_before (state h) (Forgot number) refl may) (plain_state h lawful built) refl may held refl ∙ sym held)
-        (λ free. absurd (owned.some (no_owner q free)))
-    held_now q (inr (none, nobody)) = ap is_some none ∙ sym (not_held q nobody)
+    owners_now : (o : Owner) (q : List ℕ) → is_owner new o q ≡ owns (after s c) o q
+    owners_now Own q = drops.owners Own q ∙ ap (λ (b : Bool). is_owner old Own q && not b) (and_none (name_eq name q)) ∙ and_true (is_owner old Own q) ∙ knows.owners Own q ∙ ap (λ l. own_has l q) (sym own)
+    owners_now (Peer r) q = drops.owners (Peer r) q ∙ ap (λ (b : Bool). b && not (name_eq name q && (p == r))) (knows.owners (Peer r) q) ∙ sym (row_now r q)
 
 begun_names : (old new : Store) (h : List Change) (body : Option (List ℕ)) → length h ≡ 0 → KnowsNames old h → SameNames old new → KnowsNames new (h ++ Begun body ∷ [])
 begun_names old new h body none knows same = at h none knows
@@ -296,12 +346,24 @@ names_grown old new h (TookFresh p deal name first len brings body) lawful built
     let c : Change = TookFresh p deal name first len brings body in
     let s = state h in
     added_names old new h c (Peer p) name
-    (differ_at s (after s c) p (changed s c) name true (own_is s c (plain_state h lawful built) refl) (rows_fresh s p deal name first len brings body) (allows s c may).peer (λ q. fresh_gains s p deal name first len brings body q))
+    (differ_at s (after s c) p (changed s c) name true (own_is s c (plain_state h lawful built) refl) (rows_one s c p (plain_state h lawful built).rows refl refl) (allows s c may).peer (λ q. fresh_gains s p deal name first len brings body q))
     knows enters (placed old new h c (length h) lawful built is may knows enters)
+names_grown old new h (TookSwap p deal name numbers len brings body) lawful built is may knows enters =
+    let c : Change = TookSwap p deal name numbers len brings body in
+    let s = state h in
+    added_names old new h c (Peer p) name
+    (differ_at s (after s c) p (changed s c) name true (own_is s c (plain_state h lawful built) refl) (rows_one s c p (plain_state h lawful built).rows refl refl) (allows s c may).peer (λ q. swap_gains s p deal name numbers len brings body q))
+    knows enters (placed old new h c (length h) lawful built is may knows enters)
+names_grown old new h (LetGo p deal name numbers) lawful built is may knows enters =
+    let c : Change = LetGo p deal name numbers in
+    let_go_names old new h c p name lawful built refl refl refl (allows (state h) c may).peer (own_is (state h) c (plain_state h lawful built) refl) may (λ q. refl) (λ q. let_go_loses (state h) p deal name numbers q) knows enters
+names_grown old new h (LetGoBack p deal name numbers body) lawful built is may knows enters =
+    let c : Change = LetGoBack p deal name numbers body in
+    let_go_names old new h c p name lawful built refl refl refl (allows (state h) c may).peer (own_is (state h) c (plain_state h lawful built) refl) may (λ q. refl) (λ q. put_back_loses (state h) p deal name numbers body q) knows enters
 names_grown old new h (Refused p deal why detail) lawful built is may knows enters =
     let c : Change = Refused p deal why detail in
     let s = state h in
-    let differ : Differ s (after s c) (Peer p) [] false = differ_at s (after s c) p (changed s c) [] false (own_is s c (plain_state h lawful built) refl) (rows_refused s p deal why detail) (allows s c may).peer (λ q. refused_gains s p deal why detail q) in
+    let differ : Differ s (after s c) (Peer p) [] false = differ_at s (after s c) p (changed s c) [] false (own_is s c (plain_state h lawful built) refl) (rows_one s c p (plain_state h lawful built).rows refl refl) (allows s c may).peer (λ q. refused_gains s p deal why detail q) in
     same_names old new h c (λ q. refl) (λ o q. differ.owners o q ∙ or_none (owns s o q)) (λ q. differ.held q ∙ or_none (is_held s q)) knows enters
 names_grown old new h _ lawful built is may knows enters = absurd (false≢true is)
 
@@ -334,6 +396,12 @@ is_new store h s (TookFresh p deal name first len brings body) e knows here is m
     let c : Change = TookFresh p deal name first len brings body in
     let ts = parts (tests s c) (allows s c may).tests in
     subst (IsNew store) (sym it) (knows.owners (Peer p) name ∙ ap (λ (t : State). owns t (Peer p) name) (sym here) ∙ not_true (has in_key (row s p).ins (Chunk name)) ts.1.0)
+is_new store h s (TookSwap p deal name numbers len brings body) e knows here is may it =
+    let c : Change = TookSwap p deal name numbers len brings body in
+    let ts = parts (tests s c) (allows s c may).tests in
+    subst (IsNew store) (sym it) (knows.owners (Peer p) name ∙ ap (λ (t : State). owns t (Peer p) name) (sym here) ∙ not_true (has in_key (row s p).ins (Chunk name)) ts.1.0)
+is_new store h s (LetGo p deal name numbers) e knows here is may it = subst (IsNew store) (sym it) tt
+is_new store h s (LetGoBack p deal name numbers body) e knows here is may it = subst (IsNew store) (sym it) tt
 is_new store h s (Refused p deal why detail) e knows here is may it = subst (IsNew store) (sym it) tt
 is_new store h s _ e knows here is may it = absurd (false≢true is)
 
@@ -344,6 +412,9 @@ enters_of s old new (Kept name len brings body) e number is it enter = subst (λ
 enters_of s old new (Snapped snapshot ticket files folders bytes left names) e number is it enter = subst (λ (x : Entering). Enter old new x number) it enter
 enters_of s old new (Forgot snapshot) e number is it enter = record { gone = name_listed it.0; are = it.2; drops = subst (λ (x : Entering). Enter old new x number) it.1 enter }
 enters_of s old new (TookFresh p deal name first len brings body) e number is it enter = subst (λ (x : Entering). Enter old new x number) it enter
+enters_of s old new (TookSwap p deal name numbers len brings body) e number is it enter = subst (λ (x : Entering). Enter old new x number) it enter
+enters_of s old new (LetGo p deal name numbers) e number is it enter = subst (λ (x : Entering). Enter old new x number) it enter
+enters_of s old new (LetGoBack p deal name numbers body) e number is it enter = subst (λ (x : Entering). Enter old new x number) it enter
 enters_of s old new (Refused p deal why detail) e number is it enter = subst (λ (x : Entering). Enter old new x number) it enter
 enters_of s old new _ e number is it enter = absurd (false≢true is)
 
@@ -385,7 +456,10 @@ pub there_grown : (s : State) (old new : Store) (c : Change) (size more : ℕ) (
 there_grown s old new (Begun body) size more keeps keeps' is longer same last there enters = λ q k here. still_there size more keeps keeps' k (longer, same, last) (there q k (sym (enters.records q) ∙ here))
 there_grown s old new (Kept name len brings body) size more keeps keeps' is longer same last there enters = added_there old new Own name size more keeps keeps' (longer, same, last) there enters
 there_grown s old new (Snapped snapshot ticket files folders bytes left names) size more keeps keeps' is longer same last there enters = λ q k here. still_there size more keeps keeps' k (longer, same, last) (there q k (sym (enters.records q) ∙ here))
-there_grown s old new (Forgot snapshot) size more keeps keeps' is longer same last there enters = λ q k here. still_there size more keeps keeps' k (longer, same, last) (there q k (left_record old new q k (enters.drops.records q) here))
+there_grown s old new (Forgot snapshot) size more keeps keeps' is longer same last there enters = λ q k here. still_there size more keeps keeps' k (longer, same, last) (there q k (left_record old new Own q k (enters.drops.records q) here))
 there_grown s old new (TookFresh p deal name first len brings body) size more keeps keeps' is longer same last there enters = added_there old new (Peer p) name size more keeps keeps' (longer, same, last) there enters
+there_grown s old new (TookSwap p deal name numbers len brings body) size more keeps keeps' is longer same last there enters = added_there old new (Peer p) name size more keeps keeps' (longer, same, last) there enters
+there_grown s old new (LetGo p deal name numbers) size more keeps keeps' is longer same last there enters = λ q k here. still_there size more keeps keeps' k (longer, same, last) (there q k (left_record old new (Peer p) q k (enters.records q) here))
+there_grown s old new (LetGoBack p deal name numbers body) size more keeps keeps' is longer same last there enters = λ q k here. still_there size more keeps keeps' k (longer, same, last) (there q k (left_record old new (Peer p) q k (enters.records q) here))
 there_grown s old new (Refused p deal why detail) size more keeps keeps' is longer same last there enters = λ q k here. still_there size more keeps keeps' k (longer, same, last) (there q k (sym (enters.records q) ∙ here))
 there_grown s old new _ size more keeps keeps' is longer same last there enters = absurd (false≢true is)

@@ -10,17 +10,17 @@ use Rattle.psb_settings.specs.Settings.{have_distinct_ids, has_id}
 use Rattle.psb_settings.proofs.Ranges.{settings_of-are}
 use Rattle.psb_model.specs.declared.entries.Snapshot.{Snapshot}
 use Rattle.psb_model.specs.declared.change.Change.{Change}
-use Rattle.psb_model.specs.declared.change.Change.TheVariants.{Begun, Kept, Snapped, Forgot, TookFresh, Refused}
+use Rattle.psb_model.specs.declared.change.Change.TheVariants.{Begun, Kept, Snapped, Forgot, TookFresh, TookSwap, LetGo, LetGoBack, Refused}
 use Rattle.psb_model.specs.Words.{has}
 use Rattle.psb_model.specs.State.{Row, State, nothing_yet, row_in, has_row, at_row, in_key, own_has}
-use Rattle.psb_model.specs.Conditions.{allowed, tests, names_ascend, settings_of_body}
+use Rattle.psb_model.specs.Conditions.{allowed, tests, names_ascend, settings_of_body, peer_of}
 use Rattle.psb_model.specs.Effects.{after, blank_rows, first_rows, kept_lists, kept_without}
 use Rattle.psb_model.specs.History.{state, state_from, lawful_from, is_lawful, is_built}
 use Rattle.psb_model.proofs.ByObject.{by_cases}
 use Rattle.psb_model.proofs.Steps.{parts}
 use Rattle.psb_model.proofs.Rows.{has_row-at_row}
 use Rattle.psb_model.proofs.Prefixes.{lawful_cons}
-use Rattle.psb_model.proofs.Built.{IsPlain, plain_nothing, plain_after, allows, changed, rows_fresh, rows_refused, own_is, held_in}
+use Rattle.psb_model.proofs.Built.{IsPlain, plain_nothing, plain_after, allows, changed, rows_one, own_is, held_in}
 use Rattle.psb_ledger.specs.View.{in_order, own_key}
 use Rattle.psb_ledger.proofs.OwnTrees.{ordered_with, ordered_kept}
 
@@ -115,7 +115,15 @@ all_less n (x ∷ xs) h =
     let a = and_parts (ascends x) (list_all ascends xs) h in
     by_cases (not (x.number == n)) (λ k. rw k (rw a.0 (all_less n xs a.1))) (λ k. rw k (all_less n xs a.1))
 
-ordered_after : (s : State) (c : Change) → IsPlain s → is_built c ≡ true → allowed s c ≡ true → IsOrdered s → IsOrdered (after s c)
+-- a change of a peer leaves the own chunks and the snapshots, and each peer its one row
+ordered_peer : (s : State) (c : Change) (q : ℕ) → IsPlain s → is_built c ≡ true → peer_of c ≡ Some q → (after s c).own ≡ s.own → (after s c).kept ≡ s.kept → IsOrdered s → IsOrdered (after s c)
+ordered_peer s c q p b peer own kept o = record {
+  own = subst (λ own. in_order own_key own ≡ true) (sym own) o.own;
+  kept = subst (λ ks. list_all ascends ks ≡ true) (sym kept) o.kept;
+  rows = subst (λ (l : List (ℕ × Row)). are_distinct l ≡ true) (sym (rows_one s c q p.rows b peer)) (distinct_at_row q (changed s c) s.rows o.rows);
+}
+
+pub ordered_after : (s : State) (c : Change) → IsPlain s → is_built c ≡ true → allowed s c ≡ true → IsOrdered s → IsOrdered (after s c)
 ordered_after s (Begun body) p b h o = record { own = subst (λ own. in_order own_key own ≡ true) (sym (own_is s (Begun body) p refl)) o.own; kept = o.kept; rows = distinct_first body }
 ordered_after s (Kept name len new body) p b h o =
     let c : Change = Kept name len new body in
@@ -138,20 +146,11 @@ ordered_after s (Forgot number) p b h o = record {
   kept = all_less number s.kept o.kept;
   rows = o.rows;
 }
-ordered_after s (TookFresh q deal name first len new body) p b h o =
-    let c : Change = TookFresh q deal name first len new body in
-    record {
-      own = subst (λ own. in_order own_key own ≡ true) (sym (own_is s c p refl)) o.own;
-      kept = o.kept;
-      rows = subst (λ (l : List (ℕ × Row)). are_distinct l ≡ true) (sym (rows_fresh s q deal name first len new body)) (distinct_at_row q (changed s c) s.rows o.rows);
-    }
-ordered_after s (Refused q deal why detail) p b h o =
-    let c : Change = Refused q deal why detail in
-    record {
-      own = subst (λ own. in_order own_key own ≡ true) (sym (own_is s c p refl)) o.own;
-      kept = o.kept;
-      rows = subst (λ (l : List (ℕ × Row)). are_distinct l ≡ true) (sym (rows_refused s q deal why detail)) (distinct_at_row q (changed s c) s.rows o.rows);
-    }
+ordered_after s (TookFresh q deal name first len new body) p b h o = let c : Change = TookFresh q deal name first len new body in ordered_peer s c q p refl refl (own_is s c p refl) refl o
+ordered_after s (TookSwap q deal name numbers len new body) p b h o = let c : Change = TookSwap q deal name numbers len new body in ordered_peer s c q p refl refl (own_is s c p refl) refl o
+ordered_after s (LetGo q deal name numbers) p b h o = let c : Change = LetGo q deal name numbers in ordered_peer s c q p refl refl (own_is s c p refl) refl o
+ordered_after s (LetGoBack q deal name numbers body) p b h o = let c : Change = LetGoBack q deal name numbers body in ordered_peer s c q p refl refl (own_is s c p refl) refl o
+ordered_after s (Refused q deal why detail) p b h o = let c : Change = Refused q deal why detail in ordered_peer s c q p refl refl (own_is s c p refl) refl o
 ordered_after s _ p b h o = absurd (false≢true b)
 
 ordered_from : (s : State) (h : List Change) → IsPlain s → lawful_from s h ≡ true → list_all is_built h ≡ true → IsOrdered s → IsOrdered (state_from s h)
@@ -159,7 +158,7 @@ ordered_from s [] p v b o = o
 ordered_from s (c ∷ cs) p v b o =
     let l = lawful_cons s c cs v in
     let two = and_parts (is_built c) (list_all is_built cs) b in
-    ordered_from (after s c) cs (plain_after s c p two.0 l.allows) l.rest two.1 (ordered_after s c p two.0 l.allows o)
+    ordered_from (after s c) cs (plain_after s c p two.0 l.grammar l.allows) l.rest two.1 (ordered_after s c p two.0 l.allows o)
 
 -- the state of a lawful history is in order
 pub ordered_state : (h : List Change) → is_lawful h ≡ true → list_all is_built h ≡ true → IsOrdered (state h)

@@ -201,7 +201,7 @@ kept_may_make h name bytes some f lacks few =
       may = may.1;
       few = few;
       there = refl;
-      short = omega (arith, kept_long name (length bytes) (not (is_held s name)) (Some (cond (not (is_held s name)) bytes [])) named, body_short (is_held s name) bytes, f.short);
+      short = omega (arith, kept_long name (length bytes) (not (is_held s name)) (Some (cond (not (is_held s name)) bytes [])) named, body_short (not (is_held s name)) bytes, f.short);
     }
 
 -- the change may come next, whatever the disk told

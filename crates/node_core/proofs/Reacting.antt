@@ -3,10 +3,11 @@ use Rattle.std.proofs.Common.{◌≡◌, ℕ, Bool, false, ◌&&◌, ◌≤◌, 
 use Rattle.std.proofs.lemmas.Bool.{true≢false}
 use Rattle.chunk_store.specs.declared.store.Store.{Store}
 use Rattle.chunk_store.specs.Store.{record_of}
-use Rattle.psb_machine.specs.Deals.{Deal, StoreFresh, is_compared, are_others, clashes as deal_clashes}
+use Rattle.psb_machine.specs.Deals.{Deal, StoreFresh, StoreSwap, Cancel, PutBack, Facts as MachineFacts, is_compared, are_others, judge, clashes as deal_clashes}
 use Rattle.node_core.specs.Less.{IsLess}
 use Rattle.node_core.specs.Names.{KnowsNames, HasNone}
-use Rattle.node_core.specs.Offers.{deal_in}
+use Rattle.deals.specs.declared.facts.Facts.{Facts}
+use Rattle.deals.specs.Views.{deal_in, facts_in}
 use Rattle.psb_station.specs.View.{View}
 use Rattle.psb_station.specs.Span.{Shows}
 use Rattle.psb_station.proofs.Spans.{same_some}
@@ -31,7 +32,7 @@ use Rattle.node_core.specs.declared.reaction.Reaction.{Reaction}
 use Rattle.node_core.specs.Again.{IsAnswerOf}
 use Rattle.node_core.specs.Letters.{letters_of}
 use Rattle.node_core.specs.Peers.{PeersView}
-use Rattle.node_core.specs.Making.{CanMake, why_refused, clashes, made_of, made_in}
+use Rattle.node_core.specs.Making.{AreFacts, CanMake, refused_by, why_refused, clashes, made_of, made_in}
 use Rattle.node_core.specs.Reacting.{MakesChange, TellsAgain, GivesBytes, Makes, MakesNone, IsToldAgain, IsGiven, Reacts, ReactsSo, MayCome}
 use Rattle.node_core.specs.Stored.{Knows, Stored}
 use Rattle.node_core.specs.Unread.{IsUnread, NeedsRecord}
@@ -43,28 +44,47 @@ use Rattle.node_core.proofs.Less.{state_less, meets_less}
 -- whether other bytes are held is told by what the disk holds
 clashes_less : (h less : List Change) (deal : Deal) → IsLess h less → IsValid less → deal_clashes less deal ≡ deal_clashes h deal
 clashes_less h less (StoreFresh name bytes) is v = meets_less h less name bytes is v
+clashes_less h less (StoreSwap name numbers bytes) is v = meets_less h less name bytes is v
+clashes_less h less (Cancel name numbers) is v = refl
+clashes_less h less (PutBack name claims) is v = refl
 
 -- nothing is compared where the history holds nothing under the name
 pub none_compared : (store : Store) (h : List Change) (deal : Deal) → KnowsNames store h → is_compared (state h) deal ≡ false → HasNone store deal
-none_compared store h (StoreFresh name bytes) knows free = none_of (record_of store name) (knows.held name ∙ free)
+none_compared store h deal knows free = by_kind deal free
   where
     none_of : (o : Option ℕ) → is_some o ≡ false → o ≡ None
     none_of None is = refl
     none_of (Some k) is = absurd (true≢false is)
 
+    by_kind : (deal : Deal) → is_compared (state h) deal ≡ false → HasNone store deal
+    by_kind (StoreFresh name bytes) free = none_of (record_of store name) (knows.held name ∙ free)
+    by_kind (StoreSwap name numbers bytes) free = none_of (record_of store name) (knows.held name ∙ free)
+    by_kind (Cancel name numbers) free = tt
+    by_kind (PutBack name claims) free = tt
+
+-- what is judged by the facts of an offer is what is made of it
+pub judged_is : (s : State) (o : Offer) (f : Facts) (settings : Settings) → s.settings ≡ Some settings → AreFacts f s o → judge (facts_in f) s o.peer o.number (deal_in o.deal) ≡ made_of s o (why_refused s o f.clash)
+judged_is s o f settings present are =
+    ap (λ (x : MachineFacts). judge x s o.peer o.number (deal_in o.deal)) (are settings present)
+    ∙ sym (ap (λ (known : Option Settings). made_of s o (refused_by known s o.peer (deal_in o.deal) f.clash)) present)
+
 -- why it is refused by what the disk holds is why it is by the history
-pub refused_less : {L : Type 0} (holds : L → List Entry → List ℕ → Type 0) (node : Node L) (h : List Change) (v : View) (o : Offer) (refusal : Option Refusal) → (s : Stored holds node h v)
-    → refusal ≡ why_refused (state s.less) o (clashes s.less o) → refusal ≡ why_refused (state h) o (clashes h o)
-refused_less holds node h v o refusal s is =
-    is
-    ∙ ap (λ (t : State). why_refused t o (clashes s.less o)) (state_less h s.less s.is_less)
-    ∙ ap (λ (b : Bool). why_refused (state h) o b) (clashes_less h s.less (deal_in o.asked) s.is_less s.valid)
+pub refused_less : {L : Type 0} (holds : L → List Entry → List ℕ → Type 0) (node : Node L) (h : List Change) (v : View) (o : Offer) (clash : Bool) → (s : Stored holds node h v)
+    → why_refused (state s.less) o clash ≡ why_refused (state s.less) o (clashes s.less o) → why_refused (state h) o clash ≡ why_refused (state h) o (clashes h o)
+refused_less holds node h v o clash s is =
+    let same = state_less h s.less s.is_less in
+    ap (λ (t : State). why_refused t o clash) (sym same)
+    ∙ is
+    ∙ ap (λ (t : State). why_refused t o (clashes s.less o)) same
+    ∙ ap (λ (b : Bool). why_refused (state h) o b) (clashes_less h s.less (deal_in o.deal) s.is_less s.valid)
 
 -- the change that is made is the machine's
-pub makes_in : {L : Type 0} (r : Reaction) (node : Node L) (h : List Change) (o : Offer) (refusal : Option Refusal) → node.ledger.state ≡ state h → refusal ≡ why_refused (state h) o (clashes h o)
-    → Makes r node o (made_of node.ledger.state o refusal) → Makes r node o (made_in h o)
-makes_in r node h o refusal here is makes =
-    subst (λ (c : Change). Makes r node o c) (ap (λ (t : State). made_of t o refusal) here ∙ ap (λ (f : Option Refusal). made_of (state h) o f) is) makes
+pub makes_in : {L : Type 0} (r : Reaction) (node : Node L) (n : Situation) (o : Offer) (f : Facts) → Knows node n → AreFacts f node.ledger.state o → why_refused (state n.history) o f.clash ≡ why_refused (state n.history) o (clashes n.history o)
+    → Makes r node o (judge (facts_in f) node.ledger.state o.peer o.number (deal_in o.deal)) → Makes r node o (made_in n.history o)
+makes_in r node n o f k are is makes =
+    let present : node.ledger.state.settings ≡ Some k.settings.settings = ap (λ (s : State). s.settings) k.ledger ∙ k.settings.present in
+    subst (λ (c : Change). Makes r node o c)
+    (judged_is node.ledger.state o f k.settings.settings present are ∙ ap (λ (t : State). made_of t o (why_refused t o f.clash)) k.ledger ∙ ap (λ (x : Option Refusal). made_of (state n.history) o x) is) makes
 
 pub reacts_made : {L : Type 0} (r : Reaction) (node : Node L) (n : Situation) (i : Input) (x : List ℕ) (o : Offer) → i ≡ Datagram x → Knows node n → MakesChange n x o → Makes r node o (made_in n.history o) → Reacts r (react n i)
 reacts_made r node n i x o is k m makes =
@@ -99,20 +119,19 @@ made_may_come r node x o clash can m makes =
     )
 
 -- where no record is read for the input, nothing is compared
-pub unread_unheld : (n : Situation) (i : Input) (x : List ℕ) (o : Offer) → i ≡ Datagram x → MakesChange n x o → IsUnread n i → is_compared (state n.history) (deal_in o.asked) ≡ false
+pub unread_unheld : (n : Situation) (i : Input) (x : List ℕ) (o : Offer) → i ≡ Datagram x → MakesChange n x o → IsUnread n i → is_compared (state n.history) (deal_in o.deal) ≡ false
 unread_unheld n i x o is m u = m.unread (subst (λ (j : Input). IsUnread n j) is u)
 
 -- where nothing is compared, no other bytes are held
 none_clash : (h : List Change) (deal : Deal) → is_compared (state h) deal ≡ false → deal_clashes h deal ≡ false
 none_clash h (StoreFresh name bytes) free = ap (λ (b : Bool). b && are_others (last_brought name h) bytes) free
+none_clash h (StoreSwap name numbers bytes) free = ap (λ (b : Bool). b && are_others (last_brought name h) bytes) free
+none_clash h (Cancel name numbers) free = refl
+none_clash h (PutBack name claims) free = refl
 
 -- so it is refused by the history as by what no record told
-pub refused_unheld : {L : Type 0} (node : Node L) (n : Situation) (o : Offer) (refusal : Option Refusal) → Knows node n → is_compared (state n.history) (deal_in o.asked) ≡ false
-    → refusal ≡ why_refused node.ledger.state o false → refusal ≡ why_refused (state n.history) o (clashes n.history o)
-refused_unheld node n o refusal k free is =
-    is
-    ∙ ap (λ (s : State). why_refused s o false) k.ledger
-    ∙ ap (λ (b : Bool). why_refused (state n.history) o b) (sym (none_clash n.history (deal_in o.asked) free))
+pub refused_unheld : (n : Situation) (o : Offer) (clash : Bool) → is_compared (state n.history) (deal_in o.deal) ≡ false → clash ≡ false → why_refused (state n.history) o clash ≡ why_refused (state n.history) o (clashes n.history o)
+refused_unheld n o clash free none = ap (λ (b : Bool). why_refused (state n.history) o b) (none ∙ sym (none_clash n.history (deal_in o.deal) free))
 
 -- ---- what was made before is told of again
 

@@ -1,17 +1,10 @@
--- The own names that a snapshot's end gives up: a walk over the own chunks in their order, and over a list of
--- names that the store is rid of.
-use Rattle.std.proofs.Common.{◌≡◌, inl, inr, ℕ, zero, suc, ◌+◌, ◌<◌, Bool, true, false, not, ◌||◌, ◌&&◌, ◌↔◌, ◌==◌, cond, List, [], ◌∷◌, ◌++◌, length, take, get_or, Option, Some, None, Result, Ok, Err, IfOk, OnOk, OnErr, refl, sym, ◌∙◌, ap, subst, arith, append_assoc}
+-- The own names that a snapshot's end gives up: a walk over the own chunks in their order.
+use Rattle.std.proofs.Common.{◌≡◌, ℕ, zero, suc, ◌<◌, Bool, true, false, not, ◌||◌, ◌&&◌, ◌==◌, cond, List, [], ◌∷◌, ◌++◌, length, get_or, Option, Some, None, refl, sym, ◌∙◌, ap, subst, arith, append_assoc}
 use Rattle.std.specs.List.{list_all}
 use Rattle.std.specs.Ordering.{is_lt, nat_cmp}
 use Rattle.std.specs.Cmp.Lexicographic.{slice_cmp}
 use Rattle.std.proofs.lemmas.Bool.{false≢true, and_parts}
-use Rattle.std.proofs.lemmas.List.{append-nil, take_more}
-use Rattle.chunk_store.specs.declared.error.NotThere.{NotThere}
-use Rattle.chunk_store.specs.declared.owner.Owner.{Owner}
-use Rattle.chunk_store.specs.declared.owner.Owner.TheVariants.{Own, Peer}
-use Rattle.chunk_store.specs.declared.store.Store.{Store}
-use Rattle.chunk_store.specs.Owners.{owner_eq}
-use Rattle.chunk_store.specs.Store.{record_of, is_owner}
+use Rattle.std.proofs.lemmas.List.{append-nil}
 use Rattle.psb_model.specs.declared.entries.OwnEntry.{OwnEntry}
 use Rattle.psb_model.specs.declared.entries.Snapshot.{Snapshot}
 use Rattle.psb_model.specs.Words.{name_eq, name_listed}
@@ -23,15 +16,14 @@ use Rattle.psb_bytes.specs.declared.ids.Object.TheVariants.{Chunk}
 use Rattle.psb_ledger.proofs.Ordered.{comes_first}
 use Rattle.psb_ledger.specs.View.{in_order, own_key}
 use Rattle.psb_ledger.specs.OwnList.{next_own}
-use Rattle.node_core.specs.Names.{IsOwned, IsLeft, Drops}
 
 -- ---- one of two, and both
 
-or_none : (a : Bool) → (a || false) ≡ a
+pub or_none : (a : Bool) → (a || false) ≡ a
 or_none true = refl
 or_none false = refl
 
-or_true : (a : Bool) → (a || true) ≡ true
+pub or_true : (a : Bool) → (a || true) ≡ true
 or_true true = refl
 or_true false = refl
 
@@ -39,11 +31,11 @@ or_last : (a b c : Bool) → (a || (b || c)) ≡ ((a || b) || c)
 or_last true b c = refl
 or_last false b c = refl
 
-and_true : (a : Bool) → (a && true) ≡ a
+pub and_true : (a : Bool) → (a && true) ≡ a
 and_true true = refl
 and_true false = refl
 
-and_none : (a : Bool) → (a && false) ≡ false
+pub and_none : (a : Bool) → (a && false) ≡ false
 and_none true = refl
 and_none false = refl
 
@@ -186,105 +178,3 @@ one_lists number (k ∷ ks) zero d e n lt other h = rw (other, h) refl
 one_lists number (k ∷ ks) (suc i) d e n lt other h = by_cases (k.number == number)
     (λ j. rw j (one_lists number ks i d e n (omega (arith, lt)) other h))
     (λ j. rw j (ap (λ (b : Bool). name_listed k.names n || b) (one_lists number ks i d e n (omega (arith, lt)) other h) ∙ or_true (name_listed k.names n)))
-
--- ---- names that the store is rid of
-
-pub drop_start : (store : Store) → Drops store store (name_listed [])
-drop_start store = record { owners = λ o q. sym (and_true (is_owner store o q)); records = λ q. inl (refl, inl refl) }
-
--- one name more of the list was tried, and the list is longer by it
-abbrev more_gone : (List ℕ → Bool) → List ℕ → List ℕ → Bool
-more_gone gone n q = gone q || name_eq n q
-
-owner_less : (a g k o : Bool) → ((a && not (g && o)) && not (k && o)) ≡ (a && not ((g || k) && o))
-owner_less false g k o = refl
-owner_less true true true o = at o
-  where
-    at : (o : Bool) → (not (true && o) && not (true && o)) ≡ not (true && o)
-    at true = refl
-    at false = refl
-owner_less true true false o = at o
-  where
-    at : (o : Bool) → (not (true && o) && not (false && o)) ≡ not (true && o)
-    at true = refl
-    at false = refl
-owner_less true false k o = refl
-
-still_owned : (mid new : Store) (q : List ℕ) → ((o : Owner) → is_owner new o q ≡ is_owner mid o q) → IsOwned mid q → IsOwned new q
-still_owned mid new q same owned = record { some = λ nobody. owned.some (λ o. sym (same o) ∙ nobody o) }
-
--- a name whose record and owners stay is left as it was
-left_same : (old mid new : Store) (q : List ℕ) → record_of new q ≡ record_of mid q → ((o : Owner) → is_owner new o q ≡ is_owner mid o q) → IsLeft old mid q → IsLeft old new q
-left_same old mid new q record_is same (inl (was, inl own)) = inl (record_is ∙ was, inl (same Own ∙ own))
-left_same old mid new q record_is same (inl (was, inr owned)) = inl (record_is ∙ was, inr (still_owned mid new q same owned))
-left_same old mid new q record_is same (inr (none, nobody)) = inr (record_is ∙ none, λ o. same o ∙ nobody o)
-
--- the name was taken out
-pub drop_one : (old mid new : Store) (gone : List ℕ → Bool) (n : List ℕ) (last : Bool) → Drops old mid gone
-    → ((o : Owner) (q : List ℕ) → is_owner new o q ≡ (is_owner mid o q && not (name_eq n q && owner_eq Own o)))
-    → (last ≡ true) ↔ ((o : Owner) → is_owner new o n ≡ false)
-    → ((q : List ℕ) → record_of new q ≡ cond (name_eq n q && last) None (record_of mid q)) → is_owner mid Own n ≡ true → Drops old new (more_gone gone n)
-drop_one old mid new gone n last drops owners last_is records there = record {
-  owners = λ o q. owners o q ∙ ap (λ (b : Bool). b && not (name_eq n q && owner_eq Own o)) (drops.owners o q) ∙ owner_less (is_owner old o q) (gone q) (name_eq n q) (owner_eq Own o);
-  records = λ q. by_cases (name_eq n q) (λ k. here q k) (λ k. other q k);
-}
-  where
-    other : (q : List ℕ) → name_eq n q ≡ false → IsLeft old new q
-    other q k = left_same old mid new q (records q ∙ ap (λ (b : Bool). cond (b && last) None (record_of mid q)) k) (λ o. owners o q ∙ ap (λ (b : Bool). is_owner mid o q && not (b && owner_eq Own o)) k ∙ and_true (is_owner mid o q)) (drops.records q)
-
-    owned_before : IsLeft old mid n → record_of mid n ≡ record_of old n
-    owned_before (inl was) = was.0
-    owned_before (inr none) = absurd (false≢true (sym (none.1 Own) ∙ there))
-
-    by_last : (b : Bool) → last ≡ b → IsLeft old new n
-    by_last true l = inr (records n ∙ ap (λ (b : Bool). cond (b && last) None (record_of mid n)) (name_refl n) ∙ ap (λ (b : Bool). cond b None (record_of mid n)) l, last_is.0 l)
-    by_last false l = inl (
-      records n ∙ ap (λ (b : Bool). cond (b && last) None (record_of mid n)) (name_refl n) ∙ ap (λ (b : Bool). cond b None (record_of mid n)) l ∙ owned_before (drops.records n),
-      inr (record { some = λ nobody. absurd (false≢true (sym l ∙ last_is.1 nobody)) }),
-    )
-
-    here : (q : List ℕ) → name_eq n q ≡ true → IsLeft old new q
-    here q k = subst (λ (x : List ℕ). IsLeft old new x) (name_same n q k) (by_last last refl)
-
--- it was no own one
-pub drop_none : (old mid : Store) (gone : List ℕ → Bool) (n : List ℕ) → Drops old mid gone → is_owner mid Own n ≡ false → Drops old mid (more_gone gone n)
-drop_none old mid gone n drops absent = record {
-  owners = λ o q. by_cases (name_eq n q) (λ k. at o q k) (λ k. drops.owners o q ∙ ap (λ (b : Bool). is_owner old o q && not (b && owner_eq Own o)) (sym (ap (λ (b : Bool). gone q || b) k ∙ or_none (gone q))));
-  records = drops.records;
-}
-  where
-    at : (o : Owner) (q : List ℕ) → name_eq n q ≡ true → is_owner mid o q ≡ (is_owner old o q && not (more_gone gone n q && owner_eq Own o))
-    at Own q k =
-        ap (is_owner mid Own) (sym (name_same n q k)) ∙ absent
-        ∙ sym (ap (λ (b : Bool). is_owner old Own q && not (b && true)) (ap (λ (b : Bool). gone q || b) k ∙ or_true (gone q)) ∙ and_none (is_owner old Own q))
-    at (Peer p) q k = drops.owners (Peer p) q ∙ ap (λ (b : Bool). is_owner old (Peer p) q && not b) (and_none (gone q) ∙ sym (and_none (more_gone gone n q)))
-
--- the list that was tried is longer by one
-pub gone_as : (old new : Store) (gone gone' : List ℕ → Bool) → ((q : List ℕ) → gone' q ≡ gone q) → Drops old new gone → Drops old new gone'
-gone_as old new gone gone' same drops = record {
-  owners = λ o q. drops.owners o q ∙ ap (λ (b : Bool). is_owner old o q && not (b && owner_eq Own o)) (sym (same q));
-  records = drops.records;
-}
-
--- one name more was tried, whatever the answer
-pub drop_step : (old mid new : Store) (dropped : List (List ℕ)) (i : ℕ) (n : List ℕ) (r : Result Bool NotThere) → i < length dropped → n ≡ get_or dropped i n → Drops old mid (name_listed (take i dropped))
-    → OnOk r ((o : Owner) (q : List ℕ) → is_owner new o q ≡ (is_owner mid o q && not (name_eq n q && owner_eq Own o)))
-    → IfOk r (λ last. (last ≡ true) ↔ ((o : Owner) → is_owner new o n ≡ false))
-    → IfOk r (λ last. (q : List ℕ) → record_of new q ≡ cond (name_eq n q && last) None (record_of mid q))
-    → (r ≡ Err (record {})) ↔ (is_owner mid Own n ≡ false) → OnErr r (new ≡ mid) → Drops old new (name_listed (take (i + 1) dropped))
-drop_step old mid new dropped i n r lt here drops owners last records not_there same = longer (at r owners last records not_there same)
-  where
-    longer : Drops old new (more_gone (name_listed (take i dropped)) n) → Drops old new (name_listed (take (i + 1) dropped))
-    longer d = gone_as old new (more_gone (name_listed (take i dropped)) n) (name_listed (take (i + 1) dropped))
-        (λ q. ap (λ (l : List (List ℕ)). name_listed l q) (take_more dropped i n lt ∙ ap (λ (m : List ℕ). take i dropped ++ m ∷ []) (sym here)) ∙ listed_last (take i dropped) n q) d
-
-    at : (r : Result Bool NotThere) → OnOk r ((o : Owner) (q : List ℕ) → is_owner new o q ≡ (is_owner mid o q && not (name_eq n q && owner_eq Own o)))
-        → IfOk r (λ last. (last ≡ true) ↔ ((o : Owner) → is_owner new o n ≡ false))
-        → IfOk r (λ last. (q : List ℕ) → record_of new q ≡ cond (name_eq n q && last) None (record_of mid q))
-        → (r ≡ Err (record {})) ↔ (is_owner mid Own n ≡ false) → OnErr r (new ≡ mid) → Drops old new (more_gone (name_listed (take i dropped)) n)
-    at (Ok last) owners last_is records not_there same =
-        by_cases (is_owner mid Own n)
-        (λ there. drop_one old mid new (name_listed (take i dropped)) n last drops owners last_is records there)
-        (λ absent. absurd (let clash : Ok last ≡ Err (record {}) = not_there.1 absent in cc))
-    at (Err e) owners last_is records not_there same =
-        subst (λ (s : Store). Drops old s (more_gone (name_listed (take i dropped)) n)) (sym same) (drop_none old mid (name_listed (take i dropped)) n drops (not_there.0 refl))

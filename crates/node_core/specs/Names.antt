@@ -13,11 +13,11 @@ use Rattle.psb_model.specs.State.{State, row, own_has, in_key, is_held}
 use Rattle.psb_model.specs.History.{state}
 use Rattle.psb_model.specs.Needed.{brings_name, last_place}
 use Rattle.psb_model.specs.declared.change.Change.{Change}
-use Rattle.psb_machine.specs.Deals.{Deal, StoreFresh}
-use Rattle.psb_model.specs.declared.change.Change.TheVariants.{Kept, Forgot, TookFresh}
+use Rattle.psb_machine.specs.Deals.{Deal, StoreFresh, StoreSwap, Cancel, PutBack}
+use Rattle.psb_model.specs.declared.change.Change.TheVariants.{Kept, Forgot, TookFresh, TookSwap, LetGo, LetGoBack}
 use Rattle.psb_model.specs.Effects.{kept_lists, kept_without}
 use Rattle.node_core.specs.declared.entering.Entering.{Entering}
-use Rattle.node_core.specs.declared.entering.Entering.TheVariants.{Nothing, AddsOwner, DropsOwn}
+use Rattle.node_core.specs.declared.entering.Entering.TheVariants.{Nothing, AddsOwner, DropsOwner, DropsOwn}
 
 -- whether a body is held under the name for this owner
 abbrev pub owns : State → Owner → List ℕ → Bool
@@ -55,17 +55,17 @@ HasNoOwner store name = (o : Owner) → is_owner store o name ≡ false
 pub record IsOwned (store : Store) (name : List ℕ) : Type 0 where
   pub some : ¬ HasNoOwner store name
 
--- A name has the record that it had, and where the node itself was taken from its owners another is left;
--- or it has none, and no owner.
-abbrev pub IsLeft : Store → Store → List ℕ → Type 0
-IsLeft old new q =
-    ((record_of new q ≡ record_of old q) × ((is_owner new Own q ≡ is_owner old Own q) ⊎ IsOwned new q))
+-- A name has the record that it had, and where this owner was taken from its owners another is left; or it
+-- has none, and no owner.
+abbrev pub IsLeft : Store → Store → Owner → List ℕ → Type 0
+IsLeft old new owner q =
+    ((record_of new q ≡ record_of old q) × ((is_owner new owner q ≡ is_owner old owner q) ⊎ IsOwned new q))
     ⊎ ((record_of new q ≡ None) × HasNoOwner new q)
 
--- the node itself was taken from the owners of the names that are gone
-pub record Drops (old new : Store) (gone : List ℕ → Bool) : Type 0 where
-  pub owners : (o : Owner) (q : List ℕ) → is_owner new o q ≡ (is_owner old o q && not (gone q && owner_eq Own o))
-  pub records : (q : List ℕ) → IsLeft old new q
+-- an owner was taken from those of the names that are gone
+pub record Drops (old new : Store) (owner : Owner) (gone : List ℕ → Bool) : Type 0 where
+  pub owners : (o : Owner) (q : List ℕ) → is_owner new o q ≡ (is_owner old o q && not (gone q && owner_eq owner o))
+  pub records : (q : List ℕ) → IsLeft old new owner q
 
 -- of the own names those are gone that no kept snapshot lists without this one
 abbrev pub AreGone : State → ℕ → (List ℕ → Bool) → Type 0
@@ -75,13 +75,16 @@ AreGone s number gone = (q : List ℕ) → own_has s.own q ≡ true → gone q �
 pub record Forgets (s : State) (old new : Store) (number : ℕ) : Type 0 where
   pub gone : List ℕ → Bool
   pub are : AreGone s number gone
-  pub drops : Drops old new gone
+  pub drops : Drops old new Own gone
 
 -- what a change with this number, of a kind that is built, does to the names, after this state
 abbrev pub Enters : State → Store → Store → Change → ℕ → Type 0
 Enters s old new (Kept name len brings body) number = Adds old new Own name number
 Enters s old new (Forgot snapshot) number = Forgets s old new snapshot
 Enters s old new (TookFresh p deal name first len brings body) number = Adds old new (Peer p) name number
+Enters s old new (TookSwap p deal name numbers len brings body) number = Adds old new (Peer p) name number
+Enters s old new (LetGo p deal name numbers) number = Drops old new (Peer p) (name_eq name)
+Enters s old new (LetGoBack p deal name numbers body) number = Drops old new (Peer p) (name_eq name)
 Enters s old new _ number = SameNames old new
 
 -- what is worked out of it before the change is made
@@ -89,20 +92,28 @@ abbrev pub IsEntering : State → Change → Entering → Type 0
 IsEntering s (Kept name len brings body) e = e ≡ AddsOwner Own name
 IsEntering s (Forgot snapshot) e = (names : List (List ℕ)) × (e ≡ DropsOwn names) × AreGone s snapshot (name_listed names)
 IsEntering s (TookFresh p deal name first len brings body) e = e ≡ AddsOwner (Peer p) name
+IsEntering s (TookSwap p deal name numbers len brings body) e = e ≡ AddsOwner (Peer p) name
+IsEntering s (LetGo p deal name numbers) e = e ≡ DropsOwner (Peer p) name
+IsEntering s (LetGoBack p deal name numbers body) e = e ≡ DropsOwner (Peer p) name
 IsEntering s _ e = e ≡ Nothing
 
 -- what that does to the names
 abbrev pub Enter : Store → Store → Entering → ℕ → Type 0
 Enter old new Nothing number = SameNames old new
 Enter old new (AddsOwner owner name) number = Adds old new owner name number
-Enter old new (DropsOwn names) number = Drops old new (name_listed names)
+Enter old new (DropsOwner owner name) number = Drops old new owner (name_eq name)
+Enter old new (DropsOwn names) number = Drops old new Own (name_listed names)
 
 -- the owner to whom a name is given does not have it yet
 abbrev pub IsNew : Store → Entering → Type 0
 IsNew store Nothing = Unit {0}
 IsNew store (AddsOwner owner name) = is_owner store owner name ≡ false
+IsNew store (DropsOwner owner name) = Unit {0}
 IsNew store (DropsOwn names) = Unit {0}
 
 -- a store has no record of the bytes that the deal would be compared with
 abbrev pub HasNone : Store → Deal → Type 0
 HasNone store (StoreFresh name bytes) = record_of store name ≡ None
+HasNone store (StoreSwap name numbers bytes) = record_of store name ≡ None
+HasNone store (Cancel name numbers) = Unit {0}
+HasNone store (PutBack name claims) = Unit {0}

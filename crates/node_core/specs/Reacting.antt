@@ -7,13 +7,13 @@ use Rattle.psb_model.specs.Needed.{last_brought, IsValid}
 use Rattle.psb_model.specs.declared.change.Change.{Change}
 use Rattle.wire_codec.specs.Frames.{datagram}
 use Rattle.psb_machine.specs.Deals.{is_compared}
-use Rattle.psb_machine.specs.Stores.{IsShort}
+use Rattle.psb_machine.specs.Judging.{IsShort}
 use Rattle.psb_machine.specs.Replies.{reply_of, reply}
 use Rattle.psb_machine.specs.Machine.{Situation, Input, Datagram, Reaction as MachineReaction, react, settled, quiet, drops, makes, tells_again, here}
 use Rattle.psb_machine.specs.Gets.{has_chunk}
 use Rattle.node_core.specs.Letters.{letters_of}
-use Rattle.node_core.specs.Offers.{deal_in}
-use Rattle.node_core.specs.Making.{CanMake, MayMake, made_of, made_in, why_refused}
+use Rattle.deals.specs.Views.{deal_in}
+use Rattle.node_core.specs.Making.{CanMake, MayMake, IsNextOffer, made_of, made_in, why_refused}
 use Rattle.node_core.specs.Unread.{IsUnread, IsCertain, NeedsRecord}
 use Rattle.node_core.specs.declared.decision.Decision.{Decision}
 use Rattle.node_core.specs.declared.decision.Decision.TheVariants.{Drop, Pass, Make, Again, Give}
@@ -32,7 +32,7 @@ pub record MakesChange (n : Situation) (x : List ℕ) (o : Offer) : Type 0 where
   -- whether or not other bytes are held under the name, what the offer makes is valid
   pub valid : (clash : Bool) → IsValid (n.history ++ made_of (state n.history) o (why_refused (state n.history) o clash) ∷ [])
   -- an offer for which no record is read is compared with nothing
-  pub unread : IsUnread n (Datagram x) → is_compared (state n.history) (deal_in o.asked) ≡ false
+  pub unread : IsUnread n (Datagram x) → is_compared (state n.history) (deal_in o.deal) ≡ false
 
 -- the machine tells again of the change of the peer's last deal
 pub record TellsAgain (n : Situation) (x : List ℕ) (o : Offer) (change : ℕ) : Type 0 where
@@ -65,7 +65,7 @@ Decides (Give r) n x = GivesBytes n x r
 abbrev pub CanDo : Decision → State → Type 0
 CanDo (Drop why) s = Unit {0}
 CanDo Pass s = Unit {0}
-CanDo (Make o) s = CanMake s o × IsShort (deal_in o.asked)
+CanDo (Make o) s = CanMake s o × IsShort (deal_in o.deal) × IsNextOffer s o
 CanDo (Again o change) s = change < s.changes
 CanDo (Give r) s = Unit {0}
 

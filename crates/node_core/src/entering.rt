@@ -5,11 +5,12 @@ ghost use Rattle.std.specs.List.{list_all};
 ghost use Rattle.std.specs.Option.{option_map};
 ghost use Rattle.psb_model.specs.State.{State, own_has};
 ghost use Rattle.psb_model.specs.Conditions.{names_ascend};
-ghost use Rattle.psb_model.specs.Words.{name_listed};
+ghost use Rattle.psb_model.specs.Words.{name_eq, name_listed};
 ghost use Rattle.psb_model.specs.Effects.{kept_lists, kept_without};
 ghost use Rattle.psb_ledger.specs.OwnList.{next_own};
 ghost use Rattle.psb_ledger.specs.View.{in_order, own_key};
 ghost use Rattle.chunk_store.specs.Store.{has_room};
+ghost use Rattle.chunk_store.specs.declared.owner.Owner.TheVariants.{Own};
 ghost use Rattle.node_core.specs.Names.{Drops};
 
 use chunk_store::{Owner, Store};
@@ -122,6 +123,8 @@ pub(crate) enum Entering {
     Nothing,
     /// An owner is added to a name.
     AddsOwner(Owner, Digest),
+    /// An owner is taken from a name.
+    DropsOwner(Owner, Digest),
     /// The node itself owns these names no longer.
     DropsOwn(DigestList),
 }
@@ -144,8 +147,11 @@ impl Entering {
             Change::Forgot { number } => {
                 Ok(Entering::DropsOwn(dropped_names(alloc, past, *number)?))
             }
-            Change::TookFresh { peer, name, .. } => {
+            Change::TookFresh { peer, name, .. } | Change::TookSwap { peer, name, .. } => {
                 Ok(Entering::AddsOwner(Owner::Peer(*peer), *name))
+            }
+            Change::LetGo { peer, name, .. } | Change::LetGoBack { peer, name, .. } => {
+                Ok(Entering::DropsOwner(Owner::Peer(*peer), *name))
             }
             _ => Ok(Entering::Nothing),
         }
@@ -160,14 +166,22 @@ impl Entering {
         match self {
             Entering::Nothing => {}
             Entering::AddsOwner(owner, name) => names.add(*owner, name, number),
+            Entering::DropsOwner(owner, name) => drop_owner(names, *owner, name),
             Entering::DropsOwn(dropped) => drop_own(names, dropped.as_slice()),
         }
     }
 }
 
+/// Takes an owner from those of a name. Takes no memory.
+fn drop_owner(names: &mut Store, owner: Owner, name: &Digest)
+    ensures { Drops names.old names.new owner (name_eq name.now) }
+{
+    let _ = names.remove(owner, name);
+}
+
 /// Takes the node itself from the owners of these names. Takes no memory.
 fn drop_own(names: &mut Store, dropped: &[Digest])
-    ensures { Drops names.old names.new (name_listed dropped.now) }
+    ensures { Drops names.old names.new Own (name_listed dropped.now) }
 {
     for name in dropped {
         let _ = names.remove(Owner::Own, name);

@@ -9,29 +9,23 @@ use Rattle.psb_model.specs.declared.entries.SnapMark.{SnapMark}
 use Rattle.psb_model.specs.declared.change.Change.{Change}
 use Rattle.psb_model.specs.declared.change.Change.TheVariants.{Kept, Forgot}
 use Rattle.psb_model.specs.Words.{all_of}
-use Rattle.psb_model.specs.State.{State, own_has, used}
+use Rattle.psb_model.specs.State.{State, own_has}
 use Rattle.psb_model.specs.Grammar.{in_grammar}
 use Rattle.psb_model.specs.Conditions.{allowed, tests, names_ascend}
 use Rattle.psb_model.specs.Effects.{after, own_with, kept_lists, kept_without}
 use Rattle.psb_model.specs.History.{is_built}
 use Rattle.psb_model.proofs.Steps.{parts}
-use Rattle.psb_model.proofs.Built.{allows, used_plain}
+use Rattle.psb_model.proofs.Built.{allows, used_is}
 use Rattle.psb_ledger.specs.declared.codec.fields.KeptFields.{KeptFields}
 use Rattle.psb_ledger.specs.declared.book.Book.TheInside.{Inside}
 use Rattle.psb_ledger.specs.View.{LedgerView, Mine, plain_state, in_order, own_key, IsMine, IsReached, IsSound}
 use Rattle.psb_ledger.specs.OwnList.{own_entry}
-use Rattle.psb_ledger.specs.OwnTree.{own_items, mine_of}
+use Rattle.psb_ledger.specs.OwnTree.{own_items}
 use Rattle.psb_ledger.specs.Snapping.{change_of, count_of}
-use Rattle.psb_ledger.proofs.Ordered.{by_cases}
+use Rattle.psb_ledger.proofs.Spelled.{all_end}
+use Rattle.psb_ledger.proofs.Ordered.{by_cases, is_false}
 use Rattle.psb_ledger.proofs.OwnTrees.{ordered_with, ordered_kept}
-use Rattle.psb_ledger.proofs.Sound.{plain_of, own_of, reached_after}
-use Rattle.psb_ledger.proofs.Taking.{view_of}
-
-abbrev pub mine : Inside → Mine
-mine l = mine_of l.own l.kept.items l.snapped
-
-abbrev pub state_of : Inside → State
-state_of l = plain_state l.changes l.settings l.accounts.items l.issued (mine l)
+use Rattle.psb_ledger.proofs.Sound.{mine, state_of, view_of, plain_of, own_of, reached_after}
 
 -- the state one change later, with these own chunks and snapshots
 abbrev pub state_with : Inside → Mine → State
@@ -47,17 +41,13 @@ pub record Makes (l : Inside) (v : LedgerView) (c : Change) (m : Mine) : Type 0 
 makes : (l : Inside) (v : LedgerView) (c : Change) (m : Mine) → view_of l ≡ v → IsSound l.used (state_of l) → is_built c ≡ true → in_grammar c ≡ true → allowed (state_of l) c ≡ true → state_with l m ≡ after (state_of l) c → IsMine m → Makes l v c m
 makes l v c m view sound built grammar may is part =
     let reached : IsReached (state_with l m) = subst IsReached (sym is) (reached_after (state_of l) c sound.reached built grammar may) in
-    let before : used (state_of l) ≡ l.issued = used_plain (state_of l) (plain_of (state_of l) sound.reached) in
-    let now : used (state_with l m) ≡ l.issued = used_plain (state_with l m) (plain_of (state_with l m) reached) in
+    let before = used_is (state_of l) (plain_of (state_of l) sound.reached) in
+    let now = used_is (state_with l m) (plain_of (state_with l m) reached) in
     record {
       after_is = is ∙ ap (λ (w : LedgerView). after w.state c) view;
       sound = record { used_is = sound.used_is ∙ before ∙ sym now; reached = reached; small = sound.small };
       own_part = part;
     }
-
-is_false : (b : Bool) → not b ≡ true → b ≡ false
-is_false true h = sym h
-is_false false h = refl
 
 -- A CHUNK
 
@@ -81,10 +71,6 @@ kept_one l v x own view sound part grammar may is =
 abbrev ascends : Snapshot → Bool
 ascends k = names_ascend k.names
 
-all_end : (ks : List Snapshot) (k : Snapshot) → list_all ascends ks ≡ true → ascends k ≡ true → list_all ascends (ks ++ k ∷ []) ≡ true
-all_end [] k h e = rw e refl
-all_end (x ∷ xs) k h e = let a = and_parts (ascends x) (list_all ascends xs) h in rw a.0 (all_end xs k a.1 e)
-
 pub snapped_one : (l : Inside) (v : LedgerView) (k : Snapshot) (kept : List Snapshot) → view_of l ≡ v → IsSound l.used (state_of l) → IsMine (mine l) → in_grammar (change_of k) ≡ true → allowed v.state (change_of k) ≡ true → kept ≡ l.kept.items ++ k ∷ [] → Makes l v (change_of k) (record { own = own_items l.own; kept = kept; snapped = Some (record { number = k.number; change = l.changes }) })
 snapped_one l v k kept view sound part grammar may is =
     let s = state_of l in
@@ -94,7 +80,7 @@ snapped_one l v k kept view sound part grammar may is =
     let same = sym (own_of s c sound.reached refl) in
     makes l v c (record { own = own_items l.own; kept = kept; snapped = Some (record { number = k.number; change = l.changes }) }) view sound refl grammar may'
     (λ i. record { changes = l.changes + 1; settings = l.settings; rows = s.rows; issued = l.issued; own = same i; kept = is i; snapped = Some (record { number = k.number; change = l.changes }); chosen = [] })
-    (record { own_ordered = part.own_ordered; names_ordered = ap (list_all ascends) is ∙ all_end l.kept.items k part.names_ordered ts.1.0 })
+    (record { own_ordered = part.own_ordered; names_ordered = ap (list_all ascends) is ∙ all_end ascends l.kept.items k part.names_ordered ts.1.0 })
 
 -- A SNAPSHOT LESS
 

@@ -1,5 +1,6 @@
--- Lists of names that ascend, and the snapshots that have them.
+-- Lists of names and of numbers that ascend, and the snapshots that list names.
 use Rattle.std.proofs.Common.{◌≡◌, ℕ, zero, suc, ◌+◌, ◌-◌, ◌<◌, ◌≤◌, Bool, true, false, ◌&&◌, List, [], ◌∷◌, length, drop, get_or, refl, sym, ap, ◌∙◌, arith}
+use Rattle.std.specs.Prelude.{nat_lt}
 use Rattle.std.specs.List.{list_all}
 use Rattle.std.specs.Ordering.{nat_cmp, is_lt}
 use Rattle.std.specs.Cmp.Lexicographic.{slice_cmp}
@@ -7,6 +8,7 @@ use Rattle.std.proofs.lemmas.Bool.{and_parts}
 use Rattle.psb_bytes.specs.declared.ids.Object.TheVariants.{Chunk}
 use Rattle.psb_model.specs.declared.entries.Snapshot.{Snapshot}
 use Rattle.psb_model.specs.Words.{name_listed}
+use Rattle.psb_model.specs.Grammar.{ascend}
 use Rattle.psb_model.specs.Conditions.{names_ascend}
 use Rattle.psb_model.specs.Effects.{kept_lists}
 use Rattle.psb_ledger.specs.View.{in_order}
@@ -39,36 +41,54 @@ none_more (k ∷ ks) (suc i) d n lt h rest =
 
 -- PAIR BY PAIR
 
--- the pairs before place j were in order, so the list ascends where the rest does
-abbrev pub IsOrderedTo : List (List ℕ) → ℕ → Type 0
-IsOrderedTo xs j = names_ascend xs ≡ names_ascend (drop (j - 1) xs)
+-- each is in that relation to the next
+abbrev pub pairs : {A : Type 0} → (A → A → Bool) → List A → Bool
+pairs lt [] = true
+pairs lt (x ∷ []) = true
+pairs lt (x ∷ y ∷ ys) = lt x y && pairs lt (y ∷ ys)
 
-finish : (xs : List (List ℕ)) (k : ℕ) → length xs ≤ suc k → names_ascend (drop k xs) ≡ true
-finish [] zero within = refl
-finish [] (suc k) within = refl
-finish (a ∷ []) zero within = refl
-finish (a ∷ b ∷ xs) zero within = absurd (omega (arith, within))
-finish (a ∷ xs) (suc k) within = finish xs k (omega (arith, within))
+abbrev pub name_lt : List ℕ → List ℕ → Bool
+name_lt x y = is_lt (slice_cmp nat_cmp x y)
 
-pub ordered_all : (xs : List (List ℕ)) (j : ℕ) → length xs ≤ j → IsOrderedTo xs j → true ≡ names_ascend xs
-ordered_all xs j past before = sym (before ∙ finish xs (j - 1) (omega arith))
+pub names_pairs : (names : List (List ℕ)) → pairs name_lt names ≡ names_ascend names
+names_pairs [] = refl
+names_pairs (x ∷ []) = refl
+names_pairs (x ∷ y ∷ ys) = ap (λ b. name_lt x y && b) (names_pairs (y ∷ ys))
+
+pub number_pairs : (ns : List ℕ) → pairs nat_lt ns ≡ ascend ns
+number_pairs [] = refl
+number_pairs (x ∷ []) = refl
+number_pairs (x ∷ y ∷ ys) = ap (λ b. nat_lt x y && b) (number_pairs (y ∷ ys))
+
+-- the pairs before place j were in order, so the list is where the rest is
+abbrev pub IsOrderedTo : {A : Type 0} → (A → A → Bool) → List A → ℕ → Type 0
+IsOrderedTo lt xs j = pairs lt xs ≡ pairs lt (drop (j - 1) xs)
+
+finish : {A : Type 0} (lt : A → A → Bool) (xs : List A) (k : ℕ) → length xs ≤ suc k → pairs lt (drop k xs) ≡ true
+finish lt [] zero within = refl
+finish lt [] (suc k) within = refl
+finish lt (a ∷ []) zero within = refl
+finish lt (a ∷ b ∷ xs) zero within = absurd (omega (arith, within))
+finish lt (a ∷ xs) (suc k) within = finish lt xs k (omega (arith, within))
+
+pub ordered_all : {A : Type 0} (lt : A → A → Bool) (xs : List A) (j : ℕ) → length xs ≤ j → IsOrderedTo lt xs j → true ≡ pairs lt xs
+ordered_all lt xs j past before = sym (before ∙ finish lt xs (j - 1) (omega arith))
 
 -- one pair more
-pub ascend_from : (xs : List (List ℕ)) (k : ℕ) (d e : List ℕ) → k + 1 < length xs → names_ascend (drop k xs) ≡ (is_lt (slice_cmp nat_cmp (get_or xs k d) (get_or xs (k + 1) e)) && names_ascend (drop (k + 1) xs))
-ascend_from [] k d e lt = absurd (omega (arith, lt))
-ascend_from (a ∷ []) k d e lt = absurd (omega (arith, lt))
-ascend_from (a ∷ b ∷ xs) zero d e lt = refl
-ascend_from (a ∷ b ∷ xs) (suc k) d e lt =
+ascend_from : {A : Type 0} (lt : A → A → Bool) (xs : List A) (k : ℕ) (d e : A) → k + 1 < length xs → pairs lt (drop k xs) ≡ (lt (get_or xs k d) (get_or xs (k + 1) e) && pairs lt (drop (k + 1) xs))
+ascend_from lt [] k d e within = absurd (omega (arith, within))
+ascend_from lt (a ∷ []) k d e within = absurd (omega (arith, within))
+ascend_from lt (a ∷ b ∷ xs) zero d e within = refl
+ascend_from lt (a ∷ b ∷ xs) (suc k) d e within =
     let more : suc k + 1 ≡ suc (k + 1) = omega arith in
-    rw more (ascend_from (b ∷ xs) k d e (omega (arith, lt)))
+    rw more (ascend_from lt (b ∷ xs) k d e (omega (arith, within)))
 
 -- the pair at a place: the first is below the second, and the pairs are in order one further, or it is not
-pub pair_tested : (xs : List (List ℕ)) (i : ℕ) (x y : List ℕ) (b : Bool) → 1 ≤ i → i < length xs → x ≡ get_or xs (i - 1) x → y ≡ get_or xs i y → b ≡ is_lt (slice_cmp nat_cmp x y) → IsOrderedTo xs i → (b ≡ false → false ≡ names_ascend xs) × (b ≡ true → IsOrderedTo xs (i + 1))
-pair_tested xs i x y b some lt first second is before =
+pub pair_tested : {A : Type 0} (lt : A → A → Bool) (xs : List A) (i : ℕ) (d e : A) (b : Bool) → 1 ≤ i → i < length xs → b ≡ lt (get_or xs (i - 1) d) (get_or xs i e) → IsOrderedTo lt xs i → (b ≡ false → false ≡ pairs lt xs) × (b ≡ true → IsOrderedTo lt xs (i + 1))
+pair_tested lt xs i d e b some within is before =
     let here : i - 1 + 1 ≡ i = omega arith in
     let back : i + 1 - 1 ≡ i = omega arith in
-    let step = ascend_from xs (i - 1) x y (omega arith) in
+    let step = ascend_from lt xs (i - 1) d e (omega arith) in
     let step' = rw here at step in
-    let test : is_lt (slice_cmp nat_cmp (get_or xs (i - 1) x) (get_or xs i y)) ≡ b = sym (is ∙ (λ j. is_lt (slice_cmp nat_cmp (first j) (second j)))) in
-    let whole : names_ascend xs ≡ (b && names_ascend (drop i xs)) = before ∙ step' ∙ ap (λ t. t && names_ascend (drop i xs)) test in
+    let whole : pairs lt xs ≡ (b && pairs lt (drop i xs)) = before ∙ step' ∙ ap (λ t. t && pairs lt (drop i xs)) (sym is) in
     (λ k. sym (whole ∙ rw k refl), λ k. whole ∙ rw (k, back) refl)

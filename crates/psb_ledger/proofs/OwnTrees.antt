@@ -1,7 +1,6 @@
 -- The tree of own chunks, as the list of them in byte order.
 use Rattle.std.proofs.Common.{◌≡◌, ℕ, Bool, true, false, ◌||◌, ◌&&◌, cond, List, [], ◌∷◌, map, filter, Option, Some, None, refl, sym, ap, ◌∙◌}
 use Rattle.std.specs.Prelude.{is_some, find}
-use Rattle.std.specs.List.{list_all}
 use Rattle.std.specs.Map.{lookup}
 use Rattle.std.specs.BTreeMap.{is_at, insert_entry}
 use Rattle.std.specs.declared.cmp.Ordering.{Ordering}
@@ -10,7 +9,7 @@ use Rattle.std.specs.BTreeMap.Range.{is_from_start, entries_between}
 use Rattle.std.specs.declared.ops.Bound.{Bound}
 use Rattle.std.specs.declared.ops.Bound.TheVariants.{Included, Excluded, Unbounded}
 use Rattle.std.specs.Cmp.Lexicographic.{slice_cmp}
-use Rattle.std.proofs.lemmas.Bool.{and_parts, true≢false, false≢true}
+use Rattle.std.proofs.lemmas.Bool.{true≢false, false≢true}
 use Rattle.psb_bytes.specs.declared.ids.Object.TheVariants.{Chunk}
 use Rattle.psb_bytes.specs.contracts.ids.DigestOrd.TheImpl.{cmp-value as derived_cmp}
 use Rattle.psb_model.specs.declared.entries.OwnEntry.{OwnEntry}
@@ -23,8 +22,8 @@ use Rattle.psb_model.proofs.Built.{own_with_is}
 use Rattle.psb_ledger.specs.declared.own.OwnChunk.{OwnChunk}
 use Rattle.psb_ledger.specs.View.{in_order, own_key}
 use Rattle.psb_ledger.specs.OwnList.{own_entry, entry_of, with_newest, is_newest, newest_len, newest_listed, newest_behind, nearer, is_behind, known_len, next_own}
-use Rattle.psb_ledger.proofs.Ordered.{by_cases, below_rest, less_then, in_order_with}
-use Rattle.psb_ledger.proofs.Trees.{by_order, equal_is_one, or_false, apart, in_order_but}
+use Rattle.psb_ledger.proofs.Ordered.{by_cases, neither, less_then, in_order_with, equal_is_one, or_false, apart, in_order_but, in_order_kept, kept_with}
+use Rattle.psb_ledger.proofs.Trees.{by_order}
 
 -- the order by which a tree keeps its names is theirs
 abbrev IsNameOrder : (List ℕ → List ℕ → Ordering) → Type 0
@@ -56,7 +55,7 @@ found_own cmp law (e ∷ es) n =
     by_cases (name_eq e.0 n) (λ k. rw (same ∙ k, k) refl) (λ k. rw (same ∙ k, k) (found_own cmp law es n))
 
 has_newest : (newest : Option OwnChunk) (l : List OwnEntry) (n : List ℕ) → (own_has l n || is_newest newest n) ≡ own_has (with_newest newest l) n
-has_newest None l n = sym (or_false (own_has l n))
+has_newest None l n = or_false (own_has l n)
 has_newest (Some c) l n = sym (own_with_is (entry_of c) l n)
 
 pub tree_has_own : (cmp : List ℕ → List ℕ → Ordering) → IsNameOrder cmp → (newest : Option OwnChunk) (es : List (List ℕ × ℕ)) (n : List ℕ) → (is_some (lookup (is_at (cmp n)) es) || is_newest newest n) ≡ own_has (with_newest newest (map own_entry es)) n
@@ -77,10 +76,6 @@ len_put e (x ∷ xs) absent =
     by_cases (is_lt (slice_cmp nat_cmp e.name x.name))
     (λ k. rw (k, name_refl e.name) refl)
     (λ k. rw (k, n.0) (len_put e xs n.1))
-  where
-    neither : (p q : Bool) → (p || q) ≡ false → (p ≡ false) × (q ≡ false)
-    neither true q h = absurd (true≢false h)
-    neither false q h = (refl, h)
 
 len_other : (c : OwnChunk) (l : List OwnEntry) (n : List ℕ) → name_eq c.name n ≡ false → known_len (own_with (entry_of c) l) n ≡ known_len l n
 len_other c l n h = let o = own_with_other (entry_of c) l n h in rw (o.0, o.1) refl
@@ -123,10 +118,6 @@ put_own cmp law (e ∷ es) n len absent =
     (λ k. let lt : is_lt (slice_cmp nat_cmp n e.0) ≡ true = ap is_lt (sym (law n e.0) ∙ k) in rw (k, lt) refl)
     (λ k. absurd (true≢false (sym (ap is_eq k) ∙ same_name cmp law n e.0 ∙ a.0)))
     (λ k. let lt : is_lt (slice_cmp nat_cmp n e.0) ≡ false = ap is_lt (sym (law n e.0) ∙ k) in rw (k, lt) (ap (λ l. own_entry e ∷ l) (put_own cmp law es n len a.1)))
-  where
-    neither : (p q : Bool) → (p || q) ≡ false → (p ≡ false) × (q ≡ false)
-    neither true q h = absurd (true≢false h)
-    neither false q h = (refl, h)
 
 -- the newest goes into the tree
 pub newest_put : (cmp : List ℕ → List ℕ → Ordering) → IsNameOrder cmp → (es ns : List (List ℕ × ℕ)) (newest : Option OwnChunk) (c : OwnChunk) → newest ≡ Some c → in_order own_key (with_newest newest (map own_entry es)) ≡ true → ns ≡ insert_entry cmp es c.name c.len → map own_entry ns ≡ with_newest newest (map own_entry es)
@@ -136,38 +127,11 @@ newest_put cmp law es ns newest c is ordered put =
 
 -- WHAT IS KEPT
 
-all_kept : (p q : OwnEntry → Bool) (l : List OwnEntry) → list_all p l ≡ true → list_all p (filter q l) ≡ true
-all_kept p q [] h = refl
-all_kept p q (x ∷ xs) h =
-    let a = and_parts (p x) (list_all p xs) h in
-    by_cases (q x) (λ k. rw k (rw a.0 (all_kept p q xs a.1))) (λ k. rw k (all_kept p q xs a.1))
-
 pub ordered_kept : (q : OwnEntry → Bool) (l : List OwnEntry) → in_order own_key l ≡ true → in_order own_key (filter q l) ≡ true
-ordered_kept q [] h = refl
-ordered_kept q (x ∷ xs) h =
-    let first : OwnEntry → Bool = λ y. is_lt (slice_cmp nat_cmp x.name y.name) in
-    let a = and_parts (list_all first xs) (in_order own_key xs) h in
-    by_cases (q x) (λ k. rw k (rw (all_kept first q xs a.0) (ordered_kept q xs a.1))) (λ k. rw k (ordered_kept q xs a.1))
-
-goes_first : (e : OwnEntry) (l : List OwnEntry) → list_all (λ (y : OwnEntry). is_lt (slice_cmp nat_cmp e.name y.name)) l ≡ true → own_with e l ≡ e ∷ l
-goes_first e [] h = refl
-goes_first e (x ∷ xs) h = let a = and_parts (is_lt (slice_cmp nat_cmp e.name x.name)) (list_all (λ (y : OwnEntry). is_lt (slice_cmp nat_cmp e.name y.name)) xs) h in rw a.0 refl
+ordered_kept q l h = in_order_kept own_key q l h
 
 filter_with : (q : OwnEntry → Bool) (e : OwnEntry) (l : List OwnEntry) → in_order own_key l ≡ true → cond (q e) (own_with e (filter q l)) (filter q l) ≡ filter q (own_with e l)
-filter_with q e [] h = refl
-filter_with q e (x ∷ xs) h =
-    let behind : OwnEntry → Bool = λ y. is_lt (slice_cmp nat_cmp e.name y.name) in
-    let a = and_parts (list_all (λ (y : OwnEntry). is_lt (slice_cmp nat_cmp x.name y.name)) xs) (in_order own_key xs) h in
-    by_cases (is_lt (slice_cmp nat_cmp e.name x.name))
-    (λ k.
-    let all : list_all behind (x ∷ xs) ≡ true = rw k (below_rest own_key e x xs k a.0) in
-    let first : own_with e (filter q (x ∷ xs)) ≡ e ∷ filter q (x ∷ xs) = goes_first e (filter q (x ∷ xs)) (all_kept behind q (x ∷ xs) all) in
-    rw k (ap (λ l. cond (q e) l (filter q (x ∷ xs))) first))
-    (λ k.
-    let rest = filter_with q e xs a.1 in
-    by_cases (q x)
-    (λ j. rw (k, j) (by_cases (q e) (λ i. let r = rw i at rest in rw i (rw k (ap (λ l. x ∷ l) r))) (λ i. let r = rw i at rest in rw i (ap (λ l. x ∷ l) r))))
-    (λ j. rw (k, j) rest))
+filter_with q e l h = ap (λ (m : List OwnEntry). cond (q e) m (filter q l)) (with_is_one e (filter q l)) ∙ kept_with own_key q e l h ∙ ap (filter q) (sym (with_is_one e l))
 
 map_kept : (q : OwnEntry → Bool) (es : List (List ℕ × ℕ)) → map own_entry (filter (λ x. q (own_entry x)) es) ≡ filter q (map own_entry es)
 map_kept q [] = refl

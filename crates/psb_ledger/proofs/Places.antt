@@ -81,10 +81,6 @@ found_set (x ∷ xs) p zero v w f at same changed =
     rw at.0 (ap (λ y. y ∷ map named_row xs) one)
 found_set (x ∷ xs) p (suc i) v w f at same changed = rw at.0 (ap (λ l. named_row x ∷ l) (found_set xs p i v w f at.1 same changed))
 
--- what is read at the place of a peer is its row
-pub found_read : (vs : List AccountView) (p i : ℕ) (r : AccountView) → Some i ≡ position (λ (v : AccountView). v.id == p) vs → r ≡ get_or vs i r → row_in (map named_row vs) p ≡ r.row
-found_read vs p i r h is = let f = found vs p i (sym h) in found_row vs p i f.0 f.1 ∙ ap (λ (v : AccountView). v.row) (sym (is ∙ found_at vs p i f.0 r f.1))
-
 -- and what is read there was found there
 pub found_here : (vs : List AccountView) (p i : ℕ) (r : AccountView) → Some i ≡ position (λ (v : AccountView). v.id == p) vs → r ≡ get_or vs i r → Found vs p i r
 found_here vs p i r h is = let f = found vs p i (sym h) in subst (Found vs p i) (sym (is ∙ found_at vs p i f.0 r f.1)) f.1

@@ -16,7 +16,7 @@ use Rattle.psb_model.specs.Grammar.{is_u8, is_u32, is_u64, is_digest, is_ticket,
 use Rattle.psb_ledger.specs.declared.codec.fields.SnappedFields.{SnappedFields}
 use Rattle.psb_ledger.specs.Records.{IsRead, NoneIsRead, HasNoNames}
 use Rattle.psb_ledger.specs.Fronts.{snapped_front, front_fits, HasNoFront}
-use Rattle.psb_ledger.proofs.Spelled.{same_parts, same_u32, digest_length}
+use Rattle.psb_ledger.proofs.Spelled.{same_parts, same_u32, digest_length, flat_map_end}
 use Rattle.psb_ledger.proofs.Decoded.{all_bytes, front_bytes, rest_bytes, both, nothing_left}
 
 -- 32 bytes at a place are a name
@@ -112,11 +112,6 @@ other_count bytes rest count small front other names widths counts e =
     let t = same_u32 count (length names) rest (flat_map (λ (name : List ℕ). name) names) (lt-ltb count (2 ^ 32) small) counts (sym front ∙ e) in
     other (ap length t.1 ∙ names_length names widths ∙ ap (λ n. 32 * n) (sym t.0))
 
--- one name more
-flat_map_end : (xs : List (List ℕ)) (x : List ℕ) → flat_map (λ (name : List ℕ). name) (xs ++ x ∷ []) ≡ flat_map (λ (name : List ℕ). name) xs ++ x
-flat_map_end [] x = append-nil x
-flat_map_end (y ∷ ys) x = ap (λ l. y ++ l) (flat_map_end ys x) ∙ sym (append_assoc y (flat_map (λ (name : List ℕ). name) ys) x)
-
 pub name_more : (bytes : List ℕ) (names : List (List ℕ)) (i : ℕ) → bytes ≡ flat_map (λ (name : List ℕ). name) names ++ drop (32 * i) bytes → bytes ≡ flat_map (λ (name : List ℕ). name) (names ++ take 32 (drop (32 * i) bytes) ∷ []) ++ drop (32 * (i + 1)) bytes
 name_more bytes names i before =
     let rest = drop (32 * i) bytes in
@@ -125,11 +120,7 @@ name_more bytes names i before =
     before
     ∙ ap (λ l. flat_map (λ (name : List ℕ). name) names ++ l) (sym (take-append-drop 32 rest) ∙ ap (λ l. take 32 rest ++ l) next)
     ∙ sym (append_assoc (flat_map (λ (name : List ℕ). name) names) (take 32 rest) (drop (32 * (i + 1)) bytes))
-    ∙ ap (λ l. l ++ drop (32 * (i + 1)) bytes) (sym (flat_map_end names (take 32 rest)))
-
-pub all_more : (names : List (List ℕ)) (n : List ℕ) → list_all is_digest names ≡ true → is_digest n ≡ true → list_all is_digest (names ++ n ∷ []) ≡ true
-all_more [] n h k = rw k refl
-all_more (x ∷ xs) n h k = let a = and_parts (is_digest x) (list_all is_digest xs) h in rw a.0 (all_more xs n a.1 k)
+    ∙ ap (λ l. l ++ drop (32 * (i + 1)) bytes) (sym (flat_map_end (λ (name : List ℕ). name) names (take 32 rest)))
 
 -- at the end no bytes are left
 pub all_named : (bytes : List ℕ) (names : List (List ℕ)) (i count : ℕ) → length bytes ≡ 32 * count → count ≤ i → bytes ≡ flat_map (λ (name : List ℕ). name) names ++ drop (32 * i) bytes → bytes ≡ flat_map (λ (name : List ℕ). name) names

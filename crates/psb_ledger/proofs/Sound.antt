@@ -1,27 +1,35 @@
--- What a change leaves sound: what fits, the state after it, and what every ledger keeps.
-use Rattle.std.proofs.Common.{◌≡◌, ℕ, ◌+◌, ◌<◌, ◌≤◌, ◌^◌, Bool, true, ◌&&◌, List, [], ◌∷◌, ◌++◌, map, get_or, set, Option, Some, None, refl, sym, ap, ◌∙◌, subst, arith}
-use Rattle.std.specs.Prelude.{◌==◌, position, sum_by, nat_lt, is_some}
-use Rattle.std.proofs.lemmas.Bool.{and_parts, leb-true}
+-- What every book keeps: a state that a history gives, at the beginning and after a change.
+use Rattle.std.proofs.Common.{◌≡◌, ℕ, ◌+◌, ◌<◌, ◌^◌, true, List, [], ◌∷◌, ◌++◌, map, set, Option, Some, None, refl, sym, ap, ◌∙◌, subst, arith}
+use Rattle.std.specs.Prelude.{◌==◌, ◌-◌, sum_by, is_some, vec_len, vec_capacity}
 use Rattle.psb_settings.specs.declared.settings.Settings.{Settings}
 use Rattle.psb_settings.specs.declared.settings.PeerRow.{PeerRow}
 use Rattle.psb_settings.specs.Settings.{settings_of}
 use Rattle.psb_settings.proofs.Ranges.{settings_of-are}
 use Rattle.psb_model.specs.declared.change.Change.{Change}
-use Rattle.psb_model.specs.declared.change.Change.TheVariants.{Begun, TookFresh, Refused}
-use Rattle.psb_model.specs.Words.{units, all_of}
-use Rattle.psb_model.specs.State.{Row, State, row, at_row, held_units, back_units, used, coming, is_peer}
+use Rattle.psb_model.specs.declared.change.Change.TheVariants.{Begun}
+use Rattle.psb_model.specs.State.{Row, State, at_row, held_units, coming}
 use Rattle.psb_model.specs.Grammar.{in_grammar}
-use Rattle.psb_model.specs.Conditions.{capacity, tests, allowed, settings_of_body}
-use Rattle.psb_model.specs.Effects.{took_deal, after, blank_rows, first_rows}
-use Rattle.psb_model.proofs.Steps.{parts}
+use Rattle.psb_model.specs.Conditions.{capacity, allowed, settings_of_body}
+use Rattle.psb_model.specs.Effects.{after, blank_rows, first_rows}
 use Rattle.psb_model.proofs.Balance.{Good, good_state}
 use Rattle.psb_model.proofs.Prefixes.{state_snoc, lawful_snoc, all_snoc}
 use Rattle.psb_model.proofs.Built.{IsPlain, plain_state as plain_history, own_next, own_is}
 use Rattle.psb_model.specs.History.{is_built}
-use Rattle.psb_ledger.specs.View.{AccountView, Mine, named_row, plain_state, fresh_row, IsReached, IsSound}
+use Rattle.psb_ledger.specs.declared.book.Book.TheInside.{Inside}
+use Rattle.psb_ledger.specs.OwnTree.{own_room, mine_of}
+use Rattle.psb_ledger.specs.View.{AccountView, LedgerView, Mine, named_row, plain_state, IsReached, IsSound}
 use Rattle.psb_ledger.proofs.Ordered.{by_cases}
-use Rattle.psb_ledger.proofs.Places.{Found, found_row, found_peer, found_here, found_set}
-use Rattle.psb_ledger.proofs.After.{row_within, used_more, used_same, fresh_held, after_fresh, after_refused}
+use Rattle.psb_ledger.proofs.Places.{Found, found_set}
+
+-- what the parts of a book are for its view
+abbrev pub mine : Inside → Mine
+mine l = mine_of l.own l.kept.items l.snapped
+
+abbrev pub state_of : Inside → State
+state_of l = plain_state l.changes l.settings l.accounts.items l.issued (mine l)
+
+abbrev pub view_of : Inside → LedgerView
+view_of l = record { state = state_of l; accounts = l.accounts.items; next = l.next; next_accounts = l.next_accounts.items; in_blocks = l.in_blocks; own_room = own_room l.own; kept_room = vec_capacity l.kept - vec_len l.kept }
 
 -- a state that a history gives is good, and so is each that a lawful change makes of it
 pub good_of : (s : State) → IsReached s → Good s
@@ -41,70 +49,6 @@ reached_after s c r built grammar may = record {
   built = all_snoc is_built r.history c ∙ rw (r.built, built) refl;
   gives = state_snoc r.history c ∙ ap (λ t. after t c) r.gives;
 }
-
-abbrev pub fresh_change : ℕ → ℕ → List ℕ → ℕ → ℕ → Bool → Change
-fresh_change p deal name first len new = TookFresh p deal name first len new None
-
-pub record FreshAt (m : Mine) (ch : ℕ) (st : Option Settings) (vs : List AccountView) (is total p deal : ℕ) (name : List ℕ) (first len : ℕ) (new : Bool) (i : ℕ) (r : AccountView) : Type 0 where
-  pub sound : IsSound total (plain_state ch st vs is m)
-  pub place : Some i ≡ position (λ (v : AccountView). v.id == p) vs
-  pub here : r ≡ get_or vs i r
-  pub may : allowed (plain_state ch st vs is m) (fresh_change p deal name first len new) ≡ true
-  pub grammar : in_grammar (fresh_change p deal name first len new) ≡ true
-
-pub total_fits : (m : Mine) (ch : ℕ) (st : Option Settings) (vs : List AccountView) (is total p deal : ℕ) (name : List ℕ) (first len : ℕ) (new : Bool) (i : ℕ) (r : AccountView) (u : ℕ) → FreshAt m ch st vs is total p deal name first len new i r → u ≡ units len → total + u < 2 ^ 32
-total_fits m ch st vs is total p deal name first len new i r u f e =
-    let s = plain_state ch st vs is m in
-    let c = fresh_change p deal name first len new in
-    let ts = parts (tests s c) (and_parts (nat_lt 0 ch && is_peer s p) (all_of (tests s c)) f.may).1 in
-    let le : used s + units len ≤ capacity st = leb-true (used s + units len) (capacity st) ts.1.1.1.1.0 in
-    omega (arith, le, e, f.sound.used_is, f.sound.small)
-
-pub held_fits : (m : Mine) (ch : ℕ) (st : Option Settings) (vs : List AccountView) (is total p deal : ℕ) (name : List ℕ) (first len : ℕ) (new : Bool) (i : ℕ) (r : AccountView) (u : ℕ) → FreshAt m ch st vs is total p deal name first len new i r → u ≡ units len → held_units r.row + u < 2 ^ 32
-held_fits m ch st vs is total p deal name first len new i r u f e =
-    let s = plain_state ch st vs is m in
-    let q : row s p ≡ r.row = found_row vs p i r (found_here vs p i r f.place f.here) in
-    omega (arith, total_fits m ch st vs is total p deal name first len new i r u f e, row_within s s.rows p, ap held_units q, f.sound.used_is)
-
-pub back_fits : (m : Mine) (ch : ℕ) (st : Option Settings) (vs : List AccountView) (is total p deal : ℕ) (name : List ℕ) (first len : ℕ) (new : Bool) (i : ℕ) (r : AccountView) (u : ℕ) → FreshAt m ch st vs is total p deal name first len new i r → u ≡ units len → back_units r.row + u < 2 ^ 32
-back_fits m ch st vs is total p deal name first len new i r u f e =
-    let s = plain_state ch st vs is m in
-    let q : row s p ≡ r.row = found_row vs p i r (found_here vs p i r f.place f.here) in
-    omega (arith, held_fits m ch st vs is total p deal name first len new i r u f e, ((good_of s f.sound.reached).rows p).tidy.balanced, ap held_units q, ap back_units q)
-
-pub taken : (m : Mine) (ch : ℕ) (st : Option Settings) (vs : List AccountView) (is total p deal : ℕ) (name : List ℕ) (first len : ℕ) (new : Bool) (i : ℕ) (r w : AccountView) (u : ℕ) → FreshAt m ch st vs is total p deal name first len new i r → u ≡ units len → w.id ≡ r.id → w.row ≡ fresh_row name u first deal ch r.row → plain_state (ch + 1) st (set vs i w) (is + u) m ≡ after (plain_state ch st vs is m) (fresh_change p deal name first len new)
-taken m ch st vs is total p deal name first len new i r w u f e same changed =
-    let at = found_here vs p i r f.place f.here in
-    let changed' : w.row ≡ fresh_row name (units len) first deal ch r.row = changed ∙ ap (λ n. fresh_row name n first deal ch r.row) e in
-    ap (λ n. plain_state (ch + 1) st (set vs i w) (is + n) m) e
-    ∙ after_fresh m ch st vs (set vs i w) is p deal name first len new None (found_set vs p i r w (fresh_row name (units len) first deal ch) at same changed') (own_of (plain_state ch st vs is m) (fresh_change p deal name first len new) f.sound.reached refl)
-
-pub taken_sound : (m : Mine) (ch : ℕ) (st : Option Settings) (vs : List AccountView) (is total p deal : ℕ) (name : List ℕ) (first len : ℕ) (new : Bool) (i : ℕ) (r w : AccountView) (u : ℕ) → FreshAt m ch st vs is total p deal name first len new i r → u ≡ units len → w.id ≡ r.id → w.row ≡ fresh_row name u first deal ch r.row → IsSound (total + u) (plain_state (ch + 1) st (set vs i w) (is + u) m)
-taken_sound m ch st vs is total p deal name first len new i r w u f e same changed =
-    let s = plain_state ch st vs is m in
-    let c = fresh_change p deal name first len new in
-    let at = found_here vs p i r f.place f.here in
-    let rows : map named_row (set vs i w) ≡ at_row p (fresh_row name u first deal ch) (map named_row vs) = found_set vs p i r w (fresh_row name u first deal ch) at same changed in
-    record {
-      used_is = omega (arith, f.sound.used_is, ap (sum_by (λ (x : ℕ × Row). held_units x.1 + coming s x.1.pending)) rows, used_more s p u (fresh_row name u first deal ch) (map named_row vs) (found_peer vs p i r at) (fresh_held name u first deal ch) (λ y. refl));
-      reached = subst IsReached (sym (taken m ch st vs is total p deal name first len new i r w u f e same changed)) (reached_after s c f.sound.reached refl f.grammar f.may);
-      small = f.sound.small;
-    }
-
--- A refusal is noted, and nothing else changes.
-pub refused_sound : (m : Mine) (ch : ℕ) (st : Option Settings) (vs : List AccountView) (is total p deal why detail i : ℕ) (r w : AccountView) → IsSound total (plain_state ch st vs is m) → Some i ≡ position (λ (v : AccountView). v.id == p) vs → r ≡ get_or vs i r → allowed (plain_state ch st vs is m) (Refused p deal why detail) ≡ true → w.id ≡ r.id → w.row ≡ took_deal deal ch r.row → (plain_state (ch + 1) st (set vs i w) is m ≡ after (plain_state ch st vs is m) (Refused p deal why detail)) × IsSound total (plain_state (ch + 1) st (set vs i w) is m)
-refused_sound m ch st vs is total p deal why detail i r w sound place here may same changed =
-    let s = plain_state ch st vs is m in
-    let at = found_here vs p i r place here in
-    let rows : map named_row (set vs i w) ≡ at_row p (took_deal deal ch) (map named_row vs) = found_set vs p i r w (took_deal deal ch) at same changed in
-    let state_is = after_refused m ch st vs (set vs i w) is p deal why detail rows (own_of s (Refused p deal why detail) sound.reached refl) in (
-      state_is,
-      record {
-        used_is = omega (arith, sound.used_is, ap (sum_by (λ (x : ℕ × Row). held_units x.1 + coming s x.1.pending)) rows, used_same s p (took_deal deal ch) (map named_row vs) (λ y. refl) (λ y. refl));
-        reached = subst IsReached (sym state_is) (reached_after s (Refused p deal why detail) sound.reached refl refl may);
-        small = sound.small;
-      },
-    )
 
 -- The first change.
 blank_units : (s : State) (ps : List PeerRow) → sum_by (λ (x : ℕ × Row). held_units x.1 + coming s x.1.pending) (blank_rows ps) ≡ 0

@@ -1,5 +1,5 @@
 -- What is spelled in turn is read back in turn: equal bytes begin with equal fields.
-use Rattle.std.proofs.Common.{◌≡◌, ℕ, ◌^◌, Bool, true, false, List, [], ◌∷◌, ◌++◌, length, refl, sym, ap, ◌∙◌, arith}
+use Rattle.std.proofs.Common.{◌≡◌, ℕ, ◌^◌, Bool, true, false, List, [], ◌∷◌, ◌++◌, length, refl, sym, ap, ◌∙◌, arith, append-nil}
 use Rattle.std.specs.Prelude.{◌==◌}
 use Rattle.std.specs.List.{list_all, flat_map}
 use Rattle.std.specs.Int.{w16, w32, w64, from_be_bytes}
@@ -83,3 +83,13 @@ pub same_counted : {A : Type 0} (spell : A → List ℕ) (fits : A → Bool) (to
 same_counted spell fits told xs ys r s ha hb na nb e =
     let t = same_u32 (length xs) (length ys) (flat_map spell xs ++ r) (flat_map spell ys ++ s) na nb e in
     same_items spell fits told xs ys r s ha hb t.0 t.1
+
+-- ONE ITEM MORE
+
+pub flat_map_end : {A : Type 0} (spell : A → List ℕ) (xs : List A) (x : A) → flat_map spell (xs ++ x ∷ []) ≡ flat_map spell xs ++ spell x
+flat_map_end spell [] x = append-nil (spell x)
+flat_map_end spell (y ∷ ys) x = ap (λ l. spell y ++ l) (flat_map_end spell ys x) ∙ sym (append_assoc (spell y) (flat_map spell ys) (spell x))
+
+pub all_end : {A : Type 0} (p : A → Bool) (xs : List A) (x : A) → list_all p xs ≡ true → p x ≡ true → list_all p (xs ++ x ∷ []) ≡ true
+all_end p [] x h k = rw k refl
+all_end p (y ∷ ys) x h k = let a = and_parts (p y) (list_all p ys) h in rw a.0 (all_end p ys x a.1 k)

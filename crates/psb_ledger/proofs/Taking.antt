@@ -1,29 +1,58 @@
--- A chunk that may be taken against new slots: what its account needs, and what is left.
-use Rattle.std.proofs.Common.{◌≡◌, ℕ, ◌+◌, ◌<◌, ◌≤◌, ◌^◌, Bool, true, false, not, ◌&&◌, get_or, set, Some, refl, sym, ap, ◌∙◌, subst, arith}
-use Rattle.std.specs.Prelude.{◌==◌, ◌-◌, position, nat_lt, vec_len, vec_capacity}
-use Rattle.std.proofs.lemmas.Bool.{and_parts, eqb-true}
-use Rattle.psb_bytes.specs.declared.ids.Object.TheVariants.{Chunk}
+-- A chunk that may be taken against new slots, and a deal that may be refused: what the account needs, and
+-- what is left.
+use Rattle.std.proofs.Common.{◌≡◌, ℕ, zero, suc, ◌+◌, ◌<◌, ◌≤◌, ◌^◌, Bool, true, false, List, [], None, refl, sym, ap, ◌∙◌, subst, arith}
+use Rattle.std.proofs.lemmas.Bool.{eqb-true, leb-true}
+use Rattle.psb_bytes.specs.declared.ids.Object.TheVariants.{Chunk, Slot}
+use Rattle.psb_model.specs.declared.entries.OutEntry.{OutEntry}
 use Rattle.psb_model.specs.declared.change.Change.{Change}
-use Rattle.psb_model.specs.Words.{units, has, all_of}
-use Rattle.psb_model.specs.State.{Row, row, is_peer, in_key, held_units, back_units}
-use Rattle.psb_model.specs.Grammar.{in_grammar}
-use Rattle.psb_model.specs.Conditions.{allowed, tests}
-use Rattle.psb_model.specs.Effects.{after}
+use Rattle.psb_model.specs.declared.change.Change.TheVariants.{TookFresh, Refused}
+use Rattle.psb_model.specs.Words.{units, occurs, has, all_of, with_one, with_all, without}
+use Rattle.psb_model.specs.State.{Row, State, row, is_held, in_key, in_size, out_key, held_units, back_units, used}
+use Rattle.psb_model.specs.Conditions.{capacity, tests, fresh_tests}
+use Rattle.psb_model.specs.Move.{still, after_move}
+use Rattle.psb_model.specs.Effects.{chunk_in, own_slots, took_deal}
+use Rattle.psb_model.proofs.ByObject.{sum_by-with_one, has-occurs}
+use Rattle.psb_model.proofs.Built.{allows}
 use Rattle.psb_model.proofs.Steps.{parts}
+use Rattle.psb_model.proofs.Tidy.{fresh_move}
 use Rattle.psb_ledger.specs.declared.codec.fields.FreshFields.{FreshFields}
+use Rattle.psb_ledger.specs.declared.codec.fields.RefusedFields.{RefusedFields}
 use Rattle.psb_ledger.specs.declared.book.Book.TheInside.{Inside}
-use Rattle.psb_ledger.specs.OwnTree.{own_room, mine_of}
-use Rattle.psb_ledger.specs.View.{AccountView, LedgerView, plain_state, fresh_row, LacksSlots, HasFreshRoom, IsSound}
-use Rattle.psb_ledger.proofs.Places.{found_row, found_here, found_peer, found_account}
-use Rattle.psb_ledger.proofs.Sound.{good_of, fresh_change, FreshAt, total_fits, held_fits, back_fits, taken, taken_sound}
-
-abbrev pub view_of : Inside → LedgerView
-view_of l = record { state = plain_state l.changes l.settings l.accounts.items l.issued (mine_of l.own l.kept.items l.snapped); accounts = l.accounts.items; next = l.next; next_accounts = l.next_accounts.items; in_blocks = l.in_blocks; own_room = own_room l.own; kept_room = vec_capacity l.kept - vec_len l.kept }
+use Rattle.psb_ledger.specs.View.{AccountView, LedgerView, fresh_row, lacks_all, HasListRoom}
+use Rattle.psb_ledger.proofs.Ordered.{by_cases, is_false}
+use Rattle.psb_ledger.proofs.Trees.{without_none}
+use Rattle.psb_ledger.proofs.Places.{found_here, found_peer, found_account}
+use Rattle.psb_ledger.proofs.Sound.{state_of, view_of, good_of}
+use Rattle.psb_ledger.proofs.Peers.{IsAt, Makes, makes, row_at, within_used, debts_stay}
 
 abbrev pub change_of : FreshFields → Change
-change_of x = fresh_change x.peer x.deal x.name x.first x.len x.new
+change_of x = TookFresh x.peer x.deal x.name x.first x.len x.new None
 
--- a deal that is no repeat, of a chunk that is not there, from the first number on that was not drawn
+-- THE CONDITION
+
+pub fresh_tests_are : (s : State) (x : FreshFields) (r : Row) (held : Bool) (total u most issued : ℕ) → row s x.peer ≡ r → held ≡ is_held s x.name → total ≡ used s → u ≡ units x.len → most ≡ capacity s.settings → issued ≡ s.issued → all_of (tests s (change_of x)) ≡ all_of (fresh_tests r x.deal x.name x.first x.new held total u most issued)
+fresh_tests_are s x r held total u most issued a b c d e f = λ j. all_of (fresh_tests (a j) x.deal x.name x.first x.new (sym b j) (sym c j) (sym d j) (sym e j) (sym f j))
+
+-- ROWS
+
+pub row_fresh : (name : List ℕ) (u first deal change : ℕ) (r : Row) → took_deal deal change (after_move (fresh_move first u name) r) ≡ fresh_row name u first deal change r
+row_fresh name u first deal change r =
+    let a : with_one in_key (chunk_in name u) (without in_key [] r.ins) ≡ with_one in_key (chunk_in name u) r.ins = ap (with_one in_key (chunk_in name u)) (without_none in_key r.ins) in
+    let b : with_all out_key (own_slots first u) (without out_key [] r.outs) ≡ with_all out_key (own_slots first u) r.outs = ap (with_all out_key (own_slots first u)) (without_none out_key r.outs) in
+    λ i. took_deal deal change (record r { ins = a i; outs = b i; debts = debts_stay r.debts i })
+
+pub row_still : (deal change : ℕ) (r : Row) → took_deal deal change (after_move still r) ≡ took_deal deal change r
+row_still deal change r = λ i. took_deal deal change (record r { ins = without_none in_key r.ins i; outs = without_none out_key r.outs i; debts = debts_stay r.debts i })
+
+-- WHAT THE ACCOUNT NEEDS
+
+-- own slots of numbers that were not drawn
+lacks_own : (first u : ℕ) (outs : List OutEntry) → ((n : ℕ) → first ≤ n → occurs out_key outs (Slot n) ≡ 0) → lacks_all out_key (own_slots first u) outs ≡ true
+lacks_own first zero outs free = refl
+lacks_own first (suc u) outs free =
+    let none : has out_key outs (Slot first) ≡ false = by_cases (has out_key outs (Slot first)) (λ k. absurd (omega (arith, free first (omega arith), has-occurs out_key outs (Slot first) k))) (λ k. k) in
+    rw none (lacks_own (first + 1) u outs (λ n le. free n (omega (arith, le))))
+
 pub record CanTake (l : Inside) (v : LedgerView) (x : FreshFields) (i u : ℕ) (r : AccountView) : Type 0 where
   pub in_room : 1 ≤ r.in_room
   pub out_room : u ≤ r.out_room
@@ -31,36 +60,45 @@ pub record CanTake (l : Inside) (v : LedgerView) (x : FreshFields) (i u : ℕ) (
   pub back : back_units r.row + u < 2 ^ 32
   pub total : l.used + u < 2 ^ 32
   pub absent : has in_key r.row.ins (Chunk x.name) ≡ false
-  pub free : LacksSlots x.first u r.row.outs
-  pub after_is : (w : AccountView) → w.id ≡ r.id → w.row ≡ fresh_row x.name u x.first x.deal l.changes r.row → plain_state (l.changes + 1) l.settings (set l.accounts.items i w) (l.issued + u) (mine_of l.own l.kept.items l.snapped) ≡ after v.state (change_of x)
-  pub sound : (w : AccountView) → w.id ≡ r.id → w.row ≡ fresh_row x.name u x.first x.deal l.changes r.row → IsSound (l.used + u) (plain_state (l.changes + 1) l.settings (set l.accounts.items i w) (l.issued + u) (mine_of l.own l.kept.items l.snapped))
+  pub free : lacks_all out_key (own_slots x.first u) r.row.outs ≡ true
+  pub made : (w : AccountView) → w.id ≡ r.id → w.row ≡ fresh_row x.name u x.first x.deal l.changes r.row → Makes l v (change_of x) i (l.issued + u) (l.used + u) w
 
-is_false : (b : Bool) → not b ≡ true → b ≡ false
-is_false true h = sym h
-is_false false h = refl
-
-pub can_take : (l : Inside) (v : LedgerView) (x : FreshFields) (i u : ℕ) (r : AccountView) → view_of l ≡ v → IsSound l.used (plain_state l.changes l.settings l.accounts.items l.issued (mine_of l.own l.kept.items l.snapped)) → Some i ≡ position (λ (y : AccountView). y.id == x.peer) v.accounts → r ≡ get_or l.accounts.items i r → allowed v.state (change_of x) ≡ true → in_grammar (change_of x) ≡ true → HasFreshRoom v x.peer (units x.len) → u ≡ units x.len → CanTake l v x i u r
-can_take l v x i u r view sound place here may grammar room same =
-    let s = plain_state l.changes l.settings l.accounts.items l.issued (mine_of l.own l.kept.items l.snapped) in
+pub can_take : (l : Inside) (v : LedgerView) (x : FreshFields) (i u : ℕ) (r : AccountView) → IsAt l v (change_of x) x.peer i r → HasListRoom v x.peer 1 (units x.len) → u ≡ units x.len → CanTake l v x i u r
+can_take l v x i u r f room same =
+    let s = state_of l in
+    let c = change_of x in
     let vs = l.accounts.items in
-    let place' : Some i ≡ position (λ (y : AccountView). y.id == x.peer) vs = place ∙ ap (λ (w : LedgerView). position (λ (y : AccountView). y.id == x.peer) w.accounts) (sym view) in
-    let may' : allowed s (change_of x) ≡ true = ap (λ (w : LedgerView). allowed w.state (change_of x)) view ∙ may in
-    let room' : HasFreshRoom (view_of l) x.peer (units x.len) = subst (λ (w : LedgerView). HasFreshRoom w x.peer (units x.len)) (sym view) room in
-    let at = found_here vs x.peer i r place' here in
-    let f : FreshAt (mine_of l.own l.kept.items l.snapped) l.changes l.settings vs l.issued l.used x.peer x.deal x.name x.first x.len x.new i r = record { sound = sound; place = place'; here = here; may = may'; grammar = grammar } in
+    let at = found_here vs x.peer i r f.place f.here in
+    let room' : HasListRoom (view_of l) x.peer 1 (units x.len) = subst (λ (w : LedgerView). HasListRoom w x.peer 1 (units x.len)) (sym f.view) room in
     let peer = found_peer vs x.peer i r at in
-    let q : row s x.peer ≡ r.row = found_row vs x.peer i r at in
     let account = found_account vs x.peer i r at in
-    let ts = parts (tests s (change_of x)) (and_parts (nat_lt 0 l.changes && is_peer s x.peer) (all_of (tests s (change_of x))) may').1 in
+    let q = row_at l v c x.peer i r f in
+    let ts = parts (tests s c) (allows s c f.may).tests in
+    let tidy = ((good_of s f.sound.reached).rows x.peer).tidy in
     let first : x.first ≡ l.issued = eqb-true x.first l.issued ts.1.1.1.1.1.0 in
-    let free : LacksSlots x.first u (row s x.peer).outs = λ n le lt. omega (arith, ((good_of s sound.reached).rows x.peer).tidy.below n (omega (arith, first, le))) in record {
-      in_room = subst (λ (y : AccountView). 1 ≤ y.in_room) account (room'.ins peer);
-      out_room = omega (arith, same, subst (λ (y : AccountView). units x.len ≤ y.out_room) account (room'.outs peer));
-      held = held_fits (mine_of l.own l.kept.items l.snapped) l.changes l.settings vs l.issued l.used x.peer x.deal x.name x.first x.len x.new i r u f same;
-      back = back_fits (mine_of l.own l.kept.items l.snapped) l.changes l.settings vs l.issued l.used x.peer x.deal x.name x.first x.len x.new i r u f same;
-      total = total_fits (mine_of l.own l.kept.items l.snapped) l.changes l.settings vs l.issued l.used x.peer x.deal x.name x.first x.len x.new i r u f same;
+    let fits : used s + units x.len ≤ capacity l.settings = leb-true (used s + units x.len) (capacity l.settings) ts.1.1.1.1.0 in
+    let total : l.used + u < 2 ^ 32 = omega (arith, fits, same, f.sound.used_is, f.sound.small) in
+    let held : held_units r.row + u < 2 ^ 32 = omega (arith, total, within_used l v c x.peer i r f) in
+    record {
+      in_room = subst (λ (y : AccountView). 1 ≤ y.in_room) account (room'.in_room peer);
+      out_room = omega (arith, same, subst (λ (y : AccountView). units x.len ≤ y.out_room) account (room'.out_room peer));
+      held = held;
+      back = omega (arith, held, tidy.balanced, ap held_units q, ap back_units q);
+      total = total;
       absent = ap (λ y. has in_key y.ins (Chunk x.name)) (sym q) ∙ is_false (has in_key (row s x.peer).ins (Chunk x.name)) ts.1.0;
-      free = subst (λ (y : Row). LacksSlots x.first u y.outs) q free;
-      after_is = λ w a b. taken (mine_of l.own l.kept.items l.snapped) l.changes l.settings vs l.issued l.used x.peer x.deal x.name x.first x.len x.new i r w u f same a b ∙ ap (λ (y : LedgerView). after y.state (change_of x)) view;
-      sound = λ w a b. taken_sound (mine_of l.own l.kept.items l.snapped) l.changes l.settings vs l.issued l.used x.peer x.deal x.name x.first x.len x.new i r w u f same a b;
+      free = ap (λ (y : Row). lacks_all out_key (own_slots x.first u) y.outs) (sym q) ∙ lacks_own x.first u (row s x.peer).outs (λ n le. omega (arith, tidy.below n (omega (arith, first, le))));
+      made = λ w a b.
+          let b' : w.row ≡ fresh_row x.name (units x.len) x.first x.deal l.changes r.row = b ∙ ap (λ n. fresh_row x.name n x.first x.deal l.changes r.row) same in
+          makes l v c x.peer i (l.issued + u) (l.used + u) r w refl refl (record { settings = refl; own = refl; kept = refl; snapped = refl; chosen = refl }) f a
+          (b' ∙ sym (row_fresh x.name (units x.len) x.first x.deal l.changes r.row))
+          (ap (λ n. l.issued + n) same)
+          (omega (arith, ap held_units b', same, sum_by-with_one in_key in_size (chunk_in x.name (units x.len)) r.row.ins));
     }
+
+-- A REFUSAL
+
+abbrev pub refusal_of : RefusedFields → Change
+refusal_of x = Refused x.peer x.deal x.why x.detail
+
+pub refused_one : (l : Inside) (v : LedgerView) (x : RefusedFields) (i : ℕ) (r w : AccountView) → IsAt l v (refusal_of x) x.peer i r → w.id ≡ r.id → w.row ≡ took_deal x.deal l.changes r.row → Makes l v (refusal_of x) i l.issued l.used w
+refused_one l v x i r w f a b = makes l v (refusal_of x) x.peer i l.issued l.used r w refl refl (record { settings = refl; own = refl; kept = refl; snapped = refl; chosen = refl }) f a (b ∙ sym (row_still x.deal l.changes r.row)) refl (omega (arith, ap held_units b))

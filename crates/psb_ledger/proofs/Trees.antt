@@ -1,28 +1,27 @@
 -- A tree of entries, as the list of them in object order.
-use Rattle.std.proofs.Common.{◌≡◌, Bool, true, false, ◌||◌, List, [], ◌∷◌, map, Option, Some, None, refl, sym, ap, ◌∙◌}
-use Rattle.std.specs.Prelude.{is_some}
-use Rattle.std.specs.List.{list_all}
-use Rattle.std.specs.Map.{lookup}
+use Rattle.std.proofs.Common.{◌≡◌, ℕ, ◌+◌, ◌<◌, Bool, true, false, not, ◌||◌, List, [], ◌∷◌, ◌++◌, length, take, get_or, map, filter, Some, refl, sym, ap, ◌∙◌, arith}
+use Rattle.std.specs.Prelude.{remove}
+use Rattle.std.specs.Option.{option_map}
+use Rattle.std.specs.Map.{lookup, remove_entry}
 use Rattle.std.specs.BTreeMap.{is_at, insert_entry}
 use Rattle.std.specs.declared.cmp.Ordering.{Ordering}
 use Rattle.std.specs.declared.cmp.Ordering.TheVariants.{Less, Equal, Greater}
-use Rattle.std.specs.Ordering.{is_lt, is_eq, ordering_reverse}
-use Rattle.std.proofs.lemmas.Bool.{and_parts, true≢false}
+use Rattle.std.specs.Ordering.{is_lt, is_eq}
+use Rattle.std.proofs.lemmas.Bool.{true≢false}
+use Rattle.std.proofs.lemmas.List.{take_more}
 use Rattle.psb_bytes.specs.Objects.{object_eq, object_cmp}
 use Rattle.psb_bytes.specs.declared.ids.Object.{Object}
 use Rattle.psb_bytes.specs.declared.ids.Object.TheVariants.{Chunk, Slot}
 use Rattle.psb_bytes.specs.contracts.ids.ObjectOrd.TheImpl.{cmp-value as derived_cmp}
-use Rattle.psb_model.specs.declared.entries.InEntry.{InEntry}
-use Rattle.psb_model.specs.Words.{has, with_one}
-use Rattle.psb_model.specs.State.{in_key}
-use Rattle.psb_ledger.specs.declared.in_tree.Holding.{Holding}
+use Rattle.psb_model.specs.Words.{has, listed, slots, with_one, with_all, without}
+use Rattle.psb_model.proofs.ByObject.{object_eq-same, object_eq-swap}
 use Rattle.psb_ledger.specs.View.{in_order}
-use Rattle.psb_ledger.specs.Latest.{latest_items}
-use Rattle.psb_ledger.specs.Lists.{entry_of, with_latest}
-use Rattle.psb_ledger.proofs.Ordered.{by_cases, object_total, same_object}
+use Rattle.psb_ledger.specs.Lists.{find_at, items_of}
+use Rattle.psb_ledger.proofs.Ordered.{by_cases, neither, equal_is_one, apart, in_order_but_all, in_order_kept, kept_with_all}
+use Rattle.psb_ledger.proofs.Found.{rest_ordered, without_first}
 
 -- the order by which a tree keeps its objects is theirs
-abbrev IsObjectOrder : (Object → Object → Ordering) → Type 0
+abbrev pub IsObjectOrder : (Object → Object → Ordering) → Type 0
 IsObjectOrder cmp = (a b : Object) → cmp a b ≡ object_cmp a b
 
 pub by_object : (a b : Object) → derived_cmp.it a b ≡ object_cmp a b
@@ -36,123 +35,121 @@ by_order Less f g h = f refl
 by_order Equal f g h = g refl
 by_order Greater f g h = h refl
 
-eq_reverse : (o : Ordering) → is_eq (ordering_reverse o) ≡ is_eq o
-eq_reverse Less = refl
-eq_reverse Equal = refl
-eq_reverse Greater = refl
+-- an entry that was joined stands at its object
+abbrev pub IsJoin : {E R : Type 0} → (E → Object) → (Object → R → E) → Type 0
+IsJoin {R = R} key joined = (o : Object) (r : R) → key (joined o r) ≡ o
 
--- two that compare as equal, either way round, are one
-pub equal_is_one : (a b : Object) → is_eq (object_cmp a b) ≡ object_eq b a
-equal_is_one a b = ap is_eq (object_total.antisymm a b) ∙ eq_reverse (object_cmp b a) ∙ sym (same_object b a)
-
-less_is_unequal : (o : Ordering) → is_lt o ≡ true → is_eq o ≡ false
-less_is_unequal Less h = refl
-less_is_unequal Equal h = absurd (true≢false (sym h))
-less_is_unequal Greater h = refl
-
-less_is_other : (a b : Object) → is_lt (object_cmp a b) ≡ true → object_eq b a ≡ false
-less_is_other a b h = sym (equal_is_one a b) ∙ less_is_unequal (object_cmp a b) h
-
-neither : (p q : Bool) → (p || q) ≡ false → (p ≡ false) × (q ≡ false)
-neither true q h = absurd (true≢false h)
-neither false q h = (refl, h)
+abbrev pub joins : {E R : Type 0} → (Object → R → E) → List (Object × R) → List E
+joins {R = R} joined es = map (λ (x : Object × R). joined x.0 x.1) es
 
 -- WHAT A TREE FINDS
 
-found_in : (cmp : Object → Object → Ordering) → IsObjectOrder cmp → (es : List (Object × Holding)) (o : Object) → is_some (lookup (is_at (cmp o)) es) ≡ has in_key (map entry_of es) o
-found_in cmp law [] o = refl
-found_in cmp law (e ∷ es) o =
+pub looked_up : {E R : Type 0} (key : E → Object) (joined : Object → R → E) (join : IsJoin key joined) (cmp : Object → Object → Ordering) → IsObjectOrder cmp → (es : List (Object × R)) (o : Object) → find_at key (joins joined es) o ≡ option_map (joined o) (lookup (is_at (cmp o)) es)
+looked_up key joined join cmp law [] o = refl
+looked_up key joined join cmp law (e ∷ es) o =
     let same : is_eq (cmp o e.0) ≡ object_eq e.0 o = ap is_eq (law o e.0) ∙ equal_is_one o e.0 in
-    by_cases (object_eq e.0 o) (λ k. rw (same ∙ k, k) refl) (λ k. rw (same ∙ k, k) (found_in cmp law es o))
-
-pub or_false : (p : Bool) → p ≡ (p || false)
-or_false true = refl
-or_false false = refl
-
-or_first : (p q : Bool) → (q || p) ≡ (p || q)
-or_first true true = refl
-or_first true false = refl
-or_first false q = sym (or_false q)
-
-or_last : (p q r : Bool) → ((p || q) || r) ≡ (p || (q || r))
-or_last true q r = refl
-or_last false q r = refl
-
-has_with : (e : InEntry) (l : List InEntry) (o : Object) → (has in_key l o || object_eq (in_key e) o) ≡ has in_key (with_one in_key e l) o
-has_with e [] o = or_false (object_eq (in_key e) o)
-has_with e (x ∷ xs) o =
-    by_cases (is_lt (object_cmp (in_key e) (in_key x)))
-    (λ k. rw k (or_first (object_eq (in_key e) o) (object_eq (in_key x) o || has in_key xs o)))
-    (λ k. rw k (or_last (object_eq (in_key x) o) (has in_key xs o) (object_eq (in_key e) o) ∙ ap (λ b. object_eq (in_key x) o || b) (has_with e xs o)))
-
-has_latest : (latest : Option InEntry) (l : List InEntry) (o : Object) → (has in_key l o || has in_key (latest_items latest) o) ≡ has in_key (with_latest latest l) o
-has_latest None l o = sym (or_false (has in_key l o))
-has_latest (Some e) l o = ap (λ b. has in_key l o || b) (sym (or_false (object_eq (in_key e) o))) ∙ has_with e l o
-
-pub tree_has : (cmp : Object → Object → Ordering) → IsObjectOrder cmp → (latest : Option InEntry) (es : List (Object × Holding)) (o : Object) → (is_some (lookup (is_at (cmp o)) es) || has in_key (latest_items latest) o) ≡ has in_key (with_latest latest (map entry_of es)) o
-tree_has cmp law latest es o = ap (λ b. b || has in_key (latest_items latest) o) (found_in cmp law es o) ∙ has_latest latest (map entry_of es) o
+    let at : object_eq (key (joined e.0 e.1)) o ≡ object_eq e.0 o = ap (λ x. object_eq x o) (join e.0 e.1) in
+    by_cases (object_eq e.0 o)
+    (λ k. rw (at ∙ k, same ∙ k) (ap (λ x. Some (joined x e.1)) (object_eq-same e.0 o k)))
+    (λ k. rw (at ∙ k, same ∙ k) (looked_up key joined join cmp law es o))
 
 -- AN ENTRY THAT GOES IN
 
-put_in : (cmp : Object → Object → Ordering) → IsObjectOrder cmp → (es : List (Object × Holding)) (o : Object) (s : Holding) → has in_key (map entry_of es) o ≡ false → map entry_of (insert_entry cmp es o s) ≡ with_one in_key (entry_of (o, s)) (map entry_of es)
-put_in cmp law [] o s absent = refl
-put_in cmp law (e ∷ es) o s absent =
-    let n = neither (object_eq e.0 o) (has in_key (map entry_of es) o) absent in
+put_in : {E R : Type 0} (key : E → Object) (joined : Object → R → E) (join : IsJoin key joined) (cmp : Object → Object → Ordering) → IsObjectOrder cmp → (es : List (Object × R)) (o : Object) (r : R) → has key (joins joined es) o ≡ false → joins joined (insert_entry cmp es o r) ≡ with_one key (joined o r) (joins joined es)
+put_in key joined join cmp law [] o r absent = refl
+put_in key joined join cmp law (e ∷ es) o r absent =
+    let n = neither (object_eq (key (joined e.0 e.1)) o) (has key (joins joined es) o) absent in
+    let here : object_eq e.0 o ≡ false = ap (λ x. object_eq x o) (sym (join e.0 e.1)) ∙ n.0 in
+    let order : object_cmp (key (joined o r)) (key (joined e.0 e.1)) ≡ cmp o e.0 = (λ i. object_cmp (join o r i) (join e.0 e.1 i)) ∙ sym (law o e.0) in
     by_order (cmp o e.0)
-    (λ k. let lt : is_lt (object_cmp o e.0) ≡ true = ap is_lt (sym (law o e.0) ∙ k) in rw (k, lt) refl)
-    (λ k. absurd (true≢false (sym (ap is_eq (sym (law o e.0) ∙ k)) ∙ equal_is_one o e.0 ∙ n.0)))
-    (λ k. let lt : is_lt (object_cmp o e.0) ≡ false = ap is_lt (sym (law o e.0) ∙ k) in rw (k, lt) (ap (λ l. entry_of e ∷ l) (put_in cmp law es o s n.1)))
+    (λ k. let lt : is_lt (object_cmp (key (joined o r)) (key (joined e.0 e.1))) ≡ true = ap is_lt (order ∙ k) in rw (k, lt) refl)
+    (λ k. absurd (true≢false (sym (ap is_eq (sym (law o e.0) ∙ k)) ∙ equal_is_one o e.0 ∙ here)))
+    (λ k. let lt : is_lt (object_cmp (key (joined o r)) (key (joined e.0 e.1))) ≡ false = ap is_lt (order ∙ k) in rw (k, lt) (ap (λ l. joined e.0 e.1 ∷ l) (put_in key joined join cmp law es o r n.1)))
 
-before_all : {E : Type 0} (key : E → Object) (o : Object) (l : List E) → list_all (λ x. is_lt (object_cmp o (key x))) l ≡ true → has key l o ≡ false
-before_all key o [] h = refl
-before_all key o (x ∷ xs) h =
-    let a = and_parts (is_lt (object_cmp o (key x))) (list_all (λ y. is_lt (object_cmp o (key y))) xs) h in
-    rw (less_is_other o (key x) a.0) (before_all key o xs a.1)
+-- the first of the latest goes into the tree
+pub settled_one : {E R : Type 0} (key : E → Object) (joined : Object → R → E) (join : IsJoin key joined) (cmp : Object → Object → Ordering) → IsObjectOrder cmp → (es ns : List (Object × R)) (latest : List E) (e : E) (rest : List E) (r : R) → latest ≡ e ∷ rest → joined (key e) r ≡ e → in_order key (items_of key joined es latest) ≡ true → ns ≡ insert_entry cmp es (key e) r → items_of key joined ns rest ≡ items_of key joined es latest
+settled_one key joined join cmp law es ns latest e rest r is same ordered put =
+    let ordered' : in_order key (with_all key rest (with_one key e (joins joined es))) ≡ true = ap (λ l. in_order key (items_of key joined es l)) (sym is) ∙ ordered in
+    let absent = apart key e (joins joined es) (in_order_but_all key rest (with_one key e (joins joined es)) ordered') in
+    ap (λ l. with_all key rest (joins joined l)) put
+    ∙ ap (with_all key rest) (put_in key joined join cmp law es (key e) r absent)
+    ∙ ap (λ x. with_all key rest (with_one key x (joins joined es))) same
+    ∙ ap (items_of key joined es) (sym is)
 
-one_of_all : {E : Type 0} (key : E → Object) (p : E → Bool) (e : E) (l : List E) → list_all p (with_one key e l) ≡ true → p e ≡ true
-one_of_all key p e [] h = (and_parts (p e) true h).0
-one_of_all key p e (x ∷ xs) h =
-    by_cases (is_lt (object_cmp (key e) (key x)))
-    (λ k. let h' = rw k at h in (and_parts (p e) (list_all p (x ∷ xs)) h').0)
-    (λ k. let h' = rw k at h in one_of_all key p e xs (and_parts (p x) (list_all p (with_one key e xs)) h').1)
+pub settled_first : {E R : Type 0} (key : E → Object) (joined : Object → R → E) (join : IsJoin key joined) (cmp : Object → Object → Ordering) → IsObjectOrder cmp → (es ns : List (Object × R)) (latest rest : List E) (e : E) (o : Object) (r : R) → 0 < length latest → e ≡ get_or latest 0 e → o ≡ key e → joined (key e) r ≡ e → in_order key (items_of key joined es latest) ≡ true → ns ≡ insert_entry cmp es o r → rest ≡ remove latest 0 → items_of key joined ns rest ≡ items_of key joined es latest
+settled_first key joined join cmp law es ns [] rest e o r some first at same ordered put left = absurd (omega (arith, some))
+settled_first key joined join cmp law es ns (x ∷ xs) rest e o r some first at same ordered put left =
+    ap (items_of key joined ns) left
+    ∙ settled_one key joined join cmp law es ns (x ∷ xs) e xs r (ap (λ y. y ∷ xs) (sym first)) same ordered (put ∙ ap (λ p. insert_entry cmp es p r) at)
 
--- in a list in order an entry is no other's
-pub apart : {E : Type 0} (key : E → Object) (e : E) (l : List E) → in_order key (with_one key e l) ≡ true → has key l (key e) ≡ false
-apart key e [] h = refl
-apart key e (x ∷ xs) h =
-    by_cases (is_lt (object_cmp (key e) (key x)))
-    (λ k. let h' = rw k at h in before_all key (key e) (x ∷ xs) (and_parts (list_all (λ y. is_lt (object_cmp (key e) (key y))) (x ∷ xs)) (in_order key (x ∷ xs)) h').0)
+pub without_none : {E : Type 0} (key : E → Object) (l : List E) → without key [] l ≡ l
+without_none key [] = refl
+without_none key (e ∷ es) = ap (λ l. e ∷ l) (without_none key es)
+
+-- ENTRIES BEHIND OTHERS
+
+pub with_more : {E : Type 0} (key : E → Object) (es new l : List E) → with_all key (es ++ new) l ≡ with_all key new (with_all key es l)
+with_more key [] new l = refl
+with_more key (e ∷ es) new l = with_more key es new (with_one key e l)
+
+-- AN ENTRY THAT GOES OUT
+
+pub out_of_tree : {E R : Type 0} (key : E → Object) (joined : Object → R → E) (join : IsJoin key joined) (cmp : Object → Object → Ordering) → IsObjectOrder cmp → (es : List (Object × R)) (o : Object) → in_order key (joins joined es) ≡ true → joins joined (remove_entry (is_at (cmp o)) es) ≡ without key (o ∷ []) (joins joined es)
+out_of_tree key joined join cmp law [] o h = refl
+out_of_tree key joined join cmp law (e ∷ es) o h =
+    let same : is_eq (cmp o e.0) ≡ object_eq e.0 o = ap is_eq (law o e.0) ∙ equal_is_one o e.0 in
+    let at : object_eq (key (joined e.0 e.1)) o ≡ object_eq e.0 o = ap (λ x. object_eq x o) (join e.0 e.1) in
+    by_cases (object_eq e.0 o)
+    (λ k. rw (same ∙ k) (without_first key (joined e.0 e.1) (joins joined es) o h (at ∙ k)))
     (λ k.
-    let h' = rw k at h in
-    let a = and_parts (list_all (λ y. is_lt (object_cmp (key x) (key y))) (with_one key e xs)) (in_order key (with_one key e xs)) h' in
-    let first = one_of_all key (λ y. is_lt (object_cmp (key x) (key y))) e xs a.0 in
-    let other : object_eq (key x) (key e) ≡ false = same_object (key x) (key e) ∙ less_is_unequal (object_cmp (key x) (key e)) first in
-    rw other (apart key e xs a.1))
+    let rest = rest_ordered key (joined e.0 e.1) (joins joined es) h in
+    let swap : object_eq o (key (joined e.0 e.1)) ≡ false = object_eq-swap o (key (joined e.0 e.1)) ∙ at ∙ k in
+    rw (same ∙ k, swap) (ap (λ l. joined e.0 e.1 ∷ l) (out_of_tree key joined join cmp law es o rest)))
 
--- what an entry went into was in order
-all_but : {E : Type 0} (key : E → Object) (p : E → Bool) (e : E) (l : List E) → list_all p (with_one key e l) ≡ true → list_all p l ≡ true
-all_but key p e [] h = refl
-all_but key p e (x ∷ xs) h =
-    by_cases (is_lt (object_cmp (key e) (key x)))
-    (λ k. let h' = rw k at h in (and_parts (p e) (list_all p (x ∷ xs)) h').1)
+-- what is not at the object stays
+pub others_stay : {E : Type 0} (key : E → Object) (o : Object) (l : List E) → filter (λ e. not (object_eq (key e) o)) l ≡ without key (o ∷ []) l
+others_stay key o [] = refl
+others_stay key o (x ∷ xs) =
+    let swap : object_eq o (key x) ≡ object_eq (key x) o = object_eq-swap o (key x) in
+    by_cases (object_eq (key x) o) (λ k. rw (swap ∙ k, k) (others_stay key o xs)) (λ k. rw (swap ∙ k, k) (ap (λ l. x ∷ l) (others_stay key o xs)))
+
+-- objects that go one after another
+without_both : {E : Type 0} (key : E → Object) (os : List Object) (o : Object) (l : List E) → without key (o ∷ []) (without key os l) ≡ without key (os ++ o ∷ []) l
+without_both key os o [] = refl
+without_both key os o (x ∷ xs) =
+    let parts : listed (os ++ o ∷ []) (key x) ≡ (listed os (key x) || listed (o ∷ []) (key x)) = listed_more os o (key x) in
+    by_cases (listed os (key x))
+    (λ k. let all : listed (os ++ o ∷ []) (key x) ≡ true = parts ∙ ap (λ b. b || listed (o ∷ []) (key x)) k in rw (k, all) (without_both key os o xs))
     (λ k.
-    let h' = rw k at h in
-    let a = and_parts (p x) (list_all p (with_one key e xs)) h' in
-    rw a.0 (all_but key p e xs a.1))
+    let all : listed (os ++ o ∷ []) (key x) ≡ listed (o ∷ []) (key x) = parts ∙ ap (λ b. b || listed (o ∷ []) (key x)) k in
+    by_cases (listed (o ∷ []) (key x))
+    (λ j. let all' : listed (os ++ o ∷ []) (key x) ≡ true = all ∙ j in rw (k, j, all') (without_both key os o xs))
+    (λ j. let all' : listed (os ++ o ∷ []) (key x) ≡ false = all ∙ j in rw (k, j, all') (ap (λ l. x ∷ l) (without_both key os o xs))))
+  where
+    or_parts : (p q r : Bool) → (p || (q || r)) ≡ ((p || q) || r)
+    or_parts true q r = refl
+    or_parts false q r = refl
 
-pub in_order_but : {E : Type 0} (key : E → Object) (e : E) (l : List E) → in_order key (with_one key e l) ≡ true → in_order key l ≡ true
-in_order_but key e [] h = refl
-in_order_but key e (x ∷ xs) h =
-    by_cases (is_lt (object_cmp (key e) (key x)))
-    (λ k. let h' = rw k at h in (and_parts (list_all (λ y. is_lt (object_cmp (key e) (key y))) (x ∷ xs)) (in_order key (x ∷ xs)) h').1)
-    (λ k.
-    let h' = rw k at h in
-    let a = and_parts (list_all (λ y. is_lt (object_cmp (key x) (key y))) (with_one key e xs)) (in_order key (with_one key e xs)) h' in
-    rw (all_but key (λ y. is_lt (object_cmp (key x) (key y))) e xs a.0) (in_order_but key e xs a.1))
+    listed_more : (os : List Object) (o x : Object) → listed (os ++ o ∷ []) x ≡ (listed os x || listed (o ∷ []) x)
+    listed_more [] o x = refl
+    listed_more (y ∷ ys) o x = ap (λ b. object_eq y x || b) (listed_more ys o x) ∙ or_parts (object_eq y x) (listed ys x) (listed (o ∷ []) x)
 
--- the latest goes into the tree
-pub latest_put : (cmp : Object → Object → Ordering) → IsObjectOrder cmp → (es ns : List (Object × Holding)) (latest : Option InEntry) (e : InEntry) (o : Object) (s : Holding) → latest ≡ Some e → e ≡ entry_of (o, s) → in_order in_key (with_latest latest (map entry_of es)) ≡ true → ns ≡ insert_entry cmp es o s → map entry_of ns ≡ with_latest latest (map entry_of es)
-latest_put cmp law es ns latest e o s is same ordered put =
-    let is' : latest ≡ Some (entry_of (o, s)) = is ∙ ap (λ x. Some x) same in
-    let ordered' = rw is' at ordered in
-    ap (map entry_of) put ∙ put_in cmp law es o s (apart in_key (entry_of (o, s)) (map entry_of es) ordered') ∙ ap (λ x. with_latest x (map entry_of es)) (sym is')
+slots_more : (ns : List ℕ) (n : ℕ) → slots (ns ++ n ∷ []) ≡ slots ns ++ Slot n ∷ []
+slots_more [] n = refl
+slots_more (m ∷ ms) n = ap (λ l. Slot m ∷ l) (slots_more ms n)
+
+-- one slot more out of the tree
+pub one_out : {E R : Type 0} (key : E → Object) (joined : Object → R → E) (join : IsJoin key joined) (cmp : Object → Object → Ordering) → IsObjectOrder cmp → (start es ns : List (Object × R)) (numbers : List ℕ) (i d : ℕ) → in_order key (joins joined start) ≡ true → i < length numbers → joins joined es ≡ without key (slots (take i numbers)) (joins joined start) → ns ≡ remove_entry (is_at (cmp (Slot (get_or numbers i d)))) es → joins joined ns ≡ without key (slots (take (i + 1) numbers)) (joins joined start)
+one_out key joined join cmp law start es ns numbers i d ordered lt before out =
+    let n = get_or numbers i d in
+    let now : in_order key (joins joined es) ≡ true = ap (in_order key) before ∙ in_order_kept key (λ e. not (listed (slots (take i numbers)) (key e))) (joins joined start) ordered in
+    let more : slots (take (i + 1) numbers) ≡ slots (take i numbers) ++ Slot n ∷ [] = ap slots (take_more numbers i d lt) ∙ slots_more (take i numbers) n in
+    ap (joins joined) out
+    ∙ out_of_tree key joined join cmp law es (Slot n) now
+    ∙ ap (without key (Slot n ∷ [])) before
+    ∙ without_both key (slots (take i numbers)) (Slot n) (joins joined start)
+    ∙ ap (λ os. without key os (joins joined start)) (sym more)
+
+-- what leaves the tree and the latest leaves the list
+pub out_of_both : {E : Type 0} (key : E → Object) (os : List Object) (l l' latest latest' : List E) → in_order key (with_all key latest l) ≡ true → l' ≡ without key os l → latest' ≡ without key os latest → with_all key latest' l' ≡ without key os (with_all key latest l)
+out_of_both key os l l' latest latest' ordered a b = (λ i. with_all key (b i) (a i)) ∙ kept_with_all key (λ e. not (listed os (key e))) latest l ordered

@@ -1,8 +1,9 @@
 pub mod Fronts
-pub mod Latest
+pub mod Joined
 pub mod Lists
 pub mod OwnList
 pub mod OwnTree
 pub mod Records
+pub mod SlotHeads
 pub mod Snapping
 pub mod View

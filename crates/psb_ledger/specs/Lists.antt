@@ -1,43 +1,49 @@
 -- What a peer's list of entries holds, in the forms in which it is kept.
-use Rattle.std.specs.Prelude.{ℕ, ◌-◌, Bool, true, false, List, map, Option, Some, None, vec_len, vec_capacity}
+use Rattle.std.specs.Prelude.{ℕ, ◌-◌, Bool, true, false, List, map, find, Option, vec_len, vec_capacity}
 use Rattle.psb_bytes.specs.declared.ids.Object.{Object}
 use Rattle.psb_model.specs.declared.entries.InEntry.{InEntry}
-use Rattle.psb_model.specs.Words.{with_one}
-use Rattle.psb_model.specs.State.{in_key}
-use Rattle.psb_ledger.specs.declared.in_tree.Holding.{Holding}
-use Rattle.psb_ledger.specs.declared.in_tree.InTree.{InTree}
-use Rattle.psb_ledger.specs.declared.in_list.InList.{InList}
-use Rattle.psb_ledger.specs.declared.in_list.InList.TheVariants.{Block, Tree}
+use Rattle.psb_model.specs.declared.entries.InState.{InState}
+use Rattle.psb_model.specs.declared.entries.OutEntry.{OutEntry}
+use Rattle.psb_model.specs.declared.entries.OutState.{OutState}
+use Rattle.psb_model.specs.Words.{object_eq, with_all}
+use Rattle.psb_model.specs.State.{in_key, out_key}
+use Rattle.psb_ledger.specs.Joined.{in_joined, out_joined}
+use Rattle.psb_ledger.specs.declared.entry.Holding.{Holding}
+use Rattle.psb_ledger.specs.declared.entry_tree.EntryTree.{EntryTree}
+use Rattle.psb_ledger.specs.declared.entry_list.EntryList.{EntryList}
+use Rattle.psb_ledger.specs.declared.entry_list.EntryList.TheVariants.{Block, Tree}
 
--- the entry that stands at an object
-abbrev pub entry_of : Object × Holding → InEntry
-entry_of x = record { object = x.0; units = x.1.units; state = x.1.state }
+-- the entry at an object
+abbrev pub find_at : {E : Type 0} → (E → Object) → List E → Object → Option E
+find_at key l o = find (λ e. object_eq (key e) o) l
 
--- the entries, with one more if there is one
-abbrev pub with_latest : Option InEntry → List InEntry → List InEntry
-with_latest None entries = entries
-with_latest (Some e) entries = with_one in_key e entries
+-- the entries of a tree, by their objects and the rest, with the latest
+abbrev pub items_of : {E R : Type 0} → (E → Object) → (Object → R → E) → List (Object × R) → List E → List E
+items_of {R = R} key joined es latest = with_all key latest (map (λ (x : Object × R). joined x.0 x.1) es)
 
 -- what a tree holds, in object order, and how many more entries it has room for
-abbrev pub tree_items : InTree → List InEntry
-tree_items t = with_latest t.latest (map entry_of t.tree.entries)
+abbrev pub tree_items : {E R : Type 0} → (E → Object) → (Object → R → E) → EntryTree E R → List E
+tree_items key joined t = items_of key joined t.tree.entries t.latest.items
 
-abbrev pub room_beside : Option InEntry → ℕ
-room_beside None = 1
-room_beside (Some e) = 0
-
-abbrev pub tree_room : InTree → ℕ
-tree_room t = room_beside t.latest
+abbrev pub tree_room : {E R : Type 0} → EntryTree E R → ℕ
+tree_room t = vec_capacity t.latest - vec_len t.latest
 
 -- what a list holds, in object order; how many more entries it has room for; and whether it is one block
-abbrev pub in_items : InList → List InEntry
-in_items (Block entries) = entries.items
-in_items (Tree tree) = tree_items tree
+abbrev pub items : {E R : Type 0} → (E → Object) → (Object → R → E) → EntryList E R → List E
+items key joined (Block block) = block.items
+items key joined (Tree tree) = tree_items key joined tree
 
-abbrev pub in_room : InList → ℕ
-in_room (Block entries) = vec_capacity entries - vec_len entries
-in_room (Tree tree) = tree_room tree
+abbrev pub room : {E R : Type 0} → EntryList E R → ℕ
+room (Block block) = vec_capacity block - vec_len block
+room (Tree tree) = tree_room tree
 
-abbrev pub is_block : InList → Bool
-is_block (Block entries) = true
+abbrev pub is_block : {E R : Type 0} → EntryList E R → Bool
+is_block (Block block) = true
 is_block (Tree tree) = false
+
+-- the two lists of a peer
+abbrev pub in_items : EntryList InEntry (Holding InState) → List InEntry
+in_items = items in_key in_joined
+
+abbrev pub out_items : EntryList OutEntry (Holding OutState) → List OutEntry
+out_items = items out_key out_joined

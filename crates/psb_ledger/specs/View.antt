@@ -1,10 +1,10 @@
 -- What contracts see of a ledger: the state, and the memory that was taken for a change.
-use Rattle.std.specs.Prelude.{◌≡◌, ℕ, ◌+◌, ◌==◌, if◌then◌else◌, ◌^◌, ◌<◌, ◌≤◌, Bool, true, ◌&&◌, List, [], ◌∷◌, map, sum_by, Option, Some, None}
+use Rattle.std.specs.Prelude.{◌≡◌, ℕ, ◌+◌, ◌==◌, if◌then◌else◌, ◌^◌, ◌<◌, ◌≤◌, Bool, true, not, ◌&&◌, List, [], ◌∷◌, length, map, sum_by, Option, Some, None}
 use Rattle.std.specs.List.{list_all}
 use Rattle.std.specs.Ordering.{is_lt}
 use Rattle.psb_bytes.specs.Objects.{object_cmp}
 use Rattle.psb_bytes.specs.declared.ids.Object.{Object}
-use Rattle.psb_bytes.specs.declared.ids.Object.TheVariants.{Chunk, Slot}
+use Rattle.psb_bytes.specs.declared.ids.Object.TheVariants.{Chunk}
 use Rattle.psb_settings.specs.declared.settings.Settings.{Settings}
 use Rattle.psb_model.specs.declared.entries.InEntry.{InEntry}
 use Rattle.psb_model.specs.declared.entries.OutEntry.{OutEntry}
@@ -14,15 +14,15 @@ use Rattle.psb_model.specs.declared.entries.Snapshot.{Snapshot}
 use Rattle.psb_model.specs.declared.entries.SnapMark.{SnapMark}
 use Rattle.psb_model.specs.declared.deals.LastDeal.{LastDeal}
 use Rattle.psb_model.specs.declared.change.Change.{Change}
-use Rattle.psb_model.specs.declared.change.Change.TheVariants.{Begun, Kept, Snapped, TookFresh}
-use Rattle.psb_model.specs.Words.{units, occurs, with_one, with_all}
-use Rattle.psb_model.specs.State.{Row, State, blank, is_peer, used, in_key, in_size, out_key, out_size, debt_size}
-use Rattle.psb_model.specs.Conditions.{settings_of_body, capacity, names_ascend}
-use Rattle.psb_model.specs.Effects.{chunk_in, own_slots, took_deal, first_rows}
+use Rattle.psb_model.specs.declared.change.Change.TheVariants.{Begun, Kept, Snapped, TookFresh, TookSwap, LetGoBack}
+use Rattle.psb_model.specs.Words.{units, slots, has, has_so, units_at, with_one, with_all, without}
+use Rattle.psb_model.specs.State.{Row, State, blank, is_peer, used, in_key, in_size, out_key, out_size, debt_size, debt_units}
+use Rattle.psb_model.specs.Conditions.{settings_of_body, capacity, names_ascend, each_slot, carries_none}
+use Rattle.psb_model.specs.Effects.{chunk_in, own_slots, direct_slots, took_deal, first_rows}
 use Rattle.psb_model.specs.History.{is_lawful, is_built, state}
 
--- a peer's row, how many more entries its two lists have room for, and whether what the node answers for
--- is one block (else it is a tree)
+-- a peer's row, how many more entries its two lists of entries have room for, and whether each of them is
+-- one block (else a tree)
 pub record AccountView : Type 0 where
   pub id : ℕ
   pub row : Row
@@ -69,9 +69,48 @@ row_of (Some v) = v.row
 abbrev pub fresh_row : List ℕ → ℕ → ℕ → ℕ → ℕ → Row → Row
 fresh_row name u first deal change r = took_deal deal change (record r { ins = with_one in_key (chunk_in name u) r.ins; outs = with_all out_key (own_slots first u) r.outs })
 
--- none of the u slots from first on is there
-abbrev pub LacksSlots : ℕ → ℕ → List OutEntry → Type 0
-LacksSlots first u outs = (n : ℕ) → first ≤ n → n < first + u → occurs out_key outs (Slot n) ≡ 0
+-- a row after a chunk was taken in the place of slots
+abbrev pub swap_row : List ℕ → ℕ → List ℕ → ℕ → ℕ → Row → Row
+swap_row name u numbers deal change r = took_deal deal change (record r { ins = with_one in_key (chunk_in name u) (without in_key (slots numbers) r.ins) })
+
+-- a row after a chunk was let go against slots, or was put back into slots
+abbrev pub let_go_row : List ℕ → List ℕ → ℕ → ℕ → Row → Row
+let_go_row name numbers deal change r = took_deal deal change (record r { ins = without in_key (Chunk name ∷ []) r.ins; outs = without out_key (slots numbers) r.outs })
+
+abbrev pub put_back_row : List ℕ → List ℕ → ℕ → ℕ → Row → Row
+put_back_row name numbers deal change r = took_deal deal change (record r { ins = with_all in_key (direct_slots numbers) (without in_key (Chunk name ∷ []) r.ins) })
+
+-- what a swap asks of its peer's row, and of this: whether a body is held under the name, and the units of
+-- the chunk; and what the two ways to let go ask of the row. Nothing is tied yet.
+abbrev pub swap_tests : Row → ℕ → List ℕ → List ℕ → Bool → Bool → ℕ → List Bool
+swap_tests r deal name numbers new held u =
+    ((deal == r.last.number + 1)
+    ∷ not (has in_key r.ins (Chunk name))
+    ∷ (if held then not new else new)
+    ∷ each_slot (has in_key r.ins) numbers
+    ∷ (length numbers == u)
+    ∷ (debt_units r == 0)
+    ∷ [])
+
+abbrev pub let_go_tests : Row → ℕ → List ℕ → List ℕ → List Bool
+let_go_tests r deal name numbers =
+    ((deal == r.last.number + 1)
+    ∷ has in_key r.ins (Chunk name)
+    ∷ each_slot (has_so out_key carries_none r.outs) numbers
+    ∷ (length numbers == units_at in_key in_size r.ins (Chunk name))
+    ∷ [])
+
+abbrev pub put_back_tests : Row → ℕ → List ℕ → List ℕ → List Bool
+put_back_tests r deal name numbers =
+    ((deal == r.last.number + 1)
+    ∷ has in_key r.ins (Chunk name)
+    ∷ each_slot (λ o. not (has in_key r.ins o)) numbers
+    ∷ (length numbers == units_at in_key in_size r.ins (Chunk name))
+    ∷ [])
+
+-- none of the entries is there
+abbrev pub lacks_all : {E : Type 0} → (E → Object) → List E → List E → Bool
+lacks_all key new l = list_all (λ e. not (has key l (key e))) new
 
 -- the object of an own chunk, which has the order of its name
 abbrev pub own_key : OwnEntry → Object
@@ -89,10 +128,10 @@ abbrev pub account_in : List AccountView → ℕ → AccountView
 account_in [] p = record { id = p; row = blank; in_room = 0; out_room = 0; in_block = true }
 account_in (v ∷ vs) p = if v.id == p then v else account_in vs p
 
--- room for one chunk and u slots, if p is a peer
-pub record HasFreshRoom (v : LedgerView) (p u : ℕ) : Type 0 where
-  pub ins : is_peer v.state p ≡ true → 1 ≤ (account_in v.accounts p).in_room
-  pub outs : is_peer v.state p ≡ true → u ≤ (account_in v.accounts p).out_room
+-- room for so many entries in the two lists, if p is a peer
+pub record HasListRoom (v : LedgerView) (p ins outs : ℕ) : Type 0 where
+  pub in_room : is_peer v.state p ≡ true → ins ≤ (account_in v.accounts p).in_room
+  pub out_room : is_peer v.state p ≡ true → outs ≤ (account_in v.accounts p).out_room
 
 -- the settings of the text, if it has some, and an empty account for each peer
 pub record HasBegunRoom (v : LedgerView) (body : Option (List ℕ)) : Type 0 where
@@ -103,18 +142,21 @@ abbrev pub HasRoom : LedgerView → Change → Type 0
 HasRoom v (Begun body) = HasBegunRoom v body
 HasRoom v (Kept name len new body) = 1 ≤ v.own_room
 HasRoom v (Snapped number ticket files folders bytes left names) = 1 ≤ v.kept_room
-HasRoom v (TookFresh p deal name first len new body) = HasFreshRoom v p (units len)
+HasRoom v (TookFresh p deal name first len new body) = HasListRoom v p 1 (units len)
+HasRoom v (TookSwap p deal name numbers len new body) = HasListRoom v p 1 0
+HasRoom v (LetGoBack p deal name numbers body) = HasListRoom v p (length numbers) 0
 HasRoom v _ = Unit {0}
 
 -- WHAT EACH ACCOUNT, AND EACH LEDGER, KEEPS
 
--- the running sums are those of the lists, and both lists of entries are in object order
-pub record IsAccount (held back debt : ℕ) (ins : List InEntry) (outs : List OutEntry) (debts : List DebtEntry) : Type 0 where
+-- the running sums are those of the lists, and both lists of entries are in object order and in one form
+pub record IsAccount (held back debt : ℕ) (ins : List InEntry) (outs : List OutEntry) (debts : List DebtEntry) (in_block out_block : Bool) : Type 0 where
   pub held_is : held ≡ sum_by in_size ins
   pub back_is : back ≡ sum_by out_size outs
   pub debt_is : debt ≡ sum_by debt_size debts
   pub ins_ordered : in_order in_key ins ≡ true
   pub outs_ordered : in_order out_key outs ≡ true
+  pub one_form : out_block ≡ in_block
 
 -- each account keeps a block, or each a tree
 abbrev pub AreInForm : Bool → List AccountView → Type 0

@@ -1,29 +1,28 @@
 //! What the ledger keeps of one peer, with its running sums.
 
-ghost use Rattle.std.specs.Prelude.{◌≡◌, ◌+◌, ◌-◌, ◌<◌, ◌≤◌, ◌^◌, true, false, OnOk, IfOk, vec_len, vec_capacity};
-ghost use Rattle.psb_bytes.specs.declared.ids.Object.TheVariants.{Chunk};
-ghost use Rattle.psb_model.specs.Words.{has, units};
-ghost use Rattle.psb_model.specs.State.{blank, in_key, held_units, back_units, debt_units};
-ghost use Rattle.psb_model.specs.Effects.{took_deal};
-ghost use Rattle.psb_ledger.specs.Lists.{in_items, in_room, is_block};
-ghost use Rattle.psb_ledger.specs.View.{AccountView, plain_row, fresh_row, LacksSlots, IsAccount};
+ghost use Rattle.std.specs.Prelude.{◌≡◌, ◌≤◌, not, true, OnOk, IfOk};
+ghost use Rattle.psb_bytes.specs.declared.ids.Object.TheVariants.{Slot};
+ghost use Rattle.psb_model.specs.Words.{has, has_so, units_at};
+ghost use Rattle.psb_model.specs.State.{blank, in_key, in_size, out_key, held_units, back_units, debt_units};
+ghost use Rattle.psb_model.specs.Conditions.{carries_none, each_slot, is_direct};
+ghost use Rattle.psb_ledger.specs.Lists.{in_items, out_items, room, is_block};
+ghost use Rattle.psb_ledger.specs.View.{AccountView, plain_row, IsAccount};
 
-use crate::codec::FreshFields;
-use crate::entries::insert_own_slots;
-use crate::in_list::InList;
+mod moves;
+
+use crate::entry_list::{EntryList, InList, OutList};
 use psb_bytes::{Memory, Object, PeerId};
-use psb_model::{DebtEntry, InEntry, InState, LastDeal, OutEntry};
+use psb_model::{DebtEntry, InEntry, InState, LastDeal, OutEntry, OutState};
 use std::alloc::Global;
 use std::marker::Model;
 
 /// What the node answers for to a peer, what it has there, and what the peer lost, in object order
-/// and the debt in order of booking. What it has there is one block always: new slots have the
-/// highest numbers and go in at its end, which moves nothing.
+/// and the debt in order of booking.
 #[derive(Drop)]
 pub struct Account {
     id: PeerId,
     ins: InList,
-    outs: Vec<OutEntry>,
+    outs: OutList,
     debts: Vec<DebtEntry>,
     last: LastDeal,
     held: u32,
@@ -34,14 +33,27 @@ pub struct Account {
 impl Model for Account {
     ghost Value = { AccountView };
 
-    ghost view = { λ a. record { id = a.id; row = plain_row (in_items a.ins) a.outs.items a.debts.items a.last; in_room = in_room a.ins; out_room = vec_capacity a.outs - vec_len a.outs; in_block = is_block a.ins } };
+    ghost view = { λ a. record { id = a.id; row = plain_row (in_items a.ins) (out_items a.outs) a.debts.items a.last; in_room = room a.ins; out_room = room a.outs; in_block = is_block a.ins } };
 
-    ghost invariant = { λ a. IsAccount a.held a.back a.debt (in_items a.ins) a.outs.items a.debts.items };
+    ghost invariant = { λ a. IsAccount a.held a.back a.debt (in_items a.ins) (out_items a.outs) a.debts.items (is_block a.ins) (is_block a.outs) };
+}
+
+/// Whether the entry is of a claim whose bytes are here.
+fn is_here(entry: &InEntry) -> bool
+    ensures { result ≡ is_direct entry.now }
+{
+    matches!(entry.state, InState::Direct)
+}
+
+/// Whether the entry carries no forwarded claim.
+fn is_free(entry: &OutEntry) -> bool
+    ensures { result ≡ carries_none entry.now }
+{
+    !matches!(entry.state, OutState::Carries(_))
 }
 
 impl Account {
-    /// An account with empty lists, whose entries come into one block or into a tree. Takes no
-    /// memory.
+    /// An account with empty lists, whose entries come into blocks or into trees. Takes no memory.
     pub fn new(alloc: Global, id: PeerId, in_block: bool) -> Account
         ensures id { result.id ≡ id }
         ensures row { result.row ≡ blank }
@@ -49,8 +61,8 @@ impl Account {
     {
         Account {
             id,
-            ins: InList::new(alloc, in_block),
-            outs: Vec::new(alloc),
+            ins: EntryList::new(alloc, in_block),
+            outs: EntryList::new(alloc, in_block),
             debts: Vec::new(alloc),
             last: LastDeal {
                 number: 0,
@@ -100,6 +112,7 @@ impl Account {
     }
 
     pub fn outs(&self) -> &[OutEntry]
+        requires { self.now.in_block ≡ true }
         ensures { result.now ≡ self.now.row.outs }
     {
         self.outs.as_slice()
@@ -116,63 +129,95 @@ impl Account {
         ensures { result ≡ has in_key self.now.row.ins object.now }
     {
         let _held = self.held;
-        self.ins.has(object)
+        self.ins.get(object).is_some()
     }
 
-    /// Makes room for one entry of a chunk, and for its units in own slots.
-    pub fn reserve(&mut self, units: u32) -> Result<(), Memory>
+    /// Whether the node answers for each of these slots to the peer.
+    pub fn has_slots(&self, slots: &[u32]) -> bool
+        ensures { result ≡ each_slot (has in_key self.now.row.ins) slots.now }
+    {
+        slots.iter().all(|n| self.has(&Object::Slot(*n)))
+    }
+
+    /// Whether the node answers for none of these slots to the peer.
+    pub fn lacks_slots(&self, slots: &[u32]) -> bool
+        ensures { result ≡ each_slot (λ o. not (has in_key self.now.row.ins o)) slots.now }
+    {
+        slots.iter().all(|n| !self.has(&Object::Slot(*n)))
+    }
+
+    /// The units of the object in what the node answers for to the peer.
+    pub fn units_held(&self, object: &Object) -> u32
+        ensures { result ≡ units_at in_key in_size self.now.row.ins object.now }
+    {
+        let _held = self.held;
+        match self.ins.get(object) {
+            None => 0,
+            Some(entry) => entry.units,
+        }
+    }
+
+    /// Whether the node answers to the peer for a claim in this slot whose bytes are here.
+    pub fn is_direct(&self, slot: u32) -> bool
+        ensures { result ≡ has_so in_key is_direct self.now.row.ins (Slot slot) }
+    {
+        let _held = self.held;
+        match self.ins.get(&Object::Slot(slot)) {
+            None => false,
+            Some(entry) => is_here(&entry),
+        }
+    }
+
+    /// Whether the node has the object on the peer.
+    pub fn has_out(&self, object: &Object) -> bool
+        ensures { result ≡ has out_key self.now.row.outs object.now }
+    {
+        let _back = self.back;
+        self.outs.get(object).is_some()
+    }
+
+    /// Whether the object on the peer carries a forwarded claim.
+    pub fn carries(&self, object: &Object) -> bool
+        ensures { result ≡ has_so out_key (λ e. not (carries_none e)) self.now.row.outs object.now }
+    {
+        let _back = self.back;
+        match self.outs.get(object) {
+            None => false,
+            Some(entry) => !is_free(&entry),
+        }
+    }
+
+    /// Whether the node has the object on the peer, and it carries no forwarded claim.
+    pub fn has_free(&self, object: &Object) -> bool
+        ensures { result ≡ has_so out_key carries_none self.now.row.outs object.now }
+    {
+        let _back = self.back;
+        match self.outs.get(object) {
+            None => false,
+            Some(entry) => is_free(&entry),
+        }
+    }
+
+    /// Whether that holds of each of these slots.
+    pub fn are_free(&self, slots: &[u32]) -> bool
+        ensures { result ≡ each_slot (has_so out_key carries_none self.now.row.outs) slots.now }
+    {
+        slots.iter().all(|n| self.has_free(&Object::Slot(*n)))
+    }
+
+    /// Makes room for so many entries in the two lists.
+    pub fn reserve(&mut self, ins: usize, outs: usize) -> Result<(), Memory>
         ensures id { self.new.id ≡ self.old.id }
         ensures row { self.new.row ≡ self.old.row }
         ensures form { self.new.in_block ≡ self.old.in_block }
-        ensures in_room { OnOk result (1 ≤ self.new.in_room) }
-        ensures out_room { OnOk result (units ≤ self.new.out_room) }
+        ensures in_room { OnOk result (ins ≤ self.new.in_room) }
+        ensures out_room { OnOk result (outs ≤ self.new.out_room) }
     {
-        self.ins.reserve()?;
-        self.outs.try_reserve(units as usize)?;
-        Ok(())
+        self.ins.reserve(ins)?;
+        self.outs.reserve(outs)
     }
 
-    /// Notes a deal that was taken or refused, with the number of its change.
-    pub fn note(&mut self, deal: u64, change: u64)
-        ensures id { self.new.id ≡ self.old.id }
-        ensures row { self.new.row ≡ took_deal deal change self.old.row }
-        ensures form { self.new.in_block ≡ self.old.in_block }
-    {
-        self.last = LastDeal {
-            number: deal,
-            change,
-        };
-    }
-
-    /// Takes a chunk of `u` units against as many new slots.
-    pub fn take_fresh(&mut self, x: &FreshFields, u: u32, change: u64)
-        requires in_room { 1 ≤ self.old.in_room }
-        requires out_room { u ≤ self.old.out_room }
-        requires slots { x.now.first + u < 2 ^ 32 }
-        requires held { held_units self.old.row + u < 2 ^ 32 }
-        requires back { back_units self.old.row + u < 2 ^ 32 }
-        requires absent { has in_key self.old.row.ins (Chunk x.now.name) ≡ false }
-        requires absent_slots { LacksSlots x.now.first u self.old.row.outs }
-        ensures id { self.new.id ≡ self.old.id }
-        ensures row { self.new.row ≡ fresh_row x.now.name u x.now.first x.now.deal change self.old.row }
-        ensures form { self.new.in_block ≡ self.old.in_block }
-    {
-        let chunk = InEntry {
-            object: Object::Chunk(x.name),
-            units: u,
-            state: InState::Body,
-        };
-        self.ins.insert(chunk);
-        insert_own_slots(&mut self.outs, x.first, u);
-        self.held += u;
-        self.back += u;
-        self.last = LastDeal {
-            number: x.deal,
-            change,
-        };
-    }
-
-    /// The same account with its entries in one block.
+    /// The same account with its entries in blocks.
     pub fn into_block(self) -> Result<Account, Memory>
         ensures id { IfOk result (λ a. a.id ≡ self.id) }
         ensures row { IfOk result (λ a. a.row ≡ self.row) }
@@ -181,7 +226,7 @@ impl Account {
         Ok(Account {
             id: self.id,
             ins: self.ins.into_block()?,
-            outs: self.outs,
+            outs: self.outs.into_block()?,
             debts: self.debts,
             last: self.last,
             held: self.held,

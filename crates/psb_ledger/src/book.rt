@@ -1,28 +1,28 @@
 //! The book of a ledger: the state that a history gives, kept with running sums, and its changes.
 
-ghost use Rattle.std.specs.Prelude.{◌≡◌, ◌==◌, ◌+◌, ◌<◌, ◌^◌, ◌&&◌, ◌↔◌, true, IsTrue, OnOk, OnErr, IsOk, IfOk, IfSome};
-ghost use Rattle.std.specs.List.{list_any};
-ghost use Rattle.std.specs.Option.{option_copied, option_map};
-ghost use Rattle.psb_model.specs.State.{row, used, own_has, is_held, held_units, back_units, debt_units, nothing_yet};
+ghost use Rattle.std.specs.Prelude.{◌≡◌, ◌<◌, ◌^◌, ◌&&◌, ◌↔◌, true, IsTrue, OnOk, OnErr, IsOk, IfOk};
+ghost use Rattle.psb_model.specs.State.{nothing_yet};
 ghost use Rattle.psb_model.specs.Grammar.{in_grammar};
 ghost use Rattle.psb_model.specs.Conditions.{allowed};
 ghost use Rattle.psb_model.specs.Effects.{after};
 ghost use Rattle.psb_model.specs.History.{is_built};
-ghost use Rattle.psb_ledger.specs.View.{row_of, HasRoom};
-ghost use Rattle.psb_ledger.specs.OwnList.{known_len, next_own};
+ghost use Rattle.psb_ledger.specs.View.{HasRoom};
 
 mod accounts;
 mod begin;
+mod deals;
 mod keeping;
+mod letting_go;
+mod looking;
+mod swapping;
 mod taking;
 
 use crate::account::Account;
-use crate::codec::{FreshFields, KeptFields, RefusedFields};
+use crate::codec::{CancelFields, FreshFields, KeptFields, RefusedFields, SwapFields};
 use crate::own::Own;
-use crate::snapshots::has_number;
-use accounts::{account_of, accounts_in_blocks, holds};
-use psb_bytes::{Digest, Memory, PeerId};
-use psb_model::{Change, OwnEntry, SnapMark, Snapshot};
+use accounts::accounts_in_blocks;
+use psb_bytes::{Memory, units_of};
+use psb_model::{Change, SnapMark, Snapshot};
 use psb_settings::Settings;
 use std::alloc::Global;
 use std::marker::Model;
@@ -94,113 +94,6 @@ impl Book {
         }
     }
 
-    /// How many changes were applied.
-    pub fn changes(&self) -> u64
-        ensures { result ≡ self.now.state.changes }
-    {
-        self.changes
-    }
-
-    /// The present settings, None exactly for the empty history.
-    pub fn settings(&self) -> Option<&Settings>
-        ensures { option_copied result ≡ self.now.state.settings }
-    {
-        self.settings.as_ref()
-    }
-
-    /// How many claim numbers were drawn.
-    pub fn issued(&self) -> u32
-        ensures { result ≡ self.now.state.issued }
-    {
-        self.issued
-    }
-
-    /// What the node answers for to all peers, in units of 512 bytes.
-    pub fn used(&self) -> u32
-        ensures { result ≡ used self.now.state }
-    {
-        self.used
-    }
-
-    /// The account of a peer.
-    pub fn account(&self, peer: PeerId) -> Option<&Account>
-        ensures row { row_of (option_copied result) ≡ row self.now.state peer }
-        ensures form { IfSome (option_copied result) (λ v. v.in_block ≡ self.now.in_blocks) }
-    {
-        account_of(self.accounts.as_slice(), peer)
-    }
-
-    /// The three numbers of a peer.
-    pub fn balance(&self, peer: PeerId) -> Balance
-        ensures held { result.held ≡ held_units (row self.now.state peer) }
-        ensures back { result.back ≡ back_units (row self.now.state peer) }
-        ensures debt { result.debt ≡ debt_units (row self.now.state peer) }
-        ensures law { result.held ≡ result.back + result.debt }
-    {
-        let _changes = self.changes;
-        match self.account(peer) {
-            None => Balance {
-                held: 0,
-                back: 0,
-                debt: 0,
-            },
-            Some(account) => Balance {
-                held: account.held(),
-                back: account.back(),
-                debt: account.debt(),
-            },
-        }
-    }
-
-    /// Whether a body is held under the name.
-    pub fn is_held(&self, name: &Digest) -> bool
-        ensures { result ≡ is_held self.now.state name.now }
-    {
-        self.own.has(name) || holds(self.accounts.as_slice(), name)
-    }
-
-    /// Whether the name is that of an own chunk.
-    pub fn has_own(&self, name: &Digest) -> bool
-        ensures { result ≡ own_has self.now.state.own name.now }
-    {
-        self.own.has(name)
-    }
-
-    /// The length of the own chunk of this name.
-    pub fn own_len(&self, name: &Digest) -> Option<u32>
-        ensures { result ≡ known_len self.now.state.own name.now }
-    {
-        self.own.len_of(name)
-    }
-
-    /// The first own chunk, or the first behind the name.
-    pub fn own_after(&self, name: Option<&Digest>) -> Option<OwnEntry>
-        ensures { result ≡ next_own (option_map (λ n. n.now) name.entry) self.now.state.own }
-    {
-        self.own.next_after(name)
-    }
-
-    /// The kept snapshots, by number.
-    pub fn kept(&self) -> &[Snapshot]
-        ensures { result.now ≡ self.now.state.kept }
-    {
-        self.kept.as_slice()
-    }
-
-    /// Whether a kept snapshot has the number.
-    pub fn has_snapshot(&self, number: u32) -> bool
-        ensures { result ≡ list_any (λ k. k.number == number) self.now.state.kept }
-    {
-        has_number(&self.kept, number)
-    }
-
-    /// The latest snapshot that was made.
-    pub fn snapped(&self) -> Option<SnapMark>
-        ensures { result ≡ self.now.state.snapped }
-    {
-        self.snapped
-    }
-
     /// Takes all memory that `apply` of an equal change needs. For a Begun it reads the settings
     /// text, and keeps what it says, or that it is none.
     pub fn make_room(&mut self, c: &Change) -> Result<(), Memory>
@@ -212,7 +105,13 @@ impl Book {
             Change::Begun { body } => self.make_room_to_begin(body),
             Change::Kept { .. } => self.own.reserve(),
             Change::Snapped { .. } => self.make_room_to_snap(),
-            Change::TookFresh { peer, len, .. } => self.make_room_for(*peer, *len),
+            Change::TookFresh { peer, len, .. } => {
+                self.make_room_for(*peer, 1, units_of(*len) as usize)
+            }
+            Change::TookSwap { peer, .. } => self.make_room_for(*peer, 1, 0),
+            Change::LetGoBack { peer, slots, .. } => {
+                self.make_room_for(*peer, slots.as_slice().len(), 0)
+            }
             _ => Ok(()),
         }
     }
@@ -265,6 +164,37 @@ impl Book {
                 len,
                 new,
             }),
+            Change::TookSwap {
+                peer,
+                deal,
+                name,
+                slots,
+                len,
+                new,
+                ..
+            } => self.take_swap(
+                SwapFields {
+                    peer,
+                    deal,
+                    name,
+                    len,
+                    new,
+                },
+                slots.as_slice(),
+            ),
+            Change::LetGo {
+                peer,
+                deal,
+                name,
+                slots,
+            } => self.let_go(CancelFields { peer, deal, name }, slots.as_slice()),
+            Change::LetGoBack {
+                peer,
+                deal,
+                name,
+                slots,
+                ..
+            } => self.put_back(CancelFields { peer, deal, name }, slots.as_slice()),
             Change::Refused {
                 peer,
                 deal,

@@ -1,12 +1,13 @@
 //! The ledger: the state that a history gives, and what it says of each peer.
 
-ghost use Rattle.std.specs.Prelude.{◌≡◌, ◌==◌, ◌+◌, ◌<◌, ◌^◌, ◌&&◌, ◌↔◌, IsTrue, OnOk, OnErr, IsOk, true};
+ghost use Rattle.std.specs.Prelude.{◌≡◌, ◌==◌, ◌+◌, ◌<◌, ◌^◌, ◌&&◌, ◌↔◌, not, IsTrue, OnOk, OnErr, IsOk, true};
 ghost use Rattle.std.specs.List.{list_any};
 ghost use Rattle.std.specs.Option.{option_copied, option_map};
-ghost use Rattle.psb_model.specs.Words.{has};
-ghost use Rattle.psb_model.specs.State.{row, used, own_has, is_held, in_key, held_units, back_units, debt_units, nothing_yet};
+ghost use Rattle.psb_bytes.specs.declared.ids.Object.TheVariants.{Slot};
+ghost use Rattle.psb_model.specs.Words.{has, has_so, units_at};
+ghost use Rattle.psb_model.specs.State.{row, used, own_has, is_held, in_key, in_size, out_key, held_units, back_units, debt_units, nothing_yet, tied_in, tied_out};
 ghost use Rattle.psb_model.specs.Grammar.{in_grammar};
-ghost use Rattle.psb_model.specs.Conditions.{allowed};
+ghost use Rattle.psb_model.specs.Conditions.{allowed, carries_none, is_direct};
 ghost use Rattle.psb_model.specs.Effects.{after};
 ghost use Rattle.psb_model.specs.History.{is_built};
 ghost use Rattle.psb_ledger.specs.View.{HasRoom};
@@ -154,6 +155,59 @@ impl Ledger {
             None => false,
             Some(account) => account.has(object),
         }
+    }
+
+    /// The units of the object in what the node answers for to the peer, 0 where it is not there.
+    pub fn units_held(&self, peer: PeerId, object: &Object) -> u32
+        ensures { result ≡ units_at in_key in_size (row self.now.state peer).ins object.now }
+    {
+        match self.book.account(peer) {
+            None => 0,
+            Some(account) => account.units_held(object),
+        }
+    }
+
+    /// Whether the node answers to the peer for a claim in this slot whose bytes are here.
+    pub fn is_direct(&self, peer: PeerId, slot: u32) -> bool
+        ensures { result ≡ has_so in_key is_direct (row self.now.state peer).ins (Slot slot) }
+    {
+        self.book.is_direct(peer, slot)
+    }
+
+    /// Whether the node has the object on the peer.
+    pub fn has_out(&self, peer: PeerId, object: &Object) -> bool
+        ensures { result ≡ has out_key (row self.now.state peer).outs object.now }
+    {
+        match self.book.account(peer) {
+            None => false,
+            Some(account) => account.has_out(object),
+        }
+    }
+
+    /// Whether the object on the peer carries a claim that was forwarded there.
+    pub fn carries(&self, peer: PeerId, object: &Object) -> bool
+        ensures { result ≡ has_so out_key (λ e. not (carries_none e)) (row self.now.state peer).outs object.now }
+    {
+        match self.book.account(peer) {
+            None => false,
+            Some(account) => account.carries(object),
+        }
+    }
+
+    /// Whether a pending deal of the node ties the object in what it answers for to the peer. No deal
+    /// of its own is built yet, so nothing is tied.
+    pub fn tied_in(&self, peer: PeerId, object: &Object) -> bool
+        ensures { result ≡ tied_in self.now.state peer object.now }
+    {
+        self.book.tied_in(peer, object)
+    }
+
+    /// Whether the pending deal with the peer ties the object there. No deal of the node's own is
+    /// built yet, so nothing is tied.
+    pub fn tied_out(&self, peer: PeerId, object: &Object) -> bool
+        ensures { result ≡ tied_out self.now.state peer object.now }
+    {
+        self.book.tied_out(peer, object)
     }
 
     /// Whether a body is held under the name.

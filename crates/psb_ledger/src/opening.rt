@@ -2,9 +2,11 @@
 
 ghost use Rattle.std.specs.Prelude.{◌≡◌, ◌<◌, ◌^◌, ◌&&◌, ◌↔◌, IsTrue, OnOk, OnErr, IsOk, IfOk, false};
 ghost use Rattle.std.specs.Option.{option_map};
-ghost use Rattle.psb_model.specs.State.{nothing_yet};
+ghost use Rattle.psb_bytes.specs.declared.ids.Object.TheVariants.{Slot};
+ghost use Rattle.psb_model.specs.Words.{has_so};
+ghost use Rattle.psb_model.specs.State.{nothing_yet, row, in_key};
 ghost use Rattle.psb_model.specs.Grammar.{in_grammar};
-ghost use Rattle.psb_model.specs.Conditions.{allowed};
+ghost use Rattle.psb_model.specs.Conditions.{allowed, is_direct};
 ghost use Rattle.psb_model.specs.Effects.{after};
 ghost use Rattle.psb_model.specs.History.{is_built};
 ghost use Rattle.psb_ledger.specs.View.{HasRoom};
@@ -12,7 +14,7 @@ ghost use Rattle.psb_ledger.specs.OwnList.{next_own};
 
 use crate::book::{Book, NotNow};
 use crate::ledger::Ledger;
-use psb_bytes::{Digest, Memory};
+use psb_bytes::{Digest, Memory, PeerId};
 use psb_model::{Change, OwnEntry, Snapshot};
 use std::alloc::Global;
 use std::marker::Model;
@@ -61,6 +63,13 @@ impl Opening {
         ensures { result ≡ next_own (option_map (λ n. n.now) name.entry) self.now.state.own }
     {
         self.book.own_after(name)
+    }
+
+    /// As `Ledger::is_direct`.
+    pub fn is_direct(&self, peer: PeerId, slot: u32) -> bool
+        ensures { result ≡ has_so in_key is_direct (row self.now.state peer).ins (Slot slot) }
+    {
+        self.book.is_direct(peer, slot)
     }
 
     /// As `Ledger::make_room`.

@@ -9,9 +9,9 @@ use Rattle.psb_model.proofs.Prefixes.{state_app}
 use Rattle.wire_codec.specs.Frames.{Incoming, read_frame, key_in}
 use Rattle.wire_codec.specs.declared.frame.Dropped.{Dropped}
 use Rattle.wire_codec.specs.declared.frame.Frame.{Frame}
-use Rattle.psb_machine.specs.Deals.{standing, first_that_holds, judged, meets_others, Deal, StoreFresh, deal_of, judged_at}
+use Rattle.psb_machine.specs.Deals.{standing, first_that_holds, judged, clashes, meets_others, Deal, StoreFresh, StoreSwap, Cancel, PutBack, deal_of, judged_at}
 use Rattle.psb_machine.specs.Gets.{got_of, has_chunk}
-use Rattle.psb_machine.specs.Stores.{store_reasons, took_fresh}
+use Rattle.psb_machine.specs.Judging.{reasons_at, taken_at}
 use Rattle.psb_machine.specs.Machine.{Situation, Input, Datagram, Tick, Keep, Snap, Forget, Reaction, changes_of, keys_of, quiet, tells_again, by_standing, on_deal, here, on_get, on_other, on_frame, on_keyed, on_read, on_datagram, react, next, has_snapshot}
 use Rattle.psb_model.proofs.ByObject.{by_cases}
 use Rattle.psb_machine.specs.declared.deals.Standing.{Standing}
@@ -23,13 +23,19 @@ use Rattle.psb_machine.specs.Course.{Step, Absorb, Tell, after_all}
 abbrev pub Stays : State → Reaction → Type 0
 Stays s r = (state_from s (changes_of r)).settings ≡ s.settings
 
-judged_stays : (s : State) (p number : ℕ) (name bytes : List ℕ) (o : Option Refusal) → (after s (judged p number (took_fresh s p number name bytes) o)).settings ≡ s.settings
-judged_stays s p number name bytes None = refl
-judged_stays s p number name bytes (Some r) = refl
+taken_stays : (s : State) (p number : ℕ) (deal : Deal) → (after s (taken_at s p number deal)).settings ≡ s.settings
+taken_stays s p number (StoreFresh name bytes) = refl
+taken_stays s p number (StoreSwap name numbers bytes) = refl
+taken_stays s p number (Cancel name numbers) = refl
+taken_stays s p number (PutBack name claims) = refl
+
+judged_stays : (s : State) (p number : ℕ) (deal : Deal) (o : Option Refusal) → (after s (judged p number (taken_at s p number deal) o)).settings ≡ s.settings
+judged_stays s p number deal None = taken_stays s p number deal
+judged_stays s p number deal (Some r) = refl
 
 deal_stays : (how : Standing) (settings : Settings) (n : Situation) (p number : ℕ) (key : List ℕ) (deal : Deal) → Stays (state n.history) (by_standing how settings n p number key (judged_at settings n.history p number deal))
-deal_stays Fresh settings n p number key (StoreFresh name bytes) =
-    judged_stays (state n.history) p number name bytes (first_that_holds (store_reasons settings (state n.history) p name bytes (meets_others n.history name bytes)))
+deal_stays Fresh settings n p number key deal =
+    judged_stays (state n.history) p number deal (first_that_holds (reasons_at settings (state n.history) p deal (clashes n.history deal)))
 deal_stays Repeat settings n p number key deal = refl
 deal_stays Stale settings n p number key deal = refl
 deal_stays Gap settings n p number key deal = refl

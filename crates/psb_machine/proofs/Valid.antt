@@ -1,149 +1,50 @@
 -- What the machine makes of a valid history is valid.
-use Rattle.std.proofs.Common.{◌≡◌, ℕ, ◌+◌, ◌≤◌, ◌^◌, Bool, true, false, not, ◌&&◌, ◌==◌, nat_le, nat_lt, cond, if◌then◌else◌, option_map, ◌||◌, ◌<◌, sum_by, List, [], ◌∷◌, ◌++◌, length, Option, Some, None, Result, Ok, Err, refl, sym, ap, subst, arith}
+use Rattle.std.proofs.Common.{◌≡◌, ℕ, ◌+◌, ◌≤◌, ◌^◌, Bool, true, false, not, ◌==◌, nat_le, cond, if◌then◌else◌, option_map, ◌||◌, sum_by, List, [], ◌∷◌, ◌++◌, length, Option, Some, None, Result, Ok, Err, refl, sym, ap, subst, arith}
 use Rattle.std.specs.List.{list_all}
-use Rattle.std.proofs.lemmas.Bool.{and_parts, leb-true, lt-ltb, ltb-false, eq-eqb, le-leb}
+use Rattle.std.proofs.lemmas.Bool.{lt-ltb, eq-eqb, le-leb}
 use Rattle.std.proofs.lemmas.List.{append-nil}
+use Rattle.std.proofs.lemmas.List.Sums.{sum_by-cons}
 use Rattle.psb_bytes.specs.Units.{units}
 use Rattle.psb_bytes.specs.Objects.{name_eq}
+use Rattle.psb_bytes.specs.declared.ids.Object.{Object}
 use Rattle.psb_bytes.specs.declared.ids.Object.TheVariants.{Chunk}
 use Rattle.psb_digest.specs.Hashes.{sha}
 use Rattle.psb_settings.specs.declared.settings.Settings.{Settings}
-use Rattle.psb_model.specs.State.{State, row, in_key, debt_size, debt_units, is_held, is_peer, used, own_has, snaps_made}
-use Rattle.psb_model.specs.Words.{has}
-use Rattle.psb_model.specs.Grammar.{fits_widths, in_grammar, is_u8, is_u32, is_u64, is_count, are_bytes, body_fits}
-use Rattle.psb_model.specs.Conditions.{most_claims, is_next_deal, capacity, allowed}
+use Rattle.psb_model.specs.Words.{object_eq, has, units_at}
+use Rattle.psb_model.specs.State.{State, Row, row, row_in, in_key, in_size, held_units, out_key, debt_size, debt_units, coming, is_held, is_peer, used, own_has, snaps_made, tied_in}
+use Rattle.psb_model.specs.Grammar.{in_grammar, is_u8, is_u32, is_u64, is_count}
+use Rattle.psb_model.specs.Conditions.{is_next_deal, allowed}
 use Rattle.psb_model.specs.History.{state}
 use Rattle.psb_model.specs.Needed.{brings_right, last_brought, IsValid}
 use Rattle.psb_model.specs.declared.change.Change.{Change}
-use Rattle.psb_model.specs.declared.change.Change.TheVariants.{Kept, Forgot, TookFresh, Refused}
-use Rattle.psb_model.proofs.Prefixes.{changes_counted}
-use Rattle.psb_model.proofs.Built.{valid_snoc, plain_state, plain_row, used_plain}
-use Rattle.wire_codec.specs.Fields.{within, is_digest as is_wire_digest, are_slots, is_text, are_bytes as are_wire_bytes}
-use Rattle.wire_codec.specs.Frames.{Incoming, read_frame, key_in, fits as frame_fits}
+use Rattle.psb_model.specs.declared.change.Change.TheVariants.{Kept, Forgot, Refused}
+use Rattle.psb_model.proofs.Built.{valid_snoc, plain_state, plain_row, used_most}
+use Rattle.psb_model.proofs.ByObject.{by_cases}
+use Rattle.wire_codec.specs.Frames.{Incoming, read_frame, key_in}
 use Rattle.wire_codec.specs.declared.frame.Dropped.{Dropped}
 use Rattle.wire_codec.specs.declared.frame.Frame.{Frame}
-use Rattle.wire_codec.specs.declared.frame.Frame.TheVariants.{Store, Get}
 use Rattle.psb_machine.specs.Laws.{KeepFits, SnapFits}
-use Rattle.psb_model.proofs.ByObject.{by_cases}
-use Rattle.psb_machine.specs.Deals.{standing, code_of, first_that_holds, judged, Deal, StoreFresh, judged_at, meets_others}
-use Rattle.psb_machine.specs.Machine.{Situation, changes_of, kept_with, snapped_with, has_snapshot, on_keep, on_snap, on_forget, keys_of, quiet, tells_again, by_standing, on_deal, here, on_frame, on_read, on_keyed, on_datagram}
-use Rattle.psb_machine.specs.Gets.{has_chunk}
+use Rattle.psb_machine.specs.Deals.{standing, code_of, first_that_holds, judged, Deal, StoreFresh, StoreSwap, Cancel, PutBack, deal_of, slots_of, is_engaged, chunk_units, clashes, judged_at, meets_others}
+use Rattle.psb_machine.specs.Machine.{Situation, changes_of, kept_with, snapped_with, has_snapshot, on_keep, on_snap, on_forget, keys_of, quiet, tells_again, by_standing, on_deal, on_get, on_other, here, on_frame, on_read, on_keyed, on_datagram}
+use Rattle.psb_machine.specs.Gets.{got_of, has_chunk}
 use Rattle.psb_machine.specs.declared.deals.Standing.{Standing}
 use Rattle.psb_machine.specs.declared.deals.Standing.TheVariants.{Fresh, Repeat, Stale, Gap}
 use Rattle.psb_machine.specs.declared.deals.Reason.{Reason}
 use Rattle.psb_machine.specs.declared.deals.Reason.TheVariants.{Busy, BadName, Already, Clash, NotThere, Unequal, Indebted, Full, Spent}
 use Rattle.psb_machine.specs.declared.deals.Refusal.{Refusal}
 use Rattle.psb_machine.specs.declared.snap_note.SnapNote.{SnapNote}
-use Rattle.psb_machine.specs.Stores.{StoreFits, DealFits, store_reasons, took_fresh, judged_store, judged_with}
-use Rattle.psb_machine.proofs.Standings.{fresh_is_next, none_holds, detail_fits, first_fits}
+use Rattle.psb_machine.specs.Judging.{DealFits, reasons_at, taken_at, judged_with}
+use Rattle.psb_machine.proofs.Standings.{fresh_is_next, detail_fits, first_fits}
+use Rattle.psb_machine.proofs.Slots.{found_fits}
+use Rattle.psb_machine.proofs.Framed.{FrameFits, deal_fits}
+use Rattle.psb_machine.proofs.Taken.{MayTake, begun_here, either_none, flag_same, body_in_grammar, body_of_bytes, deal_may}
 use Rattle.psb_machine.proofs.Lasts.{drawn}
 use Rattle.psb_machine.proofs.Peers.{keyed_is_peer}
 
--- what a Store meets that is the peer's next deal and is not refused
-pub record IsTaken (settings : Settings) (s : State) (p number : ℕ) (name bytes : List ℕ) : Type 0 where
-  pub next_deal : is_next_deal s p number ≡ true
-  pub named : name_eq (sha bytes) name ≡ true
-  pub new_here : not (has in_key (row s p).ins (Chunk name)) ≡ true
-  pub no_debt : (debt_units (row s p) == 0) ≡ true
-  pub room : nat_le (used s + units (length bytes)) settings.capacity ≡ true
-  pub claims : nat_le (s.issued + units (length bytes)) most_claims ≡ true
-
-not_false : (b : Bool) → not b ≡ false → b ≡ true
-not_false true h = refl
-not_false false h = absurd (cc)
-
-not_less : (a b : ℕ) → nat_lt a b ≡ false → nat_le b a ≡ true
-not_less a b h = le-leb b a (ltb-false a b h)
-
-not_some : (a : ℕ) → nat_lt 0 a ≡ false → (a == 0) ≡ true
-not_some a h = eq-eqb a 0 (omega (arith, ltb-false 0 a h))
-
-pub is_taken : (settings : Settings) (s : State) (p number : ℕ) (name bytes : List ℕ) (clash : Bool) → is_next_deal s p number ≡ true → first_that_holds (store_reasons settings s p name bytes clash) ≡ None → IsTaken settings s p number name bytes
-is_taken settings s p number name bytes clash next_deal none =
-    let t = none_holds (store_reasons settings s p name bytes clash) none in
-    record {
-      next_deal = next_deal;
-      named = not_false (name_eq (sha bytes) name) t.0;
-      new_here = ap not t.1.0;
-      no_debt = not_some (debt_units (row s p)) t.1.1.1.0;
-      room = not_less settings.capacity (used s + units (length bytes)) t.1.1.1.1.0;
-      claims = not_less most_claims (s.issued + units (length bytes)) t.1.1.1.1.1.0;
-    }
-
-flag_same : (held : Bool) → (cond held (not (not held)) (not held)) ≡ true
-flag_same true = refl
-flag_same false = refl
-
-pub allows_taken : (settings : Settings) (h : List Change) (p number : ℕ) (name bytes : List ℕ) → 1 ≤ length h → (state h).settings ≡ Some settings → is_peer (state h) p ≡ true
-    → IsTaken settings (state h) p number name bytes → allowed (state h) (took_fresh (state h) p number name bytes) ≡ true
-allows_taken settings h p number name bytes some present peer t =
-    let s = state h in
-    let begun : nat_lt 0 s.changes ≡ true = lt-ltb 0 s.changes (omega (arith, changes_counted h, some)) in
-    let first : (s.issued == s.issued) ≡ true = eq-eqb s.issued s.issued refl in
-    let cap : nat_le (used s + units (length bytes)) (capacity s.settings) ≡ true = subst (λ (o : Option Settings). nat_le (used s + units (length bytes)) (capacity o) ≡ true) (sym present) t.room in
-    rw (begun, peer, t.next_deal, t.new_here, flag_same (is_held s name), t.no_debt, cap, first, t.claims) refl
-
-all_none : list_all is_u8 [] ≡ true
-all_none = refl
-
-body_in_grammar : (held : Bool) (bytes : List ℕ) → body_fits (cond (not held) (length bytes) 0) (Some (cond (not held) bytes [])) ≡ true
-body_in_grammar true bytes = refl
-body_in_grammar false bytes = eq-eqb (length bytes) (length bytes) refl
-
-body_of_bytes : (held : Bool) (bytes : List ℕ) → list_all is_u8 bytes ≡ true → are_bytes (Some (cond (not held) bytes [])) ≡ true
-body_of_bytes true bytes h = refl
-body_of_bytes false bytes h = h
-
-brings_taken : (s : State) (p number : ℕ) (name bytes : List ℕ) (held : Bool) → name_eq (sha bytes) name ≡ true
-    → brings_right (TookFresh p number name s.issued (length bytes) (not held) (Some (cond (not held) bytes []))) ≡ true
-brings_taken s p number name bytes true h = refl
-brings_taken s p number name bytes false h = h
-
-pub grammar_taken : (s : State) (p number : ℕ) (name bytes : List ℕ) → StoreFits p number name bytes → in_grammar (took_fresh s p number name bytes) ≡ true
-grammar_taken s p number name bytes f =
-    rw (le-leb 1 (length bytes) f.long, le-leb (length bytes) 32768 f.short, body_in_grammar (is_held s name) bytes) refl
-
-fits_taken : (settings : Settings) (s : State) (p number : ℕ) (name bytes : List ℕ) → StoreFits p number name bytes → IsTaken settings s p number name bytes → fits_widths (took_fresh s p number name bytes) ≡ true
-fits_taken settings s p number name bytes f t =
-    let claims = leb-true (s.issued + units (length bytes)) most_claims t.claims in
-    let first : is_u32 s.issued ≡ true = lt-ltb s.issued (2 ^ 32) (omega (arith, claims)) in
-    let len : is_u32 (length bytes) ≡ true = lt-ltb (length bytes) (2 ^ 32) (omega (arith, f.short)) in
-    rw (f.peer, f.number_fits, f.name_fits, first, len, body_of_bytes (is_held s name) bytes f.bytes_fit) refl
-
--- a Store that is taken
-pub taken_valid : (settings : Settings) (h : List Change) (p number : ℕ) (name bytes : List ℕ) → IsValid h → (state h).settings ≡ Some settings → is_peer (state h) p ≡ true
-    → StoreFits p number name bytes → IsTaken settings (state h) p number name bytes → IsValid (h ++ took_fresh (state h) p number name bytes ∷ [])
-taken_valid settings h p number name bytes v present peer f t =
-    valid_snoc h (took_fresh (state h) p number name bytes) v
-    (grammar_taken (state h) p number name bytes f)
-    (allows_taken settings h p number name bytes v.some present peer t)
-    (fits_taken settings (state h) p number name bytes f t)
-    refl
-    (brings_taken (state h) p number name bytes (is_held (state h) name) t.named)
-
--- what is known of a frame that was read
-pub record FrameFits (p number : ℕ) (frame : Frame) : Type 0 where
-  pub peer : is_u32 p ≡ true
-  pub number_fits : is_u64 number ≡ true
-  pub frame_is : frame_fits frame ≡ true
-
-pub store_fits : (p number : ℕ) (name slots bytes : List ℕ) → FrameFits p number (Store name slots bytes) → StoreFits p number name bytes
-store_fits p number name slots bytes f =
-    let a = and_parts (is_wire_digest name) (are_slots 0 slots && is_text 1 bytes) f.frame_is in
-    let b = and_parts (are_slots 0 slots) (is_text 1 bytes) a.1 in
-    let c = and_parts (within 1 32768 (length bytes)) (are_wire_bytes bytes) b.1 in
-    let d = and_parts (nat_le 1 (length bytes)) (nat_le (length bytes) 32768) c.0 in
-    record {
-      peer = f.peer;
-      number_fits = f.number_fits;
-      name_fits = a.0;
-      long = leb-true 1 (length bytes) d.0;
-      short = leb-true (length bytes) 32768 d.1;
-      bytes_fit = c.1;
-    }
-
 pub unchanged : (h : List Change) → IsValid h → IsValid (h ++ [])
 unchanged h v = subst IsValid (sym (append-nil h)) v
+
+-- ---- refusals
 
 pub codes_are : (why : Reason) → (nat_le 1 (code_of why) ≡ true) × (nat_le (code_of why) 9 ≡ true) × (is_u8 (code_of why) ≡ true)
 codes_are Busy = (refl, refl, refl)
@@ -159,9 +60,8 @@ codes_are Spent = (refl, refl, refl)
 -- a refusal answers the next deal of a peer
 pub allows_refused : (h : List Change) (p number : ℕ) (r : Refusal) → 1 ≤ length h → is_peer (state h) p ≡ true → is_next_deal (state h) p number ≡ true → allowed (state h) (Refused p number (code_of r.why) r.detail) ≡ true
 allows_refused h p number r some peer next_deal =
-    let begun : nat_lt 0 (state h).changes ≡ true = lt-ltb 0 (state h).changes (omega (arith, changes_counted h, some)) in
     let code = codes_are r.why in
-    rw (begun, peer, next_deal, code.0, code.1) refl
+    rw (begun_here h some, peer, next_deal, code.0, code.1) refl
 
 refused_valid : (h : List Change) (p number : ℕ) (r : Refusal) → IsValid h → is_peer (state h) p ≡ true → is_u32 p ≡ true → is_u64 number ≡ true → is_next_deal (state h) p number ≡ true → is_u64 r.detail ≡ true
     → IsValid (h ++ Refused p number (code_of r.why) r.detail ∷ [])
@@ -169,27 +69,74 @@ refused_valid h p number r v peer p_fits number_fits next_deal small =
     let code = codes_are r.why in
     valid_snoc h (Refused p number (code_of r.why) r.detail) v refl (allows_refused h p number r v.some peer next_deal) (rw (p_fits, number_fits, code.2, small) refl) refl refl
 
--- the details of what is looked at fit their field
-details_fit : (settings : Settings) (h : List Change) (p : ℕ) (name bytes : List ℕ) (clash : Bool) → IsValid h → list_all detail_fits (store_reasons settings (state h) p name bytes clash) ≡ true
-details_fit settings h p name bytes clash v =
+-- ---- the details of what is looked at fit their field
+
+-- what a list has at an object is a part of what it has in all, and a row's units are among those used
+units_most : {E : Type 0} (key : E → Object) (size : E → ℕ) (l : List E) (o : Object) → units_at key size l o ≤ sum_by size l
+units_most key size [] o = omega arith
+units_most key size (e ∷ es) o =
+    let rest = units_most key size es o in
+    by_cases (object_eq (key e) o) (λ k. rw k (omega (arith, rest, sum_by-cons size e es))) (λ k. rw k (omega (arith, rest, sum_by-cons size e es)))
+
+row_most : (s : State) (rows : List (ℕ × Row)) (p : ℕ) → held_units (row_in rows p) ≤ sum_by (λ (x : ℕ × Row). held_units x.1 + coming s x.1.pending) rows
+row_most s [] p = omega arith
+row_most s (x ∷ xs) p =
+    let c = sum_by-cons (λ (y : ℕ × Row). held_units y.1 + coming s y.1.pending) x xs in
+    by_cases (x.0 == p) (λ k. rw k (omega (arith, c))) (λ k. rw k (omega (arith, c, row_most s xs p)))
+
+-- the numbers of a valid history that a detail may be
+record DetailsFit (s : State) (p : ℕ) : Type 0 where
+  issued : is_u64 s.issued ≡ true
+  in_use : is_u64 (used s) ≡ true
+  debt : is_u64 (debt_units (row s p)) ≡ true
+  chunk : (name : List ℕ) → is_u64 (chunk_units s p name) ≡ true
+
+numbers_fit : (h : List Change) (p : ℕ) → IsValid h → DetailsFit (state h) p
+numbers_fit h p v =
     let s = state h in
-    let issued : is_u64 s.issued ≡ true = lt-ltb s.issued (2 ^ 64) (omega (arith, drawn h v)) in
-    let used_fits : is_u64 (used s) ≡ true = lt-ltb (used s) (2 ^ 64) (omega (arith, drawn h v, used_plain s (plain_state h v.lawful v.built))) in
+    let most = drawn h v in
+    let in_all = used_most s (plain_state h v.lawful v.built) in
     let none : debt_units (row s p) ≡ 0 = ap (sum_by debt_size) (plain_row h p v.lawful v.built).debts in
-    let debt : is_u64 (debt_units (row s p)) ≡ true = ap is_u64 none in
-    rw (issued, used_fits, debt) refl
+    record {
+      issued = lt-ltb s.issued (2 ^ 64) (omega (arith, most));
+      in_use = lt-ltb (used s) (2 ^ 64) (omega (arith, most, in_all));
+      debt = ap is_u64 none;
+      chunk = λ name. lt-ltb (chunk_units s p name) (2 ^ 64) (omega (arith, most, in_all, units_most in_key in_size (row s p).ins (Chunk name), row_most s s.rows p));
+    }
 
-pub judged_valid : (settings : Settings) (h : List Change) (p number : ℕ) (name bytes : List ℕ) (clash : Bool) → IsValid h → (state h).settings ≡ Some settings → is_peer (state h) p ≡ true
-    → StoreFits p number name bytes → is_next_deal (state h) p number ≡ true → IsValid (h ++ judged_store settings (state h) p number name bytes clash ∷ [])
-judged_valid settings h p number name bytes clash v present peer f next_deal = by_refusal (first_that_holds (store_reasons settings (state h) p name bytes clash)) refl
-  where
-    by_refusal : (o : Option Refusal) → first_that_holds (store_reasons settings (state h) p name bytes clash) ≡ o → IsValid (h ++ judged p number (took_fresh (state h) p number name bytes) o ∷ [])
-    by_refusal None is = taken_valid settings h p number name bytes v present peer f (is_taken settings (state h) p number name bytes clash next_deal is)
-    by_refusal (Some r) is = refused_valid h p number r v peer f.peer f.number_fits next_deal (first_fits (store_reasons settings (state h) p name bytes clash) r (details_fit settings h p name bytes clash v) is)
+details_fit : (settings : Settings) (s : State) (p number : ℕ) (deal : Deal) (clash : Bool) → DetailsFit s p → DealFits p number deal → list_all detail_fits (reasons_at settings s p deal clash) ≡ true
+details_fit settings s p number (StoreFresh name bytes) clash d f = rw (d.issued, d.in_use, d.debt) refl
+details_fit settings s p number (StoreSwap name numbers bytes) clash d f =
+    let u : is_u64 (units (length bytes)) ≡ true = lt-ltb (units (length bytes)) (2 ^ 64) (omega (arith, f.store.short)) in
+    rw (found_fits (tied_in s p) numbers f.slots.widths, found_fits (λ o. not (has in_key (row s p).ins o)) numbers f.slots.widths, u, d.debt) refl
+details_fit settings s p number (Cancel name numbers) clash d f =
+    rw (found_fits (is_engaged s p) numbers f.slots.widths, found_fits (λ o. not (has out_key (row s p).outs o)) numbers f.slots.widths, d.chunk name) refl
+details_fit settings s p number (PutBack name claims) clash d f =
+    rw (found_fits (has in_key (row s p).ins) (slots_of claims) f.slots.widths, d.chunk name) refl
 
+-- ---- deals
+
+-- the peer and the number of any deal are within their bounds
+sender_fits : (p number : ℕ) (deal : Deal) → DealFits p number deal → (is_u32 p ≡ true) × (is_u64 number ≡ true)
+sender_fits p number (StoreFresh name bytes) f = (f.peer, f.number_fits)
+sender_fits p number (StoreSwap name numbers bytes) f = (f.store.peer, f.store.number_fits)
+sender_fits p number (Cancel name numbers) f = (f.peer, f.number_fits)
+sender_fits p number (PutBack name claims) f = (f.peer, f.number_fits)
+
+-- a fresh deal, which is taken or refused
 pub judged_deal_valid : (settings : Settings) (h : List Change) (p number : ℕ) (deal : Deal) (clash : Bool) → IsValid h → (state h).settings ≡ Some settings → is_peer (state h) p ≡ true
     → DealFits p number deal → is_next_deal (state h) p number ≡ true → IsValid (h ++ judged_with settings (state h) p number deal clash ∷ [])
-judged_deal_valid settings h p number (StoreFresh name bytes) clash v present peer f next_deal = judged_valid settings h p number name bytes clash v present peer f next_deal
+judged_deal_valid settings h p number deal clash v present peer f next_deal = by_refusal (first_that_holds (reasons_at settings (state h) p deal clash)) refl
+  where
+    taken_valid : (c : Change) → MayTake (state h) c → IsValid (h ++ c ∷ [])
+    taken_valid c m = valid_snoc h c v m.grammar m.may m.widths m.built m.brings
+
+    by_refusal : (o : Option Refusal) → first_that_holds (reasons_at settings (state h) p deal clash) ≡ o → IsValid (h ++ judged p number (taken_at (state h) p number deal) o ∷ [])
+    by_refusal None is =
+        taken_valid (taken_at (state h) p number deal) (deal_may settings h p number deal clash (record { some = v.some; present = present; peer = peer; next_deal = next_deal }) f is)
+    by_refusal (Some r) is =
+        let sent = sender_fits p number deal f in
+        refused_valid h p number r v peer sent.0 sent.1 next_deal (first_fits (reasons_at settings (state h) p deal clash) r (details_fit settings (state h) p number deal clash (numbers_fit h p v) f) is)
 
 deal_valid : (settings : Settings) (n : Situation) (p number : ℕ) (key : List ℕ) (deal : Deal) → IsValid n.history → (is_next_deal (state n.history) p number ≡ true → IsValid (n.history ++ judged_at settings n.history p number deal ∷ [])) → IsValid (n.history ++ changes_of (on_deal settings n p number key deal))
 deal_valid settings n p number key deal v made = by_how (standing (row (state n.history) p).last.number number) refl
@@ -200,21 +147,23 @@ deal_valid settings n p number key deal v made = by_how (standing (row (state n.
     by_how Stale is = unchanged n.history v
     by_how Gap is = unchanged n.history v
 
-store_valid : (settings : Settings) (n : Situation) (p number : ℕ) (key name bytes : List ℕ) → IsValid n.history → (state n.history).settings ≡ Some settings → is_peer (state n.history) p ≡ true
-    → StoreFits p number name bytes → IsValid (n.history ++ changes_of (on_deal settings n p number key (StoreFresh name bytes)))
-store_valid settings n p number key name bytes v present peer f =
-    deal_valid settings n p number key (StoreFresh name bytes) v (judged_valid settings n.history p number name bytes (meets_others n.history name bytes) v present peer f)
-
 frame_valid : (settings : Settings) (n : Situation) (p number : ℕ) (key : List ℕ) (frame : Frame) → IsValid n.history → (state n.history).settings ≡ Some settings → is_peer (state n.history) p ≡ true
     → FrameFits p number frame → IsValid (n.history ++ changes_of (on_frame settings n p number key frame))
-frame_valid settings n p number key (Store name [] bytes) v present peer f = store_valid settings n p number key name bytes v present peer (store_fits p number name [] bytes f)
-frame_valid settings n p number key (Store name (slot ∷ slots) bytes) v present peer f = unchanged n.history v
-frame_valid settings n p number key (Get name) v present peer f = given (has_chunk (state n.history) p name)
+frame_valid settings n p number key frame v present peer f = got (got_of frame)
   where
-    given : (b : Bool) → IsValid (n.history ++ changes_of (if b then tells_again (option_map (here settings key p number name) (last_brought name n.history)) n.volatile else quiet n.volatile))
-    given true = unchanged n.history v
-    given false = unchanged n.history v
-frame_valid settings n p number key _ v present peer f = unchanged n.history v
+    either : (o : Option Deal) → deal_of frame ≡ o → IsValid (n.history ++ changes_of (elim o [ None ↦ quiet n.volatile | Some d ↦ on_deal settings n p number key d ]))
+    either None is = unchanged n.history v
+    either (Some d) is =
+        deal_valid settings n p number key d v
+        (λ next_deal. judged_deal_valid settings n.history p number d (clashes n.history d) v present peer (deal_fits p number frame d f is) next_deal)
+
+    given : (name : List ℕ) (b : Bool) → IsValid (n.history ++ changes_of (if b then tells_again (option_map (here settings key p number name) (last_brought name n.history)) n.volatile else quiet n.volatile))
+    given name true = unchanged n.history v
+    given name false = unchanged n.history v
+
+    got : (o : Option (List ℕ)) → IsValid (n.history ++ changes_of (elim o [ None ↦ on_other settings n p number key frame | Some name ↦ on_get settings n p number key name ]))
+    got None = either (deal_of frame) refl
+    got (Some name) = given name (has_chunk (state n.history) p name)
 
 keyed_valid : (settings : Settings) (n : Situation) (i : Incoming) (o : Option (List ℕ)) → o ≡ key_in (keys_of settings) i.from → IsValid n.history → (state n.history).settings ≡ Some settings
     → FrameFits i.from i.number i.frame → IsValid (n.history ++ changes_of (on_keyed settings n i o))
@@ -233,16 +182,9 @@ datagram_valid n x (Some settings) is v f = read_valid settings n (read_frame se
 
 -- ---- the node's own chunks and snapshots
 
-begun_here : (h : List Change) → 1 ≤ length h → nat_lt 0 (state h).changes ≡ true
-begun_here h some = lt-ltb 0 (state h).changes (omega (arith, changes_counted h, some))
-
 brings_kept : (name bytes : List ℕ) (held : Bool) → name_eq (sha bytes) name ≡ true → brings_right (Kept name (length bytes) (not held) (Some (cond (not held) bytes []))) ≡ true
 brings_kept name bytes true h = refl
 brings_kept name bytes false h = h
-
-either_none : (a b : Bool) → (a || b) ≡ false → a ≡ false
-either_none true b h = h
-either_none false b h = refl
 
 pub kept_may : (h : List Change) (name bytes : List ℕ) → 1 ≤ length h → KeepFits name bytes → own_has (state h).own name ≡ false → (in_grammar (kept_with (state h) name bytes) ≡ true) × (allowed (state h) (kept_with (state h) name bytes) ≡ true)
 kept_may h name bytes some f lacks =
@@ -267,7 +209,7 @@ kept_valid h name bytes v f lacks =
 pub keep_valid : (n : Situation) (name bytes : List ℕ) → IsValid n.history → KeepFits name bytes → IsValid (n.history ++ changes_of (on_keep n name bytes))
 keep_valid n name bytes v f = by_cases (own_has (state n.history).own name || meets_others n.history name bytes)
     (λ k. rw k (unchanged n.history v))
-    (λ k. rw k (kept_valid n.history name bytes v f (either_none (own_has (state n.history).own name) (meets_others n.history name bytes) k)))
+    (λ k. rw k (kept_valid n.history name bytes v f (either_none (own_has (state n.history).own name) (meets_others n.history name bytes) k).0))
 
 pub snapped_may : (h : List Change) (note : SnapNote) → 1 ≤ length h → SnapFits (state h) note → (in_grammar (snapped_with (state h) note) ≡ true) × (allowed (state h) (snapped_with (state h) note) ≡ true)
 snapped_may h note some f =

@@ -19,7 +19,8 @@ use Rattle.psb_machine.specs.Machine.{Situation, Volatile, Input, Datagram, Tick
 use Rattle.psb_machine.specs.declared.deals.Standing.{Standing}
 use Rattle.psb_machine.specs.declared.deals.Standing.TheVariants.{Fresh, Repeat, Stale, Gap}
 use Rattle.psb_machine.specs.Laws.{KeepsValid, AllTellLittle}
-use Rattle.psb_machine.proofs.Valid.{FrameFits, unchanged, datagram_valid, keep_valid, snap_valid, forget_valid}
+use Rattle.psb_machine.proofs.Framed.{FrameFits}
+use Rattle.psb_machine.proofs.Valid.{unchanged, datagram_valid, keep_valid, snap_valid, forget_valid}
 use Rattle.psb_model.proofs.ByObject.{by_cases}
 use Rattle.psb_machine.specs.Deals.{meets_others}
 use Rattle.psb_model.specs.declared.change.Change.TheVariants.{Forgot}

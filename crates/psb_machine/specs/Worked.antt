@@ -1,10 +1,14 @@
--- Worked deals: what answers a peer's chunk where the node's claims come to their end, which no short
--- history reaches.
-use Rattle.std.specs.Prelude.{◌≡◌, ℕ, true, false, List, length, Some, None}
-use Rattle.psb_model.specs.State.{nothing_yet}
+-- Worked deals, so that the definitions can be seen at work.
+use Rattle.std.specs.Prelude.{◌≡◌, ℕ, Bool, true, false, List, [], ◌∷◌, length, Some, None}
+use Rattle.psb_bytes.specs.declared.ids.Object.TheVariants.{Slot}
+use Rattle.psb_model.specs.State.{Row, State, blank, nothing_yet}
+use Rattle.psb_model.specs.Effects.{after, direct_slot, own_slot}
+use Rattle.psb_model.specs.declared.deals.DealWhat.{DealWhat}
+use Rattle.psb_model.specs.declared.deals.DealWhat.TheVariants as own
+use Rattle.psb_model.specs.declared.entries.OutState.TheVariants as on
 use Rattle.psb_model.specs.declared.change.Change.{Change}
-use Rattle.psb_model.specs.declared.change.Change.TheVariants.{TookFresh, Refused}
-use Rattle.psb_machine.specs.Deals.{Facts, StoreFresh, judge}
+use Rattle.psb_model.specs.declared.change.Change.TheVariants.{TookFresh, LetGo, LetGoBack, Refused}
+use Rattle.psb_machine.specs.Deals.{Facts, Deal, StoreFresh, StoreSwap, Cancel, PutBack, judge}
 
 -- a chunk of right bytes that nobody holds, where so many claims were issued and so much may be held
 abbrev pub facts_near : ℕ → ℕ → Facts
@@ -22,5 +26,67 @@ pub record SpentWorked (name bytes : List ℕ) : Type 0 where
   pub none_is_left : length bytes ≡ 1 → made_near 4294967295 2 name bytes ≡ Refused 2 1 9 4294967295
   pub full_comes_first : length bytes ≡ 513 → made_near 4294967294 1 name bytes ≡ Refused 2 1 8 0
 
+-- a node with one peer, which has this row; and after that peer's first Store of one unit
+abbrev pub with_row : Row → State
+with_row r = record nothing_yet { changes = 1; rows = (2, r) ∷ [] }
+
+abbrev pub after_store : List ℕ → List ℕ → State
+after_store name bytes = after (with_row blank) (TookFresh 2 1 name 0 512 true (Some bytes))
+
+-- what a release of that peer, as its second deal, is looked at with, and the change that it makes
+abbrev pub released : List ℕ → List ℕ → Deal → Change
+released name bytes deal = judge (facts_near 1 1) (after_store name bytes) 2 2 deal
+
+-- The peer lets its chunk go with the slot that the node has for it, or against a claim in another slot
+-- here. Of two slots the first that the node does not have is told.
+pub record ReleaseWorked (name bytes claim : List ℕ) : Type 0 where
+  pub cancelled : released name bytes (Cancel name (0 ∷ [])) ≡ LetGo 2 2 name (0 ∷ [])
+  pub put_back : released name bytes (PutBack name (record { slot = 9; bytes = claim } ∷ [])) ≡ LetGoBack 2 2 name (9 ∷ []) (Some claim)
+  pub not_there : released name bytes (Cancel name (0 ∷ 1 ∷ [])) ≡ Refused 2 2 5 1
+
+-- the change that peer 2's first deal makes, where its bytes have the name or not, and others are held
+-- under it or not
+abbrev pub made_with : Row → Bool → Bool → ℕ → Deal → Change
+made_with r fits others capacity deal = judge (record (facts_near 1 capacity) { name_fits = fits; clash = others }) (with_row r) 2 1 deal
+
+-- The peer has slot 9 here. The node has there slot 0, and slot 1, which carries a claim of peer 3; and a
+-- deal of its own is under way.
+abbrev pub busy_row : DealWhat → Row
+busy_row what = record blank {
+  ins = direct_slot 9 ∷ [];
+  outs = own_slot 0 ∷ record (own_slot 1) { state = on.Carries (record { peer = 3; slot = 4 }) } ∷ [];
+  pending = Some (record { number = 1; what = what });
+}
+
+-- A tied slot is told before a bad name, and one that carries a claim before one that is not there.
+pub record BusyWorked (name other bytes : List ℕ) : Type 0 where
+  pub swap : made_with (busy_row (own.Cancel other (9 ∷ []))) true false 9 (StoreSwap name (8 ∷ 9 ∷ []) bytes) ≡ Refused 2 1 1 9
+  pub bad_name_later : made_with (busy_row (own.Cancel other (9 ∷ []))) false false 9 (StoreSwap name (9 ∷ []) bytes) ≡ Refused 2 1 1 9
+  pub cancel : made_with (busy_row (own.Return 0)) true false 9 (Cancel name (0 ∷ [])) ≡ Refused 2 1 1 0
+  pub carries : made_with (busy_row (own.Return 0)) true false 9 (Cancel name (1 ∷ [])) ≡ Refused 2 1 1 1
+  pub not_there_later : made_with (busy_row (own.Return 0)) true false 9 (Cancel name (1 ∷ 5 ∷ [])) ≡ Refused 2 1 1 1
+
+-- the peer has slot 9 here, and lost two units
+abbrev pub debt_row : Row
+debt_row = record blank {
+  ins = direct_slot 9 ∷ [];
+  debts = record { object = Slot 3; units = 2; left = 2; cause = 1; declined = false; state = on.Own } ∷ [];
+}
+
+-- Debt is told behind a clash and before what is used, and behind slots that are too few.
+pub record DebtWorked (name bytes : List ℕ) : Type 0 where
+  pub fresh : made_with debt_row true false 9 (StoreFresh name bytes) ≡ Refused 2 1 7 2
+  pub clash_first : made_with debt_row true true 9 (StoreFresh name bytes) ≡ Refused 2 1 4 0
+  pub full_later : length bytes ≡ 512 → made_with debt_row true false 1 (StoreFresh name bytes) ≡ Refused 2 1 7 2
+  pub swap : length bytes ≡ 512 → made_with debt_row true false 9 (StoreSwap name (9 ∷ []) bytes) ≡ Refused 2 1 7 2
+  pub unequal_first : length bytes ≡ 513 → made_with debt_row true false 9 (StoreSwap name (9 ∷ []) bytes) ≡ Refused 2 1 6 2
+
+-- all of them, for any names and bytes
+pub record DealsWorked (name other bytes claim : List ℕ) : Type 0 where
+  pub spent : SpentWorked name bytes
+  pub release : ReleaseWorked name bytes claim
+  pub busy : BusyWorked name other bytes
+  pub debt : DebtWorked name bytes
+
 abbrev pub WorkedDeals : Type 0
-WorkedDeals = (name bytes : List ℕ) → SpentWorked name bytes
+WorkedDeals = (name other bytes claim : List ℕ) → DealsWorked name other bytes claim

@@ -5,11 +5,11 @@ use Rattle.std.specs.Prelude.{◌==◌, nat_lt, take}
 use Rattle.std.specs.List.{list_any, list_all}
 use Rattle.std.specs.Ordering.{is_lt, nat_cmp}
 use Rattle.std.specs.Cmp.Lexicographic.{slice_cmp}
-use Rattle.std.proofs.lemmas.Bool.{false≢true, eqb-true, ltb-true, and_parts}
+use Rattle.std.proofs.lemmas.Bool.{false≢true, eqb-true, eq-eqb, ltb-true, and_parts}
 use Rattle.std.proofs.lemmas.List.{length-append}
 use Rattle.std.proofs.lemmas.List.Sums.{sum_by-cons}
 use Rattle.psb_bytes.specs.declared.ids.Object.{Object}
-use Rattle.psb_bytes.specs.declared.ids.Object.TheVariants.{Chunk}
+use Rattle.psb_bytes.specs.declared.ids.Object.TheVariants.{Chunk, Slot}
 use Rattle.psb_settings.specs.declared.settings.Settings.{Settings}
 use Rattle.psb_settings.specs.declared.settings.PeerRow.{PeerRow}
 use Rattle.psb_settings.specs.Settings.{settings_of}
@@ -18,19 +18,26 @@ use Rattle.psb_model.specs.declared.entries.OutEntry.{OutEntry}
 use Rattle.psb_model.specs.declared.entries.OwnEntry.{OwnEntry}
 use Rattle.psb_model.specs.declared.entries.DebtEntry.{DebtEntry}
 use Rattle.psb_model.specs.declared.entries.Snapshot.{Snapshot}
+use Rattle.psb_model.specs.declared.entries.InState.{InState}
+use Rattle.psb_model.specs.declared.entries.InState.TheVariants as at
+use Rattle.psb_model.specs.declared.entries.OutState.TheVariants as on
+use Rattle.psb_bytes.specs.declared.ids.Seat.{Seat}
 use Rattle.psb_model.specs.declared.change.Change.{Change}
-use Rattle.psb_model.specs.declared.change.Change.TheVariants.{Begun, Kept, Snapped, Forgot, TookFresh, Refused}
-use Rattle.psb_model.specs.Words.{units, name_eq, name_listed, object_eq, object_cmp, all_of, has, only, without, with_one, with_all}
-use Rattle.psb_model.specs.State.{Row, State, blank, nothing_yet, row, row_in, has_row, is_peer, at_row, in_key, in_size, out_key, debt_key, held_units, own_has, own_marked, is_held, coming, used}
+use Rattle.psb_model.specs.declared.change.Change.TheVariants.{Begun, Kept, Snapped, Forgot, TookFresh, TookSwap, LetGo, LetGoBack, Refused}
+use Rattle.psb_model.specs.Words.{units, name_eq, name_listed, object_eq, object_cmp, all_of, listed, slots, has, has_so, only, without, with_one, with_all}
+use Rattle.psb_model.specs.State.{Row, State, blank, nothing_yet, row, row_in, has_row, is_peer, at_row, in_key, in_size, out_key, out_size, debt_key, debt_size, held_units, back_units, debt_units, own_has, own_marked, is_held, coming, used}
 use Rattle.psb_model.specs.Grammar.{in_grammar, is_u8, fits_widths}
-use Rattle.psb_model.specs.Conditions.{settings_of_body, peer_of, is_begun, of_a_peer, tests, allowed}
-use Rattle.psb_model.specs.Move.{after_move}
-use Rattle.psb_model.specs.Effects.{move_of, note_of, loosen, blank_rows, first_rows, all_rows_after, after, chunk_in, own_slots, own_after, own_with, set_marks, given_up, is_named, kept_lists, kept_without, kept_after}
+use Rattle.psb_model.specs.Conditions.{settings_of_body, peer_of, is_begun, of_a_peer, is_direct, tests, allowed}
+use Rattle.psb_model.specs.Move.{Move, after_move}
+use Rattle.psb_model.specs.Effects.{move_of, note_of, loosen, relabel_out, relabel_debt, disturbed, direct_slot, direct_slots, blank_rows, first_rows, all_rows_after, after, chunk_in, own_slots, own_after, own_with, set_marks, given_up, is_named, kept_lists, kept_without, kept_after}
 use Rattle.psb_model.specs.History.{state_from, lawful_from, state, is_lawful, is_built}
-use Rattle.psb_model.specs.Needed.{brings, brings_name, slots_given, needs_name, needs_slot, is_needed_by, body_is_right, bodies_right, is_sound, brings_right, IsValid}
-use Rattle.psb_model.proofs.ByObject.{by_cases, occurs, units_at-with_all, sum_by-with_all, lacks-units_at, has-occurs, object_eq-refl}
-use Rattle.psb_model.proofs.Parts.{own_slots-chunk}
+use Rattle.psb_model.specs.Needed.{brings, brings_name, slots_given, gives_slot, no_slots, needs_name, needs_slot, is_needed_by, body_is_right, bodies_right, is_sound, brings_right, IsValid}
+use Rattle.psb_model.proofs.ByObject.{by_cases, occurs, units_at-with_all, units_at-without, sum_by-with_all, sum_by-without, lacks-units_at, has-occurs, object_eq-refl, object_eq-same, carry}
+use Rattle.psb_model.proofs.Parts.{own_slots-chunk, sum-own_slots, no_chunk}
 use Rattle.psb_model.proofs.Steps.{parts}
+use Rattle.psb_model.proofs.Rows.{row_in-at_row, row_in-at_other}
+use Rattle.psb_model.proofs.Tidy.{IsTidy}
+use Rattle.psb_model.proofs.Balance.{Good, good_after, good_nothing}
 use Rattle.psb_model.proofs.Own.{name_same, name_refl, own_with_other, IsUnmarked, unmarked_stays}
 use Rattle.psb_model.proofs.Prefixes.{lawful_snoc, lawful_cons, all_snoc, changes_counted, state_snoc}
 
@@ -46,7 +53,11 @@ allows s c h =
     let two = and_parts (begun && of_a_peer s (peer_of c)) (all_of (tests s c)) h in
     record { peer = (and_parts begun (of_a_peer s (peer_of c)) two.0).1; tests = two.1 }
 
--- ROWS OF PEERS THAT OWE NOTHING AND HAVE NO DEAL UNDER WAY
+-- ROWS OF PEERS THAT OWE NOTHING, HAVE NO DEAL UNDER WAY AND NOTHING FORWARDED
+
+-- its bytes are not with another peer
+abbrev pub is_here : InEntry → Bool
+is_here e = elim e.state [ at.Forwarded seat ↦ false | _ ↦ true ]
 
 pub record IsPlainRow (r : Row) : Type 0 where
   pub pending : r.pending ≡ None
@@ -58,13 +69,14 @@ pub record IsPlainRow (r : Row) : Type 0 where
   pub barred : r.barred ≡ []
   pub turned : r.turned_cancels ≡ []
   pub slots : (n : List ℕ) → has out_key r.outs (Chunk n) ≡ false
+  pub here : list_all is_here r.ins ≡ true
 
 abbrev pub AllPlain : List (ℕ × Row) → Type 0
 AllPlain [] = Unit {0}
 AllPlain (x ∷ xs) = IsPlainRow x.1 × AllPlain xs
 
 pub plain_blank : IsPlainRow blank
-plain_blank = record { pending = refl; debts = refl; asked = refl; mine = refl; fails = refl; due = refl; barred = refl; turned = refl; slots = λ n. refl }
+plain_blank = record { pending = refl; debts = refl; asked = refl; mine = refl; fails = refl; due = refl; barred = refl; turned = refl; slots = λ n. refl; here = refl }
 
 pub plain_row_in : (rows : List (ℕ × Row)) (p : ℕ) → AllPlain rows → IsPlainRow (row_in rows p)
 plain_row_in [] p h = plain_blank
@@ -100,12 +112,14 @@ held_first_rows : (o : Option Settings) → held_total (first_rows o) ≡ 0
 held_first_rows None = refl
 held_first_rows (Some x) = held_blank_rows x.peers
 
-held_at_row : (p : ℕ) (f : Row → Row) (n : ℕ) (rows : List (ℕ × Row)) → has_row rows p ≡ true → ((r : Row) → held_units (f r) ≡ held_units r + n) → held_total (at_row p f rows) ≡ held_total rows + n
+held_at_row : (p : ℕ) (f : Row → Row) (n : ℕ) (rows : List (ℕ × Row)) → has_row rows p ≡ true → held_units (f (row_in rows p)) ≤ held_units (row_in rows p) + n → held_total (at_row p f rows) ≤ held_total rows + n
 held_at_row p f n [] here g = absurd (false≢true here)
 held_at_row p f n (x ∷ xs) here g =
     by_cases (x.0 == p)
-    (λ k. rw k (omega (arith, g x.1, sum_by-cons (λ (x : ℕ × Row). held_units x.1) (x.0, f x.1) xs, sum_by-cons (λ (x : ℕ × Row). held_units x.1) x xs)))
-    (λ k. let here' = rw k at here in rw k (omega (arith, held_at_row p f n xs here' g, sum_by-cons (λ (x : ℕ × Row). held_units x.1) x (at_row p f xs), sum_by-cons (λ (x : ℕ × Row). held_units x.1) x xs)))
+    (λ k. let g' = rw k at g in rw k (omega (arith, g', sum_by-cons (λ (x : ℕ × Row). held_units x.1) (x.0, f x.1) xs, sum_by-cons (λ (x : ℕ × Row). held_units x.1) x xs)))
+    (λ k. let here' = rw k at here in
+    let g' = rw k at g in
+    rw k (omega (arith, held_at_row p f n xs here' g', sum_by-cons (λ (x : ℕ × Row). held_units x.1) x (at_row p f xs), sum_by-cons (λ (x : ℕ × Row). held_units x.1) x xs)))
 
 -- THE ROWS AFTER EACH KIND
 
@@ -121,6 +135,9 @@ at_row_twice p f g (x ∷ xs) = by_cases (x.0 == p) (λ k. rw (k, k) refl) (λ k
 abbrev pub changed : State → Change → Row → Row
 changed s c r = note_of s c (after_move (move_of s c) r)
 
+at_peer : (s : State) (c : Change) (q p : ℕ) → Some q ≡ Some p → all_rows_after s c ≡ at_row q (changed s c) s.rows → all_rows_after s c ≡ at_row p (changed s c) s.rows
+at_peer s c q p e h = let same : q ≡ p = cc in subst (λ x. all_rows_after s c ≡ at_row x (changed s c) s.rows) same h
+
 pub rows_fresh : (s : State) (p deal : ℕ) (name : List ℕ) (first len : ℕ) (new : Bool) (body : Option (List ℕ)) → all_rows_after s (TookFresh p deal name first len new body) ≡ at_row p (changed s (TookFresh p deal name first len new body)) s.rows
 rows_fresh s p deal name first len new body =
     let c : Change = TookFresh p deal name first len new body in
@@ -133,22 +150,54 @@ rows_refused s p deal why detail =
     let first_row : Row → Row = after_move (move_of s c) in
     ap (λ es. at_row p (note_of s c) (loosen es (at_row p first_row s.rows))) (only_none (row s p).ins) ∙ at_row_twice p first_row (note_of s c) s.rows
 
+-- what stands in a list that some entries left passed what all of it passed
+all_kept : {E : Type 0} (t q : E → Bool) (l : List E) → list_all t l ≡ true → list_all t (filter q l) ≡ true
+all_kept t q [] h = refl
+all_kept t q (e ∷ es) h =
+    let two = and_parts (t e) (list_all t es) h in
+    by_cases (q e) (λ k. rw (k, two.0) (all_kept t q es two.1)) (λ k. rw k (all_kept t q es two.1))
+
+-- nothing comes loose where no entry is forwarded
+loosen_none : (es : List InEntry) (rows : List (ℕ × Row)) → list_all is_here es ≡ true → loosen es rows ≡ rows
+loosen_none [] rows h = refl
+loosen_none (e ∷ es) rows h =
+    let two = and_parts (is_here e) (list_all is_here es) h in
+    ap (loosen es) (one (λ seat. at_row seat.peer (λ r. relabel_debt (Slot seat.slot) on.Loose (relabel_out (Slot seat.slot) on.Loose r)) rows) e.state two.0) ∙ loosen_none es rows two.1
+  where
+    one : (freed : Seat → List (ℕ × Row)) (st : InState) → elim st [ at.Forwarded seat ↦ false | _ ↦ true ] ≡ true → elim st [ at.Forwarded seat ↦ freed seat | _ ↦ rows ] ≡ rows
+    one freed at.Body k = refl
+    one freed at.Direct k = refl
+    one freed (at.Forwarded seat) k = absurd (false≢true k)
+    one freed (at.Home i) k = refl
+
+-- so one row changes, where a change of a peer relabels nothing
+rows_still : (s : State) (c : Change) (p : ℕ) → list_all is_here (disturbed s c) ≡ true → at_row p (note_of s c) (loosen (disturbed s c) (at_row p (after_move (move_of s c)) s.rows)) ≡ at_row p (changed s c) s.rows
+rows_still s c p h =
+    let first_row : Row → Row = after_move (move_of s c) in
+    ap (at_row p (note_of s c)) (loosen_none (disturbed s c) (at_row p first_row s.rows) h) ∙ at_row_twice p first_row (note_of s c) s.rows
+
+-- after a change of a peer of a kind that is built
+pub rows_one : (s : State) (c : Change) (p : ℕ) → AllPlain s.rows → is_built c ≡ true → peer_of c ≡ Some p → all_rows_after s c ≡ at_row p (changed s c) s.rows
+rows_one s (Begun body) p h b e = absurd (cc (e))
+rows_one s (Kept name len new body) p h b e = absurd (cc (e))
+rows_one s (Snapped number ticket files folders bytes left names) p h b e = absurd (cc (e))
+rows_one s (Forgot number) p h b e = absurd (cc (e))
+rows_one s (TookFresh q deal name first len new body) p h b e = at_peer s (TookFresh q deal name first len new body) q p e (rows_fresh s q deal name first len new body)
+rows_one s (TookSwap q deal name numbers len new body) p h b e =
+    let c : Change = TookSwap q deal name numbers len new body in
+    at_peer s c q p e (rows_still s c q (all_kept is_here (λ x. listed (slots numbers) (in_key x)) (row s q).ins (plain_row_in s.rows q h).here))
+rows_one s (LetGo q deal name numbers) p h b e =
+    let c : Change = LetGo q deal name numbers in
+    at_peer s c q p e (rows_still s c q (all_kept is_here (λ x. listed (Chunk name ∷ []) (in_key x)) (row s q).ins (plain_row_in s.rows q h).here))
+rows_one s (LetGoBack q deal name numbers body) p h b e =
+    let c : Change = LetGoBack q deal name numbers body in
+    at_peer s c q p e (rows_still s c q (all_kept is_here (λ x. listed (Chunk name ∷ []) (in_key x)) (row s q).ins (plain_row_in s.rows q h).here))
+rows_one s (Refused q deal why detail) p h b e = at_peer s (Refused q deal why detail) q p e (rows_refused s q deal why detail)
+rows_one s _ p h b e = absurd (false≢true b)
+
 pub without_none : (l : List InEntry) → without in_key [] l ≡ l
 without_none [] = refl
 without_none (e ∷ es) = ap (λ l. e ∷ l) (without_none es)
-
-held_fresh : (s : State) (p deal : ℕ) (name : List ℕ) (first len : ℕ) (new : Bool) (body : Option (List ℕ)) (r : Row) → held_units (changed s (TookFresh p deal name first len new body) r) ≡ held_units r + units len
-held_fresh s p deal name first len new body r =
-    let c : Change = TookFresh p deal name first len new body in
-    let m = move_of s c in
-    let a = sum_by-with_all in_key in_size m.in_new (without in_key [] r.ins) in
-    let b : sum_by in_size (without in_key [] r.ins) ≡ sum_by in_size r.ins = ap (sum_by in_size) (without_none r.ins) in
-    omega (arith, a, b)
-
-held_refused : (s : State) (p deal why detail : ℕ) (r : Row) → held_units (changed s (Refused p deal why detail) r) ≡ held_units r + 0
-held_refused s p deal why detail r =
-    let b : sum_by in_size (without in_key [] r.ins) ≡ sum_by in_size r.ins = ap (sum_by in_size) (without_none r.ins) in
-    omega (arith, b)
 
 -- WHAT IS HELD
 
@@ -177,11 +226,54 @@ or_middle : (a b c : Bool) → ((a || b) || c) ≡ ((a || c) || b)
 or_middle true b c = refl
 or_middle false b c = or_swap b c
 
+-- either of two is not both not
+either_was : (a b a' b' : Bool) → (a || b) ≡ true → (a ≡ true → a' ≡ true) → (b ≡ true → b' ≡ true) → (a' || b') ≡ true
+either_was true b a' b' h f g = rw (f refl) refl
+either_was false b a' b' h f g = rw (g h) (or_true a')
+
+any_more : (f : InEntry → Bool) (e : InEntry) (l : List InEntry) → list_any f (with_one in_key e l) ≡ (list_any f l || f e)
+any_more f e [] = or_none (f e)
+any_more f e (x ∷ xs) = by_cases (is_lt (object_cmp e.object x.object))
+    (λ k. rw k (or_swap (f e) (f x || list_any f xs)))
+    (λ k. rw k (ap (λ (b : Bool). f x || b) (any_more f e xs) ∙ or_last (f x) (list_any f xs) (f e)))
+
 has_more : (e : InEntry) (l : List InEntry) (o : Object) → has in_key (with_one in_key e l) o ≡ (has in_key l o || object_eq e.object o)
-has_more e [] o = or_none (object_eq e.object o)
-has_more e (x ∷ xs) o = by_cases (is_lt (object_cmp e.object x.object))
-    (λ k. rw k (or_swap (object_eq e.object o) (object_eq x.object o || has in_key xs o)))
-    (λ k. rw k (ap (λ (b : Bool). object_eq x.object o || b) (has_more e xs o) ∙ or_last (object_eq x.object o) (has in_key xs o) (object_eq e.object o)))
+has_more e l o = any_more (λ (x : InEntry). object_eq (in_key x) o) e l
+
+-- an entry that passes a test among those that a filter leaves was one of the list
+any_less : {E : Type 0} (f q : E → Bool) (l : List E) → list_any f (filter q l) ≡ true → list_any f l ≡ true
+any_less f q [] h = h
+any_less f q (e ∷ es) h = by_cases (f e)
+    (λ k. rw k refl)
+    (λ k. rw k (any_less f q es (by_cases (q e) (λ j. let h' = rw j at h in rw k at h') (λ j. rw j at h))))
+
+and_none : (a : Bool) → (a && false) ≡ false
+and_none true = refl
+and_none false = refl
+
+-- what leaves is no longer there, and what is not named stays
+has_less : (objects : List Object) (l : List InEntry) (o : Object) → has in_key (without in_key objects l) o ≡ (has in_key l o && not (listed objects o))
+has_less objects [] o = refl
+has_less objects (e ∷ es) o = by_cases (listed objects e.object)
+    (λ k. rw k (has_less objects es o ∙ by_cases (object_eq e.object o)
+    (λ j. let gone : listed objects o ≡ true = sym (carry (listed objects) e.object o j) ∙ k in rw (j, gone) (and_none (has in_key es o)))
+    (λ j. rw j refl)))
+    (λ k. rw k (by_cases (object_eq e.object o)
+    (λ j. let stays : listed objects o ≡ false = sym (carry (listed objects) e.object o j) ∙ k in rw (j, stays) refl)
+    (λ j. rw j (has_less objects es o))))
+
+-- slots that leave are no chunks
+chunk_stays : (numbers : List ℕ) (l : List InEntry) (q : List ℕ) → has in_key (without in_key (slots numbers) l) (Chunk q) ≡ has in_key l (Chunk q)
+chunk_stays numbers l q = has_less (slots numbers) l (Chunk q) ∙ ap (λ (b : Bool). has in_key l (Chunk q) && not b) (no_chunk numbers q) ∙ and_true (has in_key l (Chunk q))
+  where
+    and_true : (a : Bool) → (a && true) ≡ a
+    and_true true = refl
+    and_true false = refl
+
+-- nor are slots that come
+direct_chunk : (numbers : List ℕ) (l : List InEntry) (q : List ℕ) → has in_key (with_all in_key (direct_slots numbers) l) (Chunk q) ≡ has in_key l (Chunk q)
+direct_chunk [] l q = refl
+direct_chunk (n ∷ ns) l q = direct_chunk ns (with_one in_key (direct_slot n) l) q ∙ has_more (direct_slot n) l (Chunk q) ∙ or_none (has in_key l (Chunk q))
 
 -- a row gained the chunk, if b
 abbrev pub Gains : (Row → Row) → List ℕ → Bool → Type 0
@@ -191,6 +283,25 @@ pub fresh_gains : (s : State) (p deal : ℕ) (name : List ℕ) (first len : ℕ)
 fresh_gains s p deal name first len new body q r =
     ap (λ (l : List InEntry). has in_key (with_one in_key (chunk_in name (units len)) l) (Chunk q)) (without_none r.ins) ∙ has_more (chunk_in name (units len)) r.ins (Chunk q)
 
+pub swap_gains : (s : State) (p deal : ℕ) (name numbers : List ℕ) (len : ℕ) (new : Bool) (body : Option (List ℕ)) (q : List ℕ) → Gains (changed s (TookSwap p deal name numbers len new body)) q (name_eq name q)
+swap_gains s p deal name numbers len new body q r =
+    has_more (chunk_in name (units len)) (without in_key (slots numbers) r.ins) (Chunk q) ∙ ap (λ (b : Bool). b || name_eq name q) (chunk_stays numbers r.ins q)
+
+-- a row lost the chunk
+abbrev pub Loses : (Row → Row) → List ℕ → List ℕ → Type 0
+Loses f name q = (r : Row) → has in_key (f r).ins (Chunk q) ≡ (has in_key r.ins (Chunk q) && not (name_eq name q))
+
+lone : (name q : List ℕ) → listed (Chunk name ∷ []) (Chunk q) ≡ name_eq name q
+lone name q = or_none (name_eq name q)
+
+pub let_go_loses : (s : State) (p deal : ℕ) (name numbers q : List ℕ) → Loses (changed s (LetGo p deal name numbers)) name q
+let_go_loses s p deal name numbers q r = has_less (Chunk name ∷ []) r.ins (Chunk q) ∙ ap (λ (b : Bool). has in_key r.ins (Chunk q) && not b) (lone name q)
+
+pub put_back_loses : (s : State) (p deal : ℕ) (name numbers : List ℕ) (body : Option (List ℕ)) (q : List ℕ) → Loses (changed s (LetGoBack p deal name numbers body)) name q
+put_back_loses s p deal name numbers body q r =
+    direct_chunk numbers (without in_key (Chunk name ∷ []) r.ins) q
+    ∙ has_less (Chunk name ∷ []) r.ins (Chunk q) ∙ ap (λ (b : Bool). has in_key r.ins (Chunk q) && not b) (lone name q)
+
 pub refused_gains : (s : State) (p deal why detail : ℕ) (q : List ℕ) → Gains (changed s (Refused p deal why detail)) q false
 refused_gains s p deal why detail q r = ap (λ (l : List InEntry). has in_key l (Chunk q)) (without_none r.ins) ∙ sym (or_none (has in_key r.ins (Chunk q)))
 
@@ -199,6 +310,15 @@ all_gain p f q b [] here gains = absurd (false≢true here)
 all_gain p f q b (x ∷ xs) here gains = by_cases (x.0 == p)
     (λ k. rw k (ap (λ (c : Bool). c || held_in xs q) (gains x.1) ∙ or_middle (has in_key x.1.ins (Chunk q)) b (held_in xs q)))
     (λ k. let rest = rw k at here in rw k (ap (λ (c : Bool). has in_key x.1.ins (Chunk q) || c) (all_gain p f q b xs rest gains) ∙ or_last (has in_key x.1.ins (Chunk q)) (held_in xs q) b))
+
+-- what is held after a row lost a chunk was held before
+all_lose : (p : ℕ) (f : Row → Row) (name q : List ℕ) (rows : List (ℕ × Row)) → Loses f name q → held_in (at_row p f rows) q ≡ true → held_in rows q ≡ true
+all_lose p f name q [] loses h = h
+all_lose p f name q (x ∷ xs) loses h = by_cases (x.0 == p)
+    (λ k. let h' = rw k at h in either_was (has in_key (f x.1).ins (Chunk q)) (held_in xs q) (has in_key x.1.ins (Chunk q)) (held_in xs q) h'
+    (λ a. (and_parts (has in_key x.1.ins (Chunk q)) (not (name_eq name q)) (sym (loses x.1) ∙ a)).0) (λ a. a))
+    (λ k. let h' = rw k at h in either_was (has in_key x.1.ins (Chunk q)) (held_in (at_row p f xs) q) (has in_key x.1.ins (Chunk q)) (held_in xs q) h'
+    (λ a. a) (λ a. all_lose p f name q xs loses a))
 
 none_blank : (ps : List PeerRow) (q : List ℕ) → held_in (blank_rows ps) q ≡ false
 none_blank [] q = refl
@@ -216,6 +336,22 @@ pub held_fresh_in : (s : State) (p deal : ℕ) (name : List ℕ) (first len : �
 held_fresh_in s p deal name first len new body q peer =
     ap (λ (l : List (ℕ × Row)). held_in l q) (rows_fresh s p deal name first len new body)
     ∙ all_gain p (changed s (TookFresh p deal name first len new body)) q (name_eq name q) s.rows peer (fresh_gains s p deal name first len new body q)
+
+pub held_swap_in : (s : State) (p deal : ℕ) (name numbers : List ℕ) (len : ℕ) (new : Bool) (body : Option (List ℕ)) (q : List ℕ) → AllPlain s.rows → is_peer s p ≡ true → held_in (after s (TookSwap p deal name numbers len new body)).rows q ≡ (held_in s.rows q || name_eq name q)
+held_swap_in s p deal name numbers len new body q plain peer =
+    let c : Change = TookSwap p deal name numbers len new body in
+    ap (λ (l : List (ℕ × Row)). held_in l q) (rows_one s c p plain refl refl)
+    ∙ all_gain p (changed s c) q (name_eq name q) s.rows peer (swap_gains s p deal name numbers len new body q)
+
+held_let_go_in : (s : State) (p deal : ℕ) (name numbers q : List ℕ) → AllPlain s.rows → held_in (after s (LetGo p deal name numbers)).rows q ≡ true → held_in s.rows q ≡ true
+held_let_go_in s p deal name numbers q plain h =
+    let c : Change = LetGo p deal name numbers in
+    all_lose p (changed s c) name q s.rows (let_go_loses s p deal name numbers q) (sym (ap (λ (l : List (ℕ × Row)). held_in l q) (rows_one s c p plain refl refl)) ∙ h)
+
+held_put_back_in : (s : State) (p deal : ℕ) (name numbers : List ℕ) (body : Option (List ℕ)) (q : List ℕ) → AllPlain s.rows → held_in (after s (LetGoBack p deal name numbers body)).rows q ≡ true → held_in s.rows q ≡ true
+held_put_back_in s p deal name numbers body q plain h =
+    let c : Change = LetGoBack p deal name numbers body in
+    all_lose p (changed s c) name q s.rows (put_back_loses s p deal name numbers body q) (sym (ap (λ (l : List (ℕ × Row)). held_in l q) (rows_one s c p plain refl refl)) ∙ h)
 
 pub held_refused_in : (s : State) (p deal why detail : ℕ) (q : List ℕ) → is_peer s p ≡ true → held_in (after s (Refused p deal why detail)).rows q ≡ held_in s.rows q
 held_refused_in s p deal why detail q peer =
@@ -281,11 +417,12 @@ pub record IsPlain (s : State) : Type 0 where
   pub rows : AllPlain s.rows
   pub own : AllFree s.own
   pub chosen : s.chosen ≡ []
-  pub issued : held_total s.rows ≡ s.issued
+  pub issued : held_total s.rows ≤ s.issued
   pub before : s.changes ≡ 0 → s.issued ≡ 0
+  pub good : Good s
 
 pub plain_nothing : IsPlain nothing_yet
-plain_nothing = record { rows = tt; own = tt; chosen = refl; issued = refl; before = λ e. refl }
+plain_nothing = record { rows = tt; own = tt; chosen = refl; issued = omega arith; before = λ e. refl; good = good_nothing }
 
 -- no row of a plain state names an own chunk
 pub none_named : (rows : List (ℕ × Row)) (n : List ℕ) → AllPlain rows → is_named rows n ≡ false
@@ -305,6 +442,9 @@ own_is s (Kept name len new body) p b = given_free s.rows (own_with (record { na
 own_is s (Snapped number ticket files folders bytes left names) p b = ap (given_up s.rows) (lifted_free names s.own p.own) ∙ given_free s.rows s.own p.own
 own_is s (Forgot number) p b = marked_go s.rows (kept_lists (kept_without number s.kept)) s.own (λ n. none_named s.rows n p.rows) p.own
 own_is s (TookFresh q deal name first len new body) p b = given_free (after s (TookFresh q deal name first len new body)).rows s.own p.own
+own_is s (TookSwap q deal name numbers len new body) p b = given_free (after s (TookSwap q deal name numbers len new body)).rows s.own p.own
+own_is s (LetGo q deal name numbers) p b = given_free (after s (LetGo q deal name numbers)).rows s.own p.own
+own_is s (LetGoBack q deal name numbers body) p b = given_free (after s (LetGoBack q deal name numbers body)).rows s.own p.own
 own_is s (Refused q deal why detail) p b = given_free (after s (Refused q deal why detail)).rows s.own p.own
 own_is s _ p b = absurd (false≢true b)
 
@@ -316,8 +456,8 @@ own_next_free s _ f = f
 own_free : (s : State) (c : Change) → IsPlain s → is_built c ≡ true → AllFree (after s c).own
 own_free s c p b = subst AllFree (sym (own_is s c p b)) (own_next_free s c p.own)
 
-plain_begun : (s : State) (body : Option (List ℕ)) → IsPlain s → all_of (tests s (Begun body)) ≡ true → IsPlain (after s (Begun body))
-plain_begun s body p h =
+plain_begun : (s : State) (body : Option (List ℕ)) → IsPlain s → Good (after s (Begun body)) → all_of (tests s (Begun body)) ≡ true → IsPlain (after s (Begun body))
+plain_begun s body p good h =
     let ts = parts (tests s (Begun body)) h in
     record {
       rows = plain_first_rows (settings_of_body body);
@@ -325,27 +465,49 @@ plain_begun s body p h =
       chosen = p.chosen;
       issued = omega (arith, held_first_rows (settings_of_body body), p.before (eqb-true s.changes 0 ts.0));
       before = λ e. absurd (omega (arith, e));
+      good = good;
     }
 
 -- one more step that leaves the rows
-plain_same : (s s' : State) → IsPlain s → s'.rows ≡ s.rows → AllFree s'.own → s'.chosen ≡ s.chosen → s'.issued ≡ s.issued → s'.changes ≡ s.changes + 1 → IsPlain s'
-plain_same s s' was rows own chosen issued changes = record {
+plain_same : (s s' : State) → IsPlain s → Good s' → s'.rows ≡ s.rows → AllFree s'.own → s'.chosen ≡ s.chosen → s'.issued ≡ s.issued → s'.changes ≡ s.changes + 1 → IsPlain s'
+plain_same s s' was good rows own chosen issued changes = record {
   rows = subst AllPlain (sym rows) was.rows;
   own = own;
   chosen = chosen ∙ was.chosen;
-  issued = ap held_total rows ∙ was.issued ∙ sym issued;
+  issued = omega (arith, ap held_total rows, was.issued, issued);
   before = λ e. absurd (omega (arith, e, changes));
+  good = good;
 }
 
--- one more step over one row
-plain_changed : (s s' : State) (p u : ℕ) (f : Row → Row) → IsPlain s → s'.rows ≡ at_row p f s.rows → AllFree s'.own → s'.chosen ≡ s.chosen → s'.issued ≡ s.issued + u → s'.changes ≡ s.changes + 1 → has_row s.rows p ≡ true → ((r : Row) → IsPlainRow r → IsPlainRow (f r)) → ((r : Row) → held_units (f r) ≡ held_units r + u) → IsPlain s'
-plain_changed s s' p u f was rows own chosen issued changes here plain held = record {
-  rows = subst AllPlain (sym rows) (plain_at_row p f s.rows plain was.rows);
-  own = own;
-  chosen = chosen ∙ was.chosen;
-  issued = omega (arith, ap held_total rows, held_at_row p f u s.rows here held, was.issued, issued);
-  before = λ e. absurd (omega (arith, e, changes));
-}
+-- what a move brings to out(p) is the most by which that grows
+back_moved : (r : Row) (m : Move) → back_units (after_move m r) ≤ back_units r + sum_by out_size m.out_new
+back_moved r m = omega (arith, sum_by-with_all out_key out_size m.out_new (without out_key m.out_gone r.outs), sum_by-without out_key out_size m.out_gone r.outs)
+
+-- what a node owes grows by no more than what it is owed back, where nothing is lost: the two are the same
+held_grows : (a b u : ℕ) (r r' : Row) → IsTidy a r → IsTidy b r' → r'.debts ≡ [] → back_units r' ≤ back_units r + u → held_units r' ≤ held_units r + u
+held_grows a b u r r' t t' none back =
+    let no_debt : debt_units r' ≡ 0 = ap (sum_by debt_size) none in
+    omega (arith, t.balanced, t'.balanced, no_debt, back)
+
+-- one more step of a peer, over its row
+plain_changed : (s : State) (c : Change) (p u : ℕ) → IsPlain s → Good (after s c) → is_built c ≡ true → peer_of c ≡ Some p → is_peer s p ≡ true → (after s c).chosen ≡ s.chosen → (after s c).issued ≡ s.issued + u → ((r : Row) → IsPlainRow r → IsPlainRow (changed s c r)) → back_units (changed s c (row s p)) ≤ back_units (row s p) + u → IsPlain (after s c)
+plain_changed s c p u was good built peer here chosen issued plain back =
+    let rows = rows_one s c p was.rows built peer in
+    let now : row (after s c) p ≡ changed s c (row s p) = ap (λ (l : List (ℕ × Row)). row_in l p) rows ∙ row_in-at_row p (changed s c) s.rows here in
+    let tidy : IsTidy (after s c).issued (changed s c (row s p)) = subst (IsTidy (after s c).issued) now (good.rows p).tidy in
+    let none : (changed s c (row s p)).debts ≡ [] = (plain (row s p) (plain_row_in s.rows p was.rows)).debts in
+    let held = held_grows s.issued (after s c).issued u (row s p) (changed s c (row s p)) (was.good.rows p).tidy tidy none back in
+    record {
+      rows = subst AllPlain (sym rows) (plain_at_row p (changed s c) s.rows plain was.rows);
+      own = own_free s c was built;
+      chosen = chosen ∙ was.chosen;
+      issued = omega (arith, ap held_total rows, held_at_row p (changed s c) u s.rows here held, was.issued, issued);
+      before = λ e. absurd (suc_not (s.changes) e);
+      good = good;
+    }
+  where
+    suc_not : (n : ℕ) → n + 1 ≡ 0 → ⊥
+    suc_not n e = omega (arith, e)
 
 outs_none : (l : List OutEntry) → without out_key [] l ≡ l
 outs_none [] = refl
@@ -357,11 +519,40 @@ slots_only first u l n h = by_cases (has out_key (with_all out_key (own_slots fi
     (λ k. absurd (omega (arith, has-occurs out_key (with_all out_key (own_slots first u) (without out_key [] l)) (Chunk n) k, units_at-with_all out_key (λ _. 1) (own_slots first u) (without out_key [] l) (Chunk n), own_slots-chunk first u n, ap (λ m. occurs out_key m (Chunk n)) (outs_none l), lacks-units_at out_key (λ _. 1) l (Chunk n) h)))
     (λ k. k)
 
+-- nor do those that leave
+outs_less : (objects : List Object) (l : List OutEntry) (n : List ℕ) → has out_key l (Chunk n) ≡ false → has out_key (without out_key objects l) (Chunk n) ≡ false
+outs_less objects l n h = by_cases (has out_key (without out_key objects l) (Chunk n))
+    (λ k. absurd (false≢true (sym h ∙ any_less (λ (e : OutEntry). object_eq (out_key e) (Chunk n)) (λ e. not (listed objects (out_key e))) l k)))
+    (λ k. k)
+
+-- what comes passes the test, and so does what was there
+all_with : (t : InEntry → Bool) (e : InEntry) (l : List InEntry) → t e ≡ true → list_all t l ≡ true → list_all t (with_one in_key e l) ≡ true
+all_with t e [] h k = rw h refl
+all_with t e (x ∷ xs) h k =
+    let two = and_parts (t x) (list_all t xs) k in
+    by_cases (is_lt (object_cmp e.object x.object)) (λ j. rw (j, h) k) (λ j. rw (j, two.0) (all_with t e xs h two.1))
+
+all_direct : (numbers : List ℕ) (l : List InEntry) → list_all is_here l ≡ true → list_all is_here (with_all in_key (direct_slots numbers) l) ≡ true
+all_direct [] l h = h
+all_direct (n ∷ ns) l h = all_direct ns (with_one in_key (direct_slot n) l) (all_with is_here (direct_slot n) l refl h)
+
+here_less : (objects : List Object) (r : Row) → IsPlainRow r → list_all is_here (without in_key objects r.ins) ≡ true
+here_less objects r h = all_kept is_here (λ e. not (listed objects (in_key e))) r.ins h.here
+
 plain_row_fresh : (s : State) (p deal : ℕ) (name : List ℕ) (first len : ℕ) (new : Bool) (body : Option (List ℕ)) (r : Row) → IsPlainRow r → IsPlainRow (changed s (TookFresh p deal name first len new body) r)
-plain_row_fresh s p deal name first len new body r h = record { pending = h.pending; debts = rw h.debts refl; asked = h.asked; mine = h.mine; fails = h.fails; due = h.due; barred = h.barred; turned = h.turned; slots = λ n. slots_only first (units len) r.outs n (h.slots n) }
+plain_row_fresh s p deal name first len new body r h = record { pending = h.pending; debts = rw h.debts refl; asked = h.asked; mine = h.mine; fails = h.fails; due = h.due; barred = h.barred; turned = h.turned; slots = λ n. slots_only first (units len) r.outs n (h.slots n); here = all_with is_here (chunk_in name (units len)) (without in_key [] r.ins) refl (here_less [] r h) }
+
+plain_row_swap : (s : State) (p deal : ℕ) (name numbers : List ℕ) (len : ℕ) (new : Bool) (body : Option (List ℕ)) (r : Row) → IsPlainRow r → IsPlainRow (changed s (TookSwap p deal name numbers len new body) r)
+plain_row_swap s p deal name numbers len new body r h = record { pending = h.pending; debts = rw h.debts refl; asked = h.asked; mine = h.mine; fails = h.fails; due = h.due; barred = h.barred; turned = h.turned; slots = λ n. outs_less [] r.outs n (h.slots n); here = all_with is_here (chunk_in name (units len)) (without in_key (slots numbers) r.ins) refl (here_less (slots numbers) r h) }
+
+plain_row_let_go : (s : State) (p deal : ℕ) (name numbers : List ℕ) (r : Row) → IsPlainRow r → IsPlainRow (changed s (LetGo p deal name numbers) r)
+plain_row_let_go s p deal name numbers r h = record { pending = h.pending; debts = rw h.debts refl; asked = h.asked; mine = h.mine; fails = h.fails; due = h.due; barred = h.barred; turned = h.turned; slots = λ n. outs_less (slots numbers) r.outs n (h.slots n); here = here_less (Chunk name ∷ []) r h }
+
+plain_row_put_back : (s : State) (p deal : ℕ) (name numbers : List ℕ) (body : Option (List ℕ)) (r : Row) → IsPlainRow r → IsPlainRow (changed s (LetGoBack p deal name numbers body) r)
+plain_row_put_back s p deal name numbers body r h = record { pending = h.pending; debts = rw h.debts refl; asked = h.asked; mine = h.mine; fails = h.fails; due = h.due; barred = h.barred; turned = h.turned; slots = λ n. outs_less [] r.outs n (h.slots n); here = all_direct numbers (without in_key (Chunk name ∷ []) r.ins) (here_less (Chunk name ∷ []) r h) }
 
 plain_row_refused : (s : State) (p deal why detail : ℕ) (r : Row) → IsPlainRow r → IsPlainRow (changed s (Refused p deal why detail) r)
-plain_row_refused s p deal why detail r h = record { pending = h.pending; debts = rw h.debts refl; asked = h.asked; mine = h.mine; fails = h.fails; due = h.due; barred = h.barred; turned = h.turned; slots = λ n. ap (λ l. has out_key l (Chunk n)) (outs_none r.outs) ∙ h.slots n }
+plain_row_refused s p deal why detail r h = record { pending = h.pending; debts = rw h.debts refl; asked = h.asked; mine = h.mine; fails = h.fails; due = h.due; barred = h.barred; turned = h.turned; slots = λ n. outs_less [] r.outs n (h.slots n); here = here_less [] r h }
 
 -- every kind but Begun comes after another change
 pub begun_before : (s : State) (c : Change) → is_begun c ≡ false → allowed s c ≡ true → 1 ≤ s.changes
@@ -372,25 +563,38 @@ begun_before s c none h =
     let some : nat_lt 0 s.changes ≡ true = rw none at one in
     ltb-true 0 s.changes some
 
-pub plain_after : (s : State) (c : Change) → IsPlain s → is_built c ≡ true → allowed s c ≡ true → IsPlain (after s c)
-plain_after s (Begun body) p b h = plain_begun s body p (allows s (Begun body) h).tests
-plain_after s (Kept name len new body) p b h = plain_same s (after s (Kept name len new body)) p refl (own_free s (Kept name len new body) p refl) refl refl refl
-plain_after s (Snapped number ticket files folders bytes left names) p b h = plain_same s (after s (Snapped number ticket files folders bytes left names)) p refl (own_free s (Snapped number ticket files folders bytes left names) p refl) refl refl refl
-plain_after s (Forgot number) p b h = plain_same s (after s (Forgot number)) p refl (own_free s (Forgot number) p refl) refl refl refl
-plain_after s (TookFresh q deal name first len new body) p b h =
-    let c : Change = TookFresh q deal name first len new body in
-    plain_changed s (after s c) q (units len) (changed s c) p (rows_fresh s q deal name first len new body) (own_free s c p refl) refl refl refl (allows s c h).peer (plain_row_fresh s q deal name first len new body) (held_fresh s q deal name first len new body)
-plain_after s (Refused q deal why detail) p b h =
-    let c : Change = Refused q deal why detail in
-    plain_changed s (after s c) q 0 (changed s c) p (rows_refused s q deal why detail) (own_free s c p refl) refl (omega arith) refl (allows s c h).peer (plain_row_refused s q deal why detail) (held_refused s q deal why detail)
-plain_after s _ p b h = absurd (false≢true b)
+pub plain_after : (s : State) (c : Change) → IsPlain s → is_built c ≡ true → in_grammar c ≡ true → allowed s c ≡ true → IsPlain (after s c)
+plain_after s c p b g h = by_kind c b h (good_after s c p.good g h)
+  where
+    by_kind : (c : Change) → is_built c ≡ true → allowed s c ≡ true → Good (after s c) → IsPlain (after s c)
+    by_kind (Begun body) b h good = plain_begun s body p good (allows s (Begun body) h).tests
+    by_kind (Kept name len new body) b h good = plain_same s (after s (Kept name len new body)) p good refl (own_free s (Kept name len new body) p refl) refl refl refl
+    by_kind (Snapped number ticket files folders bytes left names) b h good = plain_same s (after s (Snapped number ticket files folders bytes left names)) p good refl (own_free s (Snapped number ticket files folders bytes left names) p refl) refl refl refl
+    by_kind (Forgot number) b h good = plain_same s (after s (Forgot number)) p good refl (own_free s (Forgot number) p refl) refl refl refl
+    by_kind (TookFresh q deal name first len new body) b h good =
+        let c : Change = TookFresh q deal name first len new body in
+        plain_changed s c q (units len) p good refl refl (allows s c h).peer refl refl (plain_row_fresh s q deal name first len new body)
+        (omega (arith, back_moved (row s q) (move_of s c), sum-own_slots first (units len)))
+    by_kind (TookSwap q deal name numbers len new body) b h good =
+        let c : Change = TookSwap q deal name numbers len new body in
+        plain_changed s c q 0 p good refl refl (allows s c h).peer refl (omega arith) (plain_row_swap s q deal name numbers len new body) (back_moved (row s q) (move_of s c))
+    by_kind (LetGo q deal name numbers) b h good =
+        let c : Change = LetGo q deal name numbers in
+        plain_changed s c q 0 p good refl refl (allows s c h).peer refl (omega arith) (plain_row_let_go s q deal name numbers) (back_moved (row s q) (move_of s c))
+    by_kind (LetGoBack q deal name numbers body) b h good =
+        let c : Change = LetGoBack q deal name numbers body in
+        plain_changed s c q 0 p good refl refl (allows s c h).peer refl (omega arith) (plain_row_put_back s q deal name numbers body) (back_moved (row s q) (move_of s c))
+    by_kind (Refused q deal why detail) b h good =
+        let c : Change = Refused q deal why detail in
+        plain_changed s c q 0 p good refl refl (allows s c h).peer refl (omega arith) (plain_row_refused s q deal why detail) (back_moved (row s q) (move_of s c))
+    by_kind _ b h good = absurd (false≢true b)
 
 pub plain_from : (s : State) (h : List Change) → IsPlain s → lawful_from s h ≡ true → list_all is_built h ≡ true → IsPlain (state_from s h)
 plain_from s [] p v b = p
 plain_from s (c ∷ cs) p v b =
     let l = lawful_cons s c cs v in
     let built = and_parts (is_built c) (list_all is_built cs) b in
-    plain_from (after s c) cs (plain_after s c p built.0 l.allows) l.rest built.1
+    plain_from (after s c) cs (plain_after s c p built.0 l.grammar l.allows) l.rest built.1
 
 -- so far no history leaves a debt, a deal under way or a mark
 pub plain_state : (h : List Change) → is_lawful h ≡ true → list_all is_built h ≡ true → IsPlain (state h)
@@ -399,9 +603,12 @@ plain_state h v b = plain_from nothing_yet h plain_nothing v b
 pub plain_row : (h : List Change) (p : ℕ) → is_lawful h ≡ true → list_all is_built h ≡ true → IsPlainRow (row (state h) p)
 plain_row h p v b = plain_row_in (state h).rows p (plain_state h v b).rows
 
--- what is used is what the peers' chunks have, and as many claims were drawn
-pub used_plain : (s : State) → IsPlain s → used s ≡ s.issued
-used_plain s p = used_in s s.rows p.rows ∙ p.issued
+-- what is used is what the peers have here, and at least as many claims were drawn
+pub used_is : (s : State) → IsPlain s → used s ≡ held_total s.rows
+used_is s p = used_in s s.rows p.rows
+
+pub used_most : (s : State) → IsPlain s → used s ≤ s.issued
+used_most s p = omega (arith, used_is s p, p.issued)
 
 -- WHAT A CHANGE HOLDS
 
@@ -433,13 +640,15 @@ brought_held s (TookFresh q deal name first len true body) n p b h is =
     let here : held_in (after s c).rows n ≡ true = held_fresh_in s q deal name first len true body n (allows s c h).peer ∙ ap (λ x. held_in s.rows n || x) is ∙ or_true (held_in s.rows n) in
     ap (λ x. own_has (after s c).own n || x) here ∙ or_true (own_has (after s c).own n)
 brought_held s (TookFresh q deal name first len false body) n p b h is = absurd (false≢true is)
+brought_held s (TookSwap q deal name numbers len true body) n p b h is =
+    let c : Change = TookSwap q deal name numbers len true body in
+    let here : held_in (after s c).rows n ≡ true = held_swap_in s q deal name numbers len true body n p.rows (allows s c h).peer ∙ ap (λ x. held_in s.rows n || x) is ∙ or_true (held_in s.rows n) in
+    ap (λ x. own_has (after s c).own n || x) here ∙ or_true (own_has (after s c).own n)
+brought_held s (TookSwap q deal name numbers len false body) n p b h is = absurd (false≢true is)
+brought_held s (LetGo q deal name numbers) n p b h is = absurd (false≢true is)
+brought_held s (LetGoBack q deal name numbers body) n p b h is = absurd (false≢true is)
 brought_held s (Refused q deal why detail) n p b h is = absurd (false≢true is)
 brought_held s _ n p b h is = absurd (false≢true b)
-
--- either of two is not both not
-either_was : (a b a' b' : Bool) → (a || b) ≡ true → (a ≡ true → a' ≡ true) → (b ≡ true → b' ≡ true) → (a' || b') ≡ true
-either_was true b a' b' h f g = rw (f refl) refl
-either_was false b a' b' h f g = rw (g h) (or_true a')
 
 not_new : (held new : Bool) → (cond held (not new) new) ≡ true → new ≡ false → held ≡ true
 not_new true new t e = refl
@@ -480,6 +689,28 @@ was_held s (TookFresh q deal name first len new body) n some p b h held none =
     flag : (new : Bool) → name_eq name n ≡ true → brings_name n (TookFresh q deal name first len new body) ≡ false → new ≡ false
     flag true k e = absurd (false≢true (sym e ∙ k))
     flag false k e = refl
+was_held s (TookSwap q deal name numbers len new body) n some p b h held none =
+    let c : Change = TookSwap q deal name numbers len new body in
+    let ts = parts (tests s c) (allows s c h).tests in
+    by_cases (name_eq name n)
+    (λ k. ap (is_held s) (sym (name_same name n k)) ∙ not_new (is_held s name) new ts.1.1.0 (flag new k none))
+    (λ k. either_was (own_has (after s c).own n) (held_in (after s c).rows n) (own_has s.own n) (held_in s.rows n) held
+    (λ a. sym (ap (λ own. own_has own n) (own_is s c p refl)) ∙ a)
+    (λ a. sym (held_swap_in s q deal name numbers len new body n p.rows (allows s c h).peer ∙ ap (λ x. held_in s.rows n || x) k ∙ or_none (held_in s.rows n)) ∙ a))
+  where
+    flag : (new : Bool) → name_eq name n ≡ true → brings_name n (TookSwap q deal name numbers len new body) ≡ false → new ≡ false
+    flag true k e = absurd (false≢true (sym e ∙ k))
+    flag false k e = refl
+was_held s (LetGo q deal name numbers) n some p b h held none =
+    let c : Change = LetGo q deal name numbers in
+    either_was (own_has (after s c).own n) (held_in (after s c).rows n) (own_has s.own n) (held_in s.rows n) held
+    (λ a. sym (ap (λ own. own_has own n) (own_is s c p refl)) ∙ a)
+    (held_let_go_in s q deal name numbers n p.rows)
+was_held s (LetGoBack q deal name numbers body) n some p b h held none =
+    let c : Change = LetGoBack q deal name numbers body in
+    either_was (own_has (after s c).own n) (held_in (after s c).rows n) (own_has s.own n) (held_in s.rows n) held
+    (λ a. sym (ap (λ own. own_has own n) (own_is s c p refl)) ∙ a)
+    (held_put_back_in s q deal name numbers body n p.rows)
 was_held s (Refused q deal why detail) n some p b h held none =
     let c : Change = Refused q deal why detail in
     either_was (own_has (after s c).own n) (held_in (after s c).rows n) (own_has s.own n) (held_in s.rows n) held
@@ -510,35 +741,137 @@ brings_none s (TookFresh q deal name first len true body) n b h held =
     absurd (false≢true bad))
     (λ k. k)
 brings_none s (TookFresh q deal name first len false body) n b h held = refl
+brings_none s (TookSwap q deal name numbers len true body) n b h held =
+    let c : Change = TookSwap q deal name numbers len true body in
+    let ts = parts (tests s c) (allows s c h).tests in
+    by_cases (name_eq name n)
+    (λ k. let here : is_held s name ≡ true = ap (is_held s) (name_same name n k) ∙ held in
+    let bad = rw here at ts.1.1.0 in
+    absurd (false≢true bad))
+    (λ k. k)
+brings_none s (TookSwap q deal name numbers len false body) n b h held = refl
+brings_none s (LetGo q deal name numbers) n b h held = refl
+brings_none s (LetGoBack q deal name numbers body) n b h held = refl
 brings_none s (Refused q deal why detail) n b h held = refl
 brings_none s _ n b h held = absurd (false≢true b)
 
 -- WHICH BODIES ARE NEEDED
 
--- the kinds that are built give no slot
-gives_none : (c : Change) → is_built c ≡ true → slots_given c ≡ []
-gives_none (Begun body) b = refl
-gives_none (Kept name len new body) b = refl
-gives_none (Snapped number ticket files folders bytes left names) b = refl
-gives_none (Forgot number) b = refl
-gives_none (TookFresh q deal name first len new body) b = refl
-gives_none (Refused q deal why detail) b = refl
-gives_none _ b = absurd (false≢true b)
+-- the row of each peer after a change of one
+pub row_then : (s : State) (c : Change) (q p : ℕ) → AllPlain s.rows → is_built c ≡ true → peer_of c ≡ Some q → is_peer s q ≡ true → row (after s c) p ≡ cond (q == p) (changed s c (row s p)) (row s p)
+row_then s c q p plain built peer here =
+    let rows = rows_one s c q plain built peer in
+    by_cases (q == p)
+    (λ k. let same : q ≡ p = eqb-true q p k in
+    rw k (ap (λ (l : List (ℕ × Row)). row_in l p) rows ∙ subst (λ x. row_in (at_row q (changed s c) s.rows) x ≡ changed s c (row s x)) same (row_in-at_row q (changed s c) s.rows here)))
+    (λ k. rw k (ap (λ (l : List (ℕ × Row)). row_in l p) rows ∙ row_in-at_other q p (changed s c) s.rows k))
 
-no_slot : (s : State) (o : Option ℕ) (later : List Change) → needs_slot s o [] later ≡ false
-no_slot s None later = refl
-no_slot s (Some p) later = refl
+-- the list has the slot, with its bytes here
+abbrev pub has_direct : List InEntry → ℕ → Bool
+has_direct l n = has_so in_key is_direct l (Slot n)
 
--- so what they need is the beginning, and the bytes of a name
-pub needs_names : (s : State) (c : Change) (later : List Change) → is_built c ≡ true → is_needed_by s c later ≡ (is_begun c || needs_name s (brings c) later)
-needs_names s c later b =
-    ap (λ l. is_begun c || needs_name s (brings c) later || needs_slot s (peer_of c) l later) (gives_none c b)
-    ∙ ap (λ x. is_begun c || needs_name s (brings c) later || x) (no_slot s (peer_of c) later)
-    ∙ or_none (is_begun c || needs_name s (brings c) later)
+-- a chunk that comes is no slot, and what leaves was there
+direct_beside : (name : List ℕ) (u : ℕ) (objects : List Object) (l : List InEntry) (n : ℕ) → has_direct (with_one in_key (chunk_in name u) (without in_key objects l)) n ≡ true → has_direct l n ≡ true
+direct_beside name u objects l n h =
+    let t : InEntry → Bool = λ e. object_eq (in_key e) (Slot n) && is_direct e in
+    any_less t (λ e. not (listed objects (in_key e))) l (sym (any_more t (chunk_in name u) (without in_key objects l) ∙ or_none (list_any t (without in_key objects l))) ∙ h)
+
+direct_left : (objects : List Object) (l : List InEntry) (n : ℕ) → has_direct (without in_key objects l) n ≡ true → has_direct l n ≡ true
+direct_left objects l n h = any_less (λ (e : InEntry). object_eq (in_key e) (Slot n) && is_direct e) (λ e. not (listed objects (in_key e))) l h
+
+-- of slots that come, the others were there
+direct_other : (numbers : List ℕ) (l : List InEntry) (n : ℕ) → list_any (λ m. m == n) numbers ≡ false → has_direct (with_all in_key (direct_slots numbers) l) n ≡ has_direct l n
+direct_other [] l n h = refl
+direct_other (m ∷ ms) l n h =
+    let two = neither_is (m == n) (list_any (λ m. m == n) ms) h in
+    direct_other ms (with_one in_key (direct_slot m) l) n two.1
+    ∙ any_more (λ (e : InEntry). object_eq (in_key e) (Slot n) && is_direct e) (direct_slot m) l
+    ∙ ap (λ (b : Bool). has_direct l n || (b && true)) two.0 ∙ or_none (has_direct l n)
+  where
+    neither_is : (a b : Bool) → (a || b) ≡ false → (a ≡ false) × (b ≡ false)
+    neither_is true b k = absurd (false≢true (sym k))
+    neither_is false b k = (refl, k)
+
+any_stays : (f : InEntry → Bool) (es l : List InEntry) → list_any f l ≡ true → list_any f (with_all in_key es l) ≡ true
+any_stays f [] l h = h
+any_stays f (e ∷ es) l h = any_stays f es (with_one in_key e l) (any_more f e l ∙ ap (λ (b : Bool). b || f e) h)
+
+-- and they are there
+direct_given : (numbers : List ℕ) (l : List InEntry) (n : ℕ) → list_any (λ m. m == n) numbers ≡ true → has_direct (with_all in_key (direct_slots numbers) l) n ≡ true
+direct_given [] l n h = absurd (false≢true h)
+direct_given (m ∷ ms) l n h = by_cases (m == n)
+    (λ k. let t : InEntry → Bool = λ e. object_eq (in_key e) (Slot n) && is_direct e in
+    let here : list_any t (with_one in_key (direct_slot m) l) ≡ true = any_more t (direct_slot m) l ∙ ap (λ (b : Bool). list_any t l || (b && true)) k ∙ or_true (list_any t l) in
+    any_stays t (direct_slots ms) (with_one in_key (direct_slot m) l) here)
+    (λ k. direct_given ms (with_one in_key (direct_slot m) l) n (rw k at h))
+
+-- a slot of a peer's that is Direct after a change of one was so before it
+direct_row : (s : State) (c : Change) (q p n : ℕ) → IsPlain s → is_built c ≡ true → peer_of c ≡ Some q → is_peer s q ≡ true → ((q == p) ≡ true → has_direct (changed s c (row s p)).ins n ≡ true → has_direct (row s p).ins n ≡ true) → has_direct (row (after s c) p).ins n ≡ true → has_direct (row s p).ins n ≡ true
+direct_row s c q p n plain built peer here f h =
+    let now : has_direct (cond (q == p) (changed s c (row s p)) (row s p)).ins n ≡ true = ap (λ (r : Row). has_direct r.ins n) (sym (row_then s c q p plain.rows built peer here)) ∙ h in
+    by_cases (q == p) (λ k. f k (rw k at now)) (λ k. rw k at now)
+
+-- a slot that is Direct was so before, or the change gives its bytes
+pub was_direct : (s : State) (c : Change) (p n : ℕ) → 1 ≤ s.changes → IsPlain s → is_built c ≡ true → allowed s c ≡ true → has_direct (row (after s c) p).ins n ≡ true → gives_slot p n c ≡ false → has_direct (row s p).ins n ≡ true
+was_direct s (Begun body) p n some plain b h is none = let ts = parts (tests s (Begun body)) (allows s (Begun body) h).tests in absurd (omega (arith, some, eqb-true s.changes 0 ts.0))
+was_direct s (Kept name len new body) p n some plain b h is none = is
+was_direct s (Snapped number ticket files folders bytes left names) p n some plain b h is none = is
+was_direct s (Forgot number) p n some plain b h is none = is
+was_direct s (TookFresh q deal name first len new body) p n some plain b h is none =
+    let c : Change = TookFresh q deal name first len new body in
+    direct_row s c q p n plain refl refl (allows s c h).peer (λ k. direct_beside name (units len) [] (row s p).ins n) is
+was_direct s (TookSwap q deal name numbers len new body) p n some plain b h is none =
+    let c : Change = TookSwap q deal name numbers len new body in
+    direct_row s c q p n plain refl refl (allows s c h).peer (λ k. direct_beside name (units len) (slots numbers) (row s p).ins n) is
+was_direct s (LetGo q deal name numbers) p n some plain b h is none =
+    let c : Change = LetGo q deal name numbers in
+    direct_row s c q p n plain refl refl (allows s c h).peer (λ k. direct_left (Chunk name ∷ []) (row s p).ins n) is
+was_direct s (LetGoBack q deal name numbers body) p n some plain b h is none =
+    let c : Change = LetGoBack q deal name numbers body in
+    direct_row s c q p n plain refl refl (allows s c h).peer
+    (λ k a. let other : list_any (λ m. m == n) numbers ≡ false = rw k at none in
+    direct_left (Chunk name ∷ []) (row s p).ins n (sym (direct_other numbers (without in_key (Chunk name ∷ []) (row s p).ins) n other) ∙ a))
+    is
+was_direct s (Refused q deal why detail) p n some plain b h is none =
+    let c : Change = Refused q deal why detail in
+    direct_row s c q p n plain refl refl (allows s c h).peer (λ k. direct_left [] (row s p).ins n) is
+was_direct s _ p n some plain b h is none = absurd (false≢true b)
+
+-- a slot whose bytes a change gives is Direct after it
+pub given_is_direct : (s : State) (c : Change) (p n : ℕ) → IsPlain s → is_built c ≡ true → allowed s c ≡ true → gives_slot p n c ≡ true → has_direct (row (after s c) p).ins n ≡ true
+given_is_direct s (Begun body) p n plain b h is = absurd (false≢true is)
+given_is_direct s (Kept name len new body) p n plain b h is = absurd (false≢true is)
+given_is_direct s (Snapped number ticket files folders bytes left names) p n plain b h is = absurd (false≢true is)
+given_is_direct s (Forgot number) p n plain b h is = absurd (false≢true is)
+given_is_direct s (TookFresh q deal name first len new body) p n plain b h is = absurd (false≢true (sym (and_none (q == p)) ∙ is))
+given_is_direct s (TookSwap q deal name numbers len new body) p n plain b h is = absurd (false≢true (sym (and_none (q == p)) ∙ is))
+given_is_direct s (LetGo q deal name numbers) p n plain b h is = absurd (false≢true (sym (and_none (q == p)) ∙ is))
+given_is_direct s (LetGoBack q deal name numbers body) p n plain b h is =
+    let c : Change = LetGoBack q deal name numbers body in
+    let two = and_parts (q == p) (list_any (λ m. m == n) numbers) is in
+    let now : row (after s c) p ≡ changed s c (row s p) = row_then s c q p plain.rows refl refl (allows s c h).peer ∙ rw two.0 refl in
+    ap (λ (r : Row). has_direct r.ins n) now ∙ direct_given numbers (without in_key (Chunk name ∷ []) (row s p).ins) n two.1
+given_is_direct s (Refused q deal why detail) p n plain b h is = absurd (false≢true (sym (and_none (q == p)) ∙ is))
+given_is_direct s _ p n plain b h is = absurd (false≢true b)
+
+-- a name, or a slot, that is held or Direct with one change more was so before it, where that brings no bytes of it
+pub record WereHeld (s s' : State) (c : Change) : Type 0 where
+  pub names : (n : List ℕ) → is_held s' n ≡ true → brings_name n c ≡ false → is_held s n ≡ true
+  pub slots : (p n : ℕ) → has_direct (row s' p).ins n ≡ true → gives_slot p n c ≡ false → has_direct (row s p).ins n ≡ true
+
+pub were_held : (s : State) (c : Change) → 1 ≤ s.changes → IsPlain s → is_built c ≡ true → allowed s c ≡ true → WereHeld s (after s c) c
+were_held s c some plain b h = record {
+  names = λ n is none. was_held s c n some plain b h is none;
+  slots = λ p n is none. was_direct s c p n some plain b h is none;
+}
 
 -- what is needed with one change more was needed before it
-needed_before : (s s' : State) (d c : Change) (later : List Change) → is_built d ≡ true → ((n : List ℕ) → is_held s' n ≡ true → brings_name n c ≡ false → is_held s n ≡ true) → is_needed_by s' d (later ++ c ∷ []) ≡ true → is_needed_by s d later ≡ true
-needed_before s s' d c later b law h = needs_names s d later b ∙ either_was (is_begun d) (needs_name s' (brings d) (later ++ c ∷ [])) (is_begun d) (needs_name s (brings d) later) (sym (needs_names s' d (later ++ c ∷ []) b) ∙ h) (λ a. a) (name_before (brings d))
+needed_before : (s s' : State) (d c : Change) (later : List Change) → WereHeld s s' c → is_needed_by s' d (later ++ c ∷ []) ≡ true → is_needed_by s d later ≡ true
+needed_before s s' d c later law h =
+    let more = later ++ c ∷ [] in
+    either_was (is_begun d || needs_name s' (brings d) more) (needs_slot s' (peer_of d) (slots_given d) more) (is_begun d || needs_name s (brings d) later) (needs_slot s (peer_of d) (slots_given d) later) h
+    (λ a. either_was (is_begun d) (needs_name s' (brings d) more) (is_begun d) (needs_name s (brings d) later) a (λ x. x) (name_before (brings d)))
+    (slot_before (peer_of d) (slots_given d))
   where
     any_end : (f : Change → Bool) (l : List Change) (x : Change) → list_any f (l ++ x ∷ []) ≡ (list_any f l || f x)
     any_end f [] x = or_none (f x)
@@ -554,15 +887,26 @@ needed_before s s' d c later b law h = needs_names s d later b ∙ either_was (i
     name_before (Some n) k =
         let two = and_parts (is_held s' n) (not (list_any (brings_name n) (later ++ c ∷ []))) k in
         let none = neither (list_any (brings_name n) later) (brings_name n c) (ap not (sym (any_end (brings_name n) later c)) ∙ two.1) in
-        rw (law n two.0 none.1, none.0) refl
+        rw (law.names n two.0 none.1, none.0) refl
+
+    one_before : (p n : ℕ) → (has_direct (row s' p).ins n && not (list_any (gives_slot p n) (later ++ c ∷ []))) ≡ true → (has_direct (row s p).ins n && not (list_any (gives_slot p n) later)) ≡ true
+    one_before p n k =
+        let two = and_parts (has_direct (row s' p).ins n) (not (list_any (gives_slot p n) (later ++ c ∷ []))) k in
+        let none = neither (list_any (gives_slot p n) later) (gives_slot p n c) (ap not (sym (any_end (gives_slot p n) later c)) ∙ two.1) in
+        rw (law.slots p n two.0 none.1, none.0) refl
+
+    slot_before : (o : Option ℕ) (numbers : List ℕ) → needs_slot s' o numbers (later ++ c ∷ []) ≡ true → needs_slot s o numbers later ≡ true
+    slot_before None numbers k = absurd (false≢true k)
+    slot_before (Some p) [] k = absurd (false≢true k)
+    slot_before (Some p) (n ∷ ns) k = either_was (has_direct (row s' p).ins n && not (list_any (gives_slot p n) (later ++ c ∷ []))) (needs_slot s' (Some p) ns (later ++ c ∷ [])) (has_direct (row s p).ins n && not (list_any (gives_slot p n) later)) (needs_slot s (Some p) ns later) k
+        (one_before p n) (slot_before (Some p) ns)
 
 -- each body that is needed is right after one change more, if that of the change is where it is needed
-right_more : (s s' : State) (c : Change) (l : List Change) → list_all is_built l ≡ true → ((n : List ℕ) → is_held s' n ≡ true → brings_name n c ≡ false → is_held s n ≡ true) → (not (is_needed_by s' c []) || body_is_right c) ≡ true → bodies_right s l ≡ true → bodies_right s' (l ++ c ∷ []) ≡ true
-right_more s s' c [] b law last r = rw last refl
-right_more s s' c (d ∷ ds) b law last r =
-    let built = and_parts (is_built d) (list_all is_built ds) b in
+right_more : (s s' : State) (c : Change) (l : List Change) → WereHeld s s' c → (not (is_needed_by s' c []) || body_is_right c) ≡ true → bodies_right s l ≡ true → bodies_right s' (l ++ c ∷ []) ≡ true
+right_more s s' c [] law last r = rw last refl
+right_more s s' c (d ∷ ds) law last r =
     let right = and_parts (not (is_needed_by s d ds) || body_is_right d) (bodies_right s ds) r in
-    rw (was (is_needed_by s' d (ds ++ c ∷ [])) (is_needed_by s d ds) (body_is_right d) (needed_before s s' d c ds built.0 law) right.0, right_more s s' c ds built.1 law last right.1) refl
+    rw (was (is_needed_by s' d (ds ++ c ∷ [])) (is_needed_by s d ds) (body_is_right d) (needed_before s s' d c ds law) right.0, right_more s s' c ds law last right.1) refl
   where
     was : (a b r : Bool) → (a ≡ true → b ≡ true) → (not b || r) ≡ true → (not a || r) ≡ true
     was true b r f h = let k = f refl in rw k at h
@@ -578,6 +922,11 @@ right_here s (Snapped number ticket files folders bytes left names) later b g r 
 right_here s (Forgot number) later b g r = refl
 right_here s (TookFresh q deal name first len true body) later b g r = rw r (or_true (not (is_needed_by s (TookFresh q deal name first len true body) later)))
 right_here s (TookFresh q deal name first len false body) later b g r = refl
+right_here s (TookSwap q deal name numbers len true body) later b g r = rw r (or_true (not (is_needed_by s (TookSwap q deal name numbers len true body) later)))
+right_here s (TookSwap q deal name numbers len false body) later b g r = refl
+right_here s (LetGo q deal name numbers) later b g r = refl
+right_here s (LetGoBack q deal name [] body) later b g r = refl
+right_here s (LetGoBack q deal name (n ∷ ns) body) later b g r = rw r (or_true (not (is_needed_by s (LetGoBack q deal name (n ∷ ns) body) later)))
 right_here s (Refused q deal why detail) later b g r = refl
 right_here s _ later b g r = absurd (false≢true b)
 
@@ -600,14 +949,35 @@ some_changes h v = omega (arith, changes_counted h, v.some)
 pub valid_snoc : (h : List Change) (c : Change) → IsValid h → in_grammar c ≡ true → allowed (state h) c ≡ true → fits_widths c ≡ true → is_built c ≡ true → brings_right c ≡ true → IsValid (h ++ c ∷ [])
 valid_snoc h c v g a f b r =
     let s = state h in
-    let law : (n : List ℕ) → is_held (after s c) n ≡ true → brings_name n c ≡ false → is_held s n ≡ true = λ n held none. was_held s c n (some_changes h v) (plain_state h v.lawful v.built) b a held none in
+    let law = were_held s c (some_changes h v) (plain_state h v.lawful v.built) b a in
     record {
       lawful = lawful_snoc h c ∙ rw (v.lawful, g, a) refl;
       fit = all_snoc fits_widths h c ∙ rw (v.fit, f) refl;
       built = all_snoc is_built h c ∙ rw (v.built, b) refl;
       some = omega (arith, length-append h (c ∷ []));
-      sound = subst (λ t. bodies_right t (h ++ c ∷ []) ≡ true) (sym (state_snoc h c)) (right_more s (after s c) c h v.built law (right_here (after s c) c [] b g r) v.sound);
+      sound = subst (λ t. bodies_right t (h ++ c ∷ []) ≡ true) (sym (state_snoc h c)) (right_more s (after s c) c h law (right_here (after s c) c [] b g r) v.sound);
     }
+
+if_needed : (a r : Bool) → a ≡ true → (not a || r) ≡ true → r ≡ true
+if_needed a r k h = rw k at h
+
+-- so a change that gives slots their bytes has them, where it has what is needed
+slots_right : (s : State) (c : Change) → IsPlain s → is_built c ≡ true → allowed s c ≡ true → (not (is_needed_by (after s c) c []) || body_is_right c) ≡ true → (no_slots (slots_given c) || body_is_right c) ≡ true
+slots_right s (Begun body) p b h r = refl
+slots_right s (Kept name len new body) p b h r = refl
+slots_right s (Snapped number ticket files folders bytes left names) p b h r = refl
+slots_right s (Forgot number) p b h r = refl
+slots_right s (TookFresh q deal name first len new body) p b h r = refl
+slots_right s (TookSwap q deal name numbers len new body) p b h r = refl
+slots_right s (LetGo q deal name numbers) p b h r = refl
+slots_right s (LetGoBack q deal name [] body) p b h r = refl
+slots_right s (LetGoBack q deal name (n ∷ ns) body) p b h r =
+    let c : Change = LetGoBack q deal name (n ∷ ns) body in
+    let it : gives_slot q n c ≡ true = rw (eq-eqb q q refl, eq-eqb n n refl) refl in
+    let needed : is_needed_by (after s c) c [] ≡ true = rw (given_is_direct s c q n p refl h it) refl in
+    if_needed (is_needed_by (after s c) c []) (body_is_right c) needed r
+slots_right s (Refused q deal why detail) p b h r = refl
+slots_right s _ p b h r = absurd (false≢true b)
 
 -- the last change of a valid history has the bytes that it brings
 pub last_brings : (h : List Change) (c : Change) → is_lawful h ≡ true → list_all is_built h ≡ true → allowed (state h) c ≡ true → is_built c ≡ true → bodies_right (state (h ++ c ∷ [])) (h ++ c ∷ []) ≡ true → brings_right c ≡ true
@@ -620,17 +990,17 @@ last_brings h c lawful built a b right = by_name (brings c) refl
     here : (not (is_needed_by (after (state h) c) c []) || body_is_right c) ≡ true
     here = subst (λ t. (not (is_needed_by t c []) || body_is_right c) ≡ true) (state_snoc h c) (at_end (state (h ++ c ∷ [])) h right)
 
-    if_needed : (a r : Bool) → a ≡ true → (not a || r) ≡ true → r ≡ true
-    if_needed a r k h = rw k at h
+    right_by : Option (List ℕ) → Bool
+    right_by o = elim o [ None ↦ no_slots (slots_given c) || body_is_right c | Some name ↦ body_is_right c ]
 
     by_name : (o : Option (List ℕ)) → brings c ≡ o → brings_right c ≡ true
-    by_name None e = ap (λ (o : Option (List ℕ)). elim o [ None ↦ true | Some name ↦ body_is_right c ]) e
+    by_name None e = ap right_by e ∙ slots_right (state h) c (plain_state h lawful built) b a here
     by_name (Some n) e =
         let it : brings_name n c ≡ true = ap (λ (o : Option (List ℕ)). elim o [ None ↦ false | Some m ↦ name_eq m n ]) e ∙ name_refl n in
         let held = brought_held (state h) c n (plain_state h lawful built) b a it in
         let name_needed : needs_name (after (state h) c) (brings c) [] ≡ true = ap (λ o. needs_name (after (state h) c) o []) e ∙ rw held refl in
-        let needed : is_needed_by (after (state h) c) c [] ≡ true = needs_names (after (state h) c) c [] b ∙ ap (λ x. is_begun c || x) name_needed ∙ or_true (is_begun c) in
-        ap (λ (o : Option (List ℕ)). elim o [ None ↦ true | Some name ↦ body_is_right c ]) e ∙ if_needed (is_needed_by (after (state h) c) c []) (body_is_right c) needed here
+        let needed : is_needed_by (after (state h) c) c [] ≡ true = ap (λ x. (is_begun c || x) || needs_slot (after (state h) c) (peer_of c) (slots_given c) []) name_needed ∙ ap (λ x. x || needs_slot (after (state h) c) (peer_of c) (slots_given c) []) (or_true (is_begun c)) in
+        ap right_by e ∙ if_needed (is_needed_by (after (state h) c) c []) (body_is_right c) needed here
 
 -- the history of a beginning alone
 pub valid_begun : (text : List ℕ) (x : Settings) → settings_of text ≡ Some x → list_all is_u8 text ≡ true → IsValid (Begun (Some text) ∷ [])

@@ -3,7 +3,7 @@ use Rattle.std.specs.Prelude.{◌≡◌, ◌≤◌, ℕ, ◌+◌, Bool, true, fa
 use Rattle.psb_bytes.specs.declared.ids.Object.{Object}
 use Rattle.psb_model.specs.declared.entries.DebtEntry.{DebtEntry}
 use Rattle.psb_model.specs.declared.change.Change.{Change}
-use Rattle.psb_model.specs.declared.change.Change.TheVariants.{Begun, Kept, Snapped, Forgot, TookFresh, Refused, Passed, Failed, Declined}
+use Rattle.psb_model.specs.declared.change.Change.TheVariants.{Begun, Kept, Snapped, Forgot, TookFresh, TookSwap, LetGo, LetGoBack, Refused, Passed, Failed, Declined}
 use Rattle.psb_model.specs.Words.{listed, has, units_at, has_so, occurs, In}
 use Rattle.psb_model.specs.State.{State, nothing_yet, row, held_units, back_units, debt_units, out_key, out_size, debt_key}
 use Rattle.psb_model.specs.Grammar.{in_grammar}
@@ -27,14 +27,17 @@ state h = state_from nothing_yet h
 abbrev pub is_lawful : List Change → Bool
 is_lawful h = lawful_from nothing_yet h
 
--- the program has this kind so far: the beginning, what is kept of the node's own, and the answers to a
--- peer's fresh chunks
+-- the program has this kind so far: the beginning, what is kept of the node's own, and what the deals of
+-- a peer make, but for a replaced claim
 abbrev pub is_built : Change → Bool
 is_built (Begun body) = true
 is_built (Kept name len new body) = true
 is_built (Snapped number ticket files folders bytes left names) = true
 is_built (Forgot number) = true
 is_built (TookFresh p deal name first len new body) = true
+is_built (TookSwap p deal name numbers len new body) = true
+is_built (LetGo p deal name numbers) = true
+is_built (LetGoBack p deal name numbers body) = true
 is_built (Refused p deal why detail) = true
 is_built _ = false
 

@@ -95,9 +95,14 @@ bodies_right s (c ∷ cs) = (not (is_needed_by s c cs) || body_is_right c) && bo
 abbrev pub is_sound : List Change → Bool
 is_sound h = bodies_right (state h) h
 
--- the change has the bytes that it brings, if it brings some
+-- the change gives no slot its bytes
+abbrev pub no_slots : List ℕ → Bool
+no_slots [] = true
+no_slots (n ∷ ns) = false
+
+-- the change has the bytes that it brings under a name, or gives to slots, if it does either
 abbrev pub brings_right : Change → Bool
-brings_right c = elim (brings c) [ None ↦ true | Some name ↦ body_is_right c ]
+brings_right c = elim (brings c) [ None ↦ no_slots (slots_given c) || body_is_right c | Some name ↦ body_is_right c ]
 
 -- The histories of nodes: each change is in the grammar and its condition holds after those before
 -- it; what it says fits its fields; its kind is one that the program has; and the bodies that the

@@ -2,31 +2,30 @@
 
 ghost use Rattle.std.specs.Prelude.{◌≡◌, ◌⊎◌, ◌≤◌, ◌<◌, ◌^◌, [], List, Bool, ℕ, true, false, length, Some, None, is_some, IfSome, IfOk, OnOk, OnErr};
 ghost use Rattle.psb_digest.specs.Clashes.{Pair};
-ghost use Rattle.psb_model.specs.State.{is_held};
 ghost use Rattle.psb_model.specs.History.{state};
 ghost use Rattle.psb_station.specs.Span.{Tells_bytes, Looked};
 ghost use Rattle.psb_machine.specs.Machine.{Situation, Datagram, Forget, react};
-ghost use Rattle.psb_machine.specs.Deals.{is_compared};
-ghost use Rattle.psb_machine.specs.Stores.{IsShort};
+ghost use Rattle.psb_machine.specs.Deals.{is_compared, judge};
+ghost use Rattle.psb_machine.specs.Judging.{IsShort};
 
 use super::Node;
 use crate::decision::Decision;
+use crate::facts::facts_of;
 use crate::offer::{Offer, Reading, Request};
 use crate::reaction::{Reaction, one_letter, quiet};
-use crate::refusal::refusal_of;
-use crate::replies::{brings_new, here_to, judged, letter_with, reply_again, reply_to};
+use crate::replies::{here_to, letter_with, reply_again, reply_to};
 use crate::{Fault, Input};
 use chunk_store::Owner;
+use deals::{Facts, Standing, standing};
 use node_journal::Log;
-use psb_machine::{Refusal, Standing};
 use psb_station::Disk;
 use wire_codec::MOST_BYTES;
 
 impl<L: Log> Node<L> {
-    ghost use Rattle.chunk_store.specs.Store.{record_of};
     ghost use Rattle.node_core.specs.Letters.{letters_of, input_of, is_own};
-    ghost use Rattle.node_core.specs.Offers.{IsGet, deal_in};
-    ghost use Rattle.node_core.specs.Making.{CanMake, CanTell, made_of, made_in, why_refused};
+    ghost use Rattle.node_core.specs.Offers.{IsGet};
+    ghost use Rattle.deals.specs.Views.{deal_in, facts_in};
+    ghost use Rattle.node_core.specs.Making.{CanMake, CanTell, IsNextOffer, made_of, made_in, why_refused};
     ghost use Rattle.node_core.specs.Stored.{Knows, Stored, IsCounted};
     ghost use Rattle.node_core.specs.Unread.{IsUnread, IsCertain};
     ghost use Rattle.node_core.specs.Refusing.{IsApt, is_refused, when_taken, IsHeldAs, Refuses};
@@ -114,7 +113,7 @@ impl<L: Log> Node<L> {
             Reading::Offer(offer) => offer,
         };
         let last = self.ledger.last(offer.peer);
-        match Standing::of(last.number, offer.number) {
+        match standing(last.number, offer.number) {
             Standing::Fresh => Decision::Make(offer),
             Standing::Repeat => Decision::Again(offer, last.change),
             Standing::Stale | Standing::Gap => Decision::Pass,
@@ -168,12 +167,13 @@ impl<L: Log> Node<L> {
         })
     }
 
-    /// Looks at why a fresh offer is refused, and so at what it makes.
+    /// Looks up the facts of a fresh offer, and judges it by them.
     fn judge<D: Disk>(&mut self, disk: &mut D, offer: &Offer<'_>) -> Result<Reaction, Fault>
         requires whole { L.is_broken self.old.log ≡ false }
         requires known { (n : Situation) × Knows self.old n }
         requires counted { IsCounted L.size L.keeps_body self.old }
-        requires short { IsShort (deal_in offer.now.asked) }
+        requires short { IsShort (deal_in offer.now.deal) }
+        requires next { IsNextOffer self.old.ledger.state offer.now }
         requires can { CanMake self.old.ledger.state offer.now }
 
         // On each disk as if other bytes were held under its name, or as if none were; where the disk tells
@@ -181,14 +181,14 @@ impl<L: Log> Node<L> {
         ensures somehow { IfOk result (λ r. (clash : Bool) × Makes r self.old offer.now (made_of self.old.ledger.state offer.now (why_refused self.old.ledger.state offer.now clash))) }
         ensures exact { IfOk result (λ r. Tells_bytes (D.view disk.new) → (n : Situation) → Knows self.old n → Stored L.holds self.old n.history (D.view disk.old)
             → Makes r self.old offer.now (made_in n.history offer.now)) }
-        ensures unheld { IfOk result (λ r. (n : Situation) → Knows self.old n → is_compared (state n.history) (deal_in offer.now.asked) ≡ false
+        ensures unheld { IfOk result (λ r. (n : Situation) → Knows self.old n → is_compared (state n.history) (deal_in offer.now.deal) ≡ false
             → Makes r self.old offer.now (made_in n.history offer.now)) }
         ensures same { IsSame self.old self.new }
         ensures looked { Looked (result ≡ Err Fault.DiskFault) (D.view disk.old) (D.view disk.new) }
         ensures reads { (D.view disk.new).write_faults ≡ (D.view disk.old).write_faults }
         ensures only { OnErr result ((result ≡ Err Fault.DiskFault) ⊎ (result ≡ Err Fault.Memory)) }
     {
-        let refusal = refusal_of(
+        let facts = facts_of(
             self.alloc,
             &mut self.log,
             disk,
@@ -196,21 +196,20 @@ impl<L: Log> Node<L> {
             &self.names,
             offer,
         )?;
-        self.answer(offer, refusal)
+        self.answer(offer, &facts)
     }
 
-    /// The change of a fresh offer, and the letter that tells of it.
-    fn answer(&mut self, offer: &Offer<'_>, refusal: Option<Refusal>) -> Result<Reaction, Fault>
-        requires short { IsShort (deal_in offer.now.asked) }
-        requires held { (name : List ℕ) → is_some (record_of self.old.names name) ≡ is_held self.old.ledger.state name }
-        requires can { CanTell self.old.ledger.state (made_of self.old.ledger.state offer.now refusal) }
-        ensures makes { IfOk result (λ r. Makes r self.old offer.now (made_of self.old.ledger.state offer.now refusal)) }
+    /// The change of a fresh offer, judged by these facts, and the letter that tells of it.
+    fn answer(&mut self, offer: &Offer<'_>, facts: &Facts) -> Result<Reaction, Fault>
+        requires short { IsShort (deal_in offer.now.deal) }
+        requires next { IsNextOffer self.old.ledger.state offer.now }
+        requires can { CanTell self.old.ledger.state (judge (facts_in facts.now) self.old.ledger.state offer.now.peer offer.now.number (deal_in offer.now.deal)) }
+        ensures makes { IfOk result (λ r. Makes r self.old offer.now (judge (facts_in facts.now) self.old.ledger.state offer.now.peer offer.now.number (deal_in offer.now.deal))) }
         ensures same { IsSame self.old self.new }
         ensures only { OnErr result (result ≡ Err Fault.Memory) }
     {
         let alloc = self.alloc;
-        let new = brings_new(&self.names, offer);
-        let change = judged(alloc, offer, &self.ledger, new, refusal)?;
+        let change = deals::judge(alloc, &self.ledger, offer.peer, &offer.deal, facts)?;
         let Some(reply) = reply_to(alloc, &mut self.claims, &change)? else {
             unreachable!()
         };

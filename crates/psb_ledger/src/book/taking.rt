@@ -1,26 +1,20 @@
-//! What a book makes of a deal of a peer: its chunk is taken, or the deal is refused.
+//! What a book makes of a chunk that a peer stores against new slots.
 
 ghost use Rattle.std.specs.Prelude.{◌≡◌, ◌+◌, ◌<◌, ◌^◌, ◌==◌, ◌↔◌, IsTrue, OnOk, OnErr, IsOk, IfSome, IsSome, Some, None, position};
-ghost use Rattle.psb_model.specs.declared.change.Change.TheVariants.{TookFresh, Refused};
+ghost use Rattle.psb_model.specs.declared.change.Change.TheVariants.{TookFresh};
 ghost use Rattle.psb_model.specs.Words.{units, all_of};
 ghost use Rattle.psb_model.specs.Grammar.{in_grammar};
-ghost use Rattle.psb_model.specs.Conditions.{allowed, capacity, fresh_tests, refusal_tests};
+ghost use Rattle.psb_model.specs.Conditions.{allowed, capacity, fresh_tests};
 ghost use Rattle.psb_model.specs.Effects.{after};
-ghost use Rattle.psb_ledger.specs.View.{HasFreshRoom};
+ghost use Rattle.psb_ledger.specs.View.{HasListRoom};
 
 use super::accounts::place_of;
+use super::deals::is_next;
 use super::{Book, NotNow};
 use crate::account::Account;
-use crate::codec::{FreshFields, RefusedFields};
-use psb_bytes::{Memory, Object, PeerId, units_of};
+use crate::codec::FreshFields;
+use psb_bytes::{Object, units_of};
 use psb_settings::Settings;
-
-/// Whether the deal is the next of the peer.
-fn is_next(account: &Account, deal: u64) -> bool
-    ensures { result ≡ (deal == account.now.row.last.number + 1) }
-{
-    deal != 0 && deal - 1 == account.last().number
-}
 
 fn capacity_of(settings: &Option<Settings>) -> u32
     ensures { result ≡ capacity settings.now }
@@ -53,27 +47,7 @@ fn allows_fresh(account: &Account, x: &FreshFields, m: Measure) -> bool
         && m.issued as u64 + m.units as u64 <= u32::MAX as u64
 }
 
-fn allows_refusal(account: &Account, x: &RefusedFields) -> bool
-    ensures { result ≡ all_of (refusal_tests account.now.row x.now.deal x.now.why) }
-{
-    is_next(account, x.deal) && 1 <= x.why && x.why <= 9
-}
-
 impl Book {
-    pub(super) fn make_room_for(&mut self, peer: PeerId, len: u32) -> Result<(), Memory>
-        ensures state { self.new.state ≡ self.old.state }
-        ensures room { OnOk result (HasFreshRoom self.new peer (units len)) }
-        ensures form { self.new.in_blocks ≡ self.old.in_blocks }
-    {
-        match place_of(self.accounts.as_slice(), peer) {
-            None => Ok(()),
-            Some(at) => {
-                let account = &mut self.accounts[at];
-                account.reserve(units_of(len))
-            }
-        }
-    }
-
     /// The place of the peer's account, where its chunk may be taken.
     fn place_for_fresh(&self, x: &FreshFields) -> Option<usize>
         ensures when { IsTrue (allowed self.now.state (TookFresh x.now.peer x.now.deal x.now.name x.now.first x.now.len x.now.new None)) ↔ IsSome result }
@@ -95,7 +69,7 @@ impl Book {
 
     pub(super) fn take_fresh(&mut self, x: FreshFields) -> Result<(), NotNow>
         requires grammar { IsTrue (in_grammar (TookFresh x.peer x.deal x.name x.first x.len x.new None)) }
-        requires room { HasFreshRoom self.old x.peer (units x.len) }
+        requires room { HasListRoom self.old x.peer 1 (units x.len) }
         requires few { self.old.state.changes < 2 ^ 62 }
         ensures when { IsTrue (allowed self.old.state (TookFresh x.peer x.deal x.name x.first x.len x.new None)) ↔ IsOk result }
         ensures ok { OnOk result (self.new.state ≡ after self.old.state (TookFresh x.peer x.deal x.name x.first x.len x.new None)) }
@@ -111,35 +85,6 @@ impl Book {
         account.take_fresh(&x, u, changes);
         self.issued += u;
         self.used += u;
-        self.changes = changes + 1;
-        Ok(())
-    }
-
-    /// The place of the peer's account, where its deal may be refused.
-    fn place_to_refuse(&self, x: &RefusedFields) -> Option<usize>
-        ensures when { IsTrue (allowed self.now.state (Refused x.now.peer x.now.deal x.now.why x.now.detail)) ↔ IsSome result }
-        ensures place { IfSome result (λ i. Some i ≡ position (λ v. v.id == x.now.peer) self.now.accounts) }
-    {
-        if self.changes == 0 {
-            return None;
-        }
-        let at = place_of(self.accounts.as_slice(), x.peer)?;
-        allows_refusal(&self.accounts[at], x).then_some(at)
-    }
-
-    pub(super) fn refuse(&mut self, x: RefusedFields) -> Result<(), NotNow>
-        requires few { self.old.state.changes < 2 ^ 62 }
-        ensures when { IsTrue (allowed self.old.state (Refused x.peer x.deal x.why x.detail)) ↔ IsOk result }
-        ensures ok { OnOk result (self.new.state ≡ after self.old.state (Refused x.peer x.deal x.why x.detail)) }
-        ensures err { OnErr result (self.new ≡ self.old) }
-        ensures form { self.new.in_blocks ≡ self.old.in_blocks }
-    {
-        let Some(at) = self.place_to_refuse(&x) else {
-            return Err(NotNow);
-        };
-        let changes = self.changes;
-        let account = &mut self.accounts[at];
-        account.note(x.deal, changes);
         self.changes = changes + 1;
         Ok(())
     }

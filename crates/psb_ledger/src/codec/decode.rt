@@ -1,16 +1,18 @@
-ghost use Rattle.std.specs.Prelude.{◌≡◌, ◌&&◌, ◌+◌, ◌*◌, ◌≤◌, Bool, List, ℕ, ◌∷◌, ◌++◌, [], nat_lt, true, false, if◌then◌else◌, length, take, drop, flat_map, IfOk, IfErr, OnErr, OnOk, Some, None, ◌↔◌, IsOk};
+ghost use Rattle.std.specs.Prelude.{◌≡◌, ◌+◌, ◌*◌, ◌≤◌, List, ℕ, ◌∷◌, ◌++◌, true, length, take, drop, flat_map, IfOk, IfErr, OnErr, OnOk, None};
 ghost use Rattle.std.specs.List.{list_all};
 ghost use Rattle.std.specs.Option.{option_map};
-ghost use Rattle.psb_model.specs.Heads.{head_of, flag, ticket, counted};
-ghost use Rattle.psb_model.specs.Grammar.{fits_widths, are_bytes, body_fits, is_chunk_len, is_ticket, ticket_fits, is_digest, is_count};
+ghost use Rattle.psb_model.specs.Heads.{head_of, ticket, counted};
+ghost use Rattle.psb_model.specs.Grammar.{fits_widths, is_ticket, ticket_fits, is_digest, is_count};
 ghost use Rattle.psb_model.specs.declared.change.Change.{Change};
 ghost use Rattle.psb_model.specs.declared.change.Change.TheVariants.{Kept, Forgot, TookFresh, Refused};
 ghost use Rattle.psb_ledger.specs.declared.codec.decode.ChangeError.TheVariants.{BadHead, Memory as NoMemory};
 ghost use Rattle.psb_ledger.specs.Records.{IsRead, HasNoChange, HasNoNames, NoneIsRead};
 ghost use Rattle.psb_ledger.specs.Fronts.{snapped_front, front_fits, HasNoFront};
 
+use super::decode_slots::{decode_let_go, decode_put_back, decode_swap};
 use super::fields::{FreshFields, KeptFields, RefusedFields, SnappedFields};
-use psb_bytes::{Bytes, Cursor, Digest, DigestList, LONGEST_CHUNK, Memory, PeerId, Short, Ticket};
+use super::parts::{copy_body, copy_of, ended, is_chunk_len, read_flag, stored_len};
+use psb_bytes::{Cursor, Digest, DigestList, Memory, PeerId, Short, Ticket};
 use psb_model::Change;
 use std::alloc::Global;
 use thiserror::Error;
@@ -60,6 +62,9 @@ pub fn decode_change(alloc: Global, head: &[u8], body: Option<&[u8]>) -> Result<
         3 => decode_snapped(alloc, fields, body),
         4 => decode_forgot(fields, body),
         5 => decode_fresh(alloc, fields, body),
+        6 => decode_swap(alloc, fields, body),
+        7 => decode_let_go(alloc, fields, body),
+        8 => decode_put_back(alloc, fields, body),
         10 => decode_refused(fields, body),
         _ => Err(ChangeError::BadHead),
     }
@@ -87,7 +92,7 @@ fn decode_kept(alloc: Global, fields: &[u8], body: Option<&[u8]>) -> Result<Chan
     if !is_chunk_len(x.len) {
         return Err(ChangeError::BadHead);
     }
-    let body = copy_body(alloc, body, stored_len(x.new, x.len))?;
+    let body = copy_body(alloc, body, stored_len(x.new, x.len) as usize)?;
     Ok(Change::Kept {
         name: x.name,
         len: x.len,
@@ -136,7 +141,7 @@ fn decode_fresh(alloc: Global, fields: &[u8], body: Option<&[u8]>) -> Result<Cha
     if !is_chunk_len(x.len) {
         return Err(ChangeError::BadHead);
     }
-    let body = copy_body(alloc, body, stored_len(x.new, x.len))?;
+    let body = copy_body(alloc, body, stored_len(x.new, x.len) as usize)?;
     Ok(Change::TookFresh {
         peer: x.peer,
         deal: x.deal,
@@ -162,43 +167,6 @@ fn decode_refused(fields: &[u8], body: Option<&[u8]>) -> Result<Change, ChangeEr
         why: x.why,
         detail: x.detail,
     })
-}
-
-/// The sealed bytes of a chunk are 1 to 32,768.
-fn is_chunk_len(len: u32) -> bool
-    ensures { result ≡ is_chunk_len len }
-{
-    1 <= len && len <= LONGEST_CHUNK
-}
-
-/// How many bytes the body has: those of the chunk where they are new, else none.
-fn stored_len(new: bool, len: u32) -> u32
-    ensures { result ≡ (if new then len else 0) }
-{
-    if new { len } else { 0 }
-}
-
-/// A copy of a body that has `len` bytes, where it is there.
-fn copy_body(alloc: Global, body: Option<&[u8]>, len: u32) -> Result<Option<Bytes>, ChangeError>
-    ensures ok { IfOk result (λ b. b ≡ option_map (λ b. b.now) body.entry) }
-    ensures bytes { OnOk result (are_bytes (option_map (λ b. b.now) body.entry) ≡ true) }
-    ensures len { OnOk result (body_fits len (option_map (λ b. b.now) body.entry) ≡ true) }
-    ensures bad { IfErr result (λ e. e ≡ BadHead → body_fits len (option_map (λ b. b.now) body.entry) ≡ false) }
-{
-    let Some(bytes) = body else {
-        return Ok(None);
-    };
-    if bytes.len() != len as usize {
-        return Err(ChangeError::BadHead);
-    }
-    Ok(Some(copy_of(alloc, bytes)?))
-}
-
-fn copy_of(alloc: Global, bytes: &[u8]) -> Result<Bytes, Memory>
-    ensures ok { IfOk result (λ b. b ≡ bytes.now) }
-    ensures bytes { are_bytes (Some bytes.now) ≡ true }
-{
-    Bytes::copy(alloc, bytes)
 }
 
 fn read_kept(fields: &[u8]) -> Result<KeptFields, ChangeError>
@@ -341,29 +309,4 @@ fn read_refusal(fields: &[u8]) -> Result<RefusedFields, ChangeError>
     };
     ended(&rest)?;
     Ok(x)
-}
-
-/// A flag is one byte, 0 or 1.
-fn read_flag(rest: &mut Cursor<'_>) -> Result<bool, ChangeError>
-    ensures ok { IfOk result (λ b. rest.old ≡ flag b ++ rest.new) }
-    ensures error { IfErr result (λ e. e ≡ BadHead) }
-    ensures bad { OnErr result ((b : Bool) (more : List ℕ) → rest.old ≡ flag b ++ more → ⊥) }
-{
-    match rest.take_u8()? {
-        0 => Ok(false),
-        1 => Ok(true),
-        _ => Err(ChangeError::BadHead),
-    }
-}
-
-/// Nothing is left.
-fn ended(rest: &Cursor<'_>) -> Result<(), ChangeError>
-    ensures when { IsOk result ↔ (rest.now ≡ []) }
-    ensures error { IfErr result (λ e. e ≡ BadHead) }
-{
-    if rest.left() == 0 {
-        Ok(())
-    } else {
-        Err(ChangeError::BadHead)
-    }
 }

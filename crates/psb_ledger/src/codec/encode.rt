@@ -1,10 +1,14 @@
-ghost use Rattle.std.specs.Prelude.{◌≡◌, ◌+◌, ◌*◌, ◌<◌, ◌≤◌, ◌^◌, ◌++◌, length, flat_map, IfOk, IsTrue, None};
-ghost use Rattle.psb_model.specs.Heads.{head_of};
+ghost use Rattle.std.specs.Prelude.{◌≡◌, ◌+◌, ◌*◌, ◌<◌, ◌≤◌, ◌^◌, ◌++◌, ◌∷◌, length, flat_map, IfOk, IsTrue, None};
+ghost use Rattle.psb_bytes.specs.Numbers.{u32_bytes};
+ghost use Rattle.psb_model.specs.Heads.{head_of, counted};
 ghost use Rattle.psb_model.specs.Grammar.{in_grammar};
 ghost use Rattle.psb_model.specs.declared.change.Change.TheVariants.{Begun, Kept, Snapped, Forgot, TookFresh, Refused};
 ghost use Rattle.psb_model.specs.History.{is_built};
+ghost use Rattle.psb_ledger.specs.SlotHeads.{cancel_bytes, swap_bytes};
 
-use super::fields::{FreshFields, KeptFields, RefusedFields, SnappedFields};
+use super::fields::{
+    CancelFields, FreshFields, KeptFields, RefusedFields, SnappedFields, SwapFields,
+};
 use psb_bytes::{Digest, Memory, Page};
 use psb_model::Change;
 use std::alloc::Global;
@@ -69,6 +73,56 @@ pub fn encode_change(alloc: Global, c: &Change) -> Result<Vec<u8>, Memory>
                 len: *len,
                 new: *new,
             },
+        ),
+        Change::TookSwap {
+            peer,
+            deal,
+            name,
+            slots,
+            len,
+            new,
+            body: _,
+        } => took_swap(
+            alloc,
+            SwapFields {
+                peer: *peer,
+                deal: *deal,
+                name: *name,
+                len: *len,
+                new: *new,
+            },
+            slots.as_slice(),
+        ),
+        Change::LetGo {
+            peer,
+            deal,
+            name,
+            slots,
+        } => cancelled(
+            alloc,
+            7,
+            CancelFields {
+                peer: *peer,
+                deal: *deal,
+                name: *name,
+            },
+            slots.as_slice(),
+        ),
+        Change::LetGoBack {
+            peer,
+            deal,
+            name,
+            slots,
+            body: _,
+        } => cancelled(
+            alloc,
+            8,
+            CancelFields {
+                peer: *peer,
+                deal: *deal,
+                name: *name,
+            },
+            slots.as_slice(),
         ),
         Change::Refused {
             peer,
@@ -154,6 +208,49 @@ fn took_fresh(alloc: Global, x: FreshFields) -> Result<Vec<u8>, Memory>
     page.put_u32(x.len);
     page.put_u8(x.new as u8);
     Ok(page.done())
+}
+
+fn took_swap(alloc: Global, x: SwapFields, slots: &[u32]) -> Result<Vec<u8>, Memory>
+    requires { length slots.now < 2 ^ 32 }
+    ensures { IfOk result (λ v. v.items ≡ 6 ∷ swap_bytes x slots.now) }
+{
+    let mut page = Page::with_room(alloc, 54 + 4 * slots.len())?;
+    page.put_u8(6);
+    page.put_u32(x.peer.0);
+    page.put_u64(x.deal);
+    page.put_slice(&x.name.0);
+    put_slots(&mut page, slots);
+    page.put_u32(x.len);
+    page.put_u8(x.new as u8);
+    Ok(page.done())
+}
+
+/// The head of a LetGo or a LetGoBack, by its kind.
+fn cancelled(alloc: Global, kind: u8, x: CancelFields, slots: &[u32]) -> Result<Vec<u8>, Memory>
+    requires { length slots.now < 2 ^ 32 }
+    ensures { IfOk result (λ v. v.items ≡ kind ∷ cancel_bytes x slots.now) }
+{
+    let mut page = Page::with_room(alloc, 49 + 4 * slots.len())?;
+    page.put_u8(kind);
+    page.put_u32(x.peer.0);
+    page.put_u64(x.deal);
+    page.put_slice(&x.name.0);
+    put_slots(&mut page, slots);
+    Ok(page.done())
+}
+
+/// The count of the slots, and the slots.
+fn put_slots(page: &mut Page, slots: &[u32])
+    requires count { length slots.now < 2 ^ 32 }
+    requires room { length page.old.bytes + 4 + 4 * length slots.now ≤ page.old.room }
+    ensures bytes { page.new.bytes ≡ page.old.bytes ++ counted u32_bytes slots.now }
+    ensures len { length page.new.bytes ≡ length page.old.bytes + 4 + 4 * length slots.now }
+    ensures room { page.new.room ≡ page.old.room }
+{
+    page.put_u32(slots.len() as u32);
+    for slot in slots {
+        page.put_u32(*slot);
+    }
 }
 
 fn refused(alloc: Global, x: RefusedFields) -> Result<Vec<u8>, Memory>

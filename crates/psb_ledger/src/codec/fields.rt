@@ -11,6 +11,24 @@ pub struct FreshFields {
     pub new: bool,
 }
 
+/// A chunk that was stored for a peer in the place of slots, as its change has it beside these.
+#[derive(Clone, Copy)]
+pub struct SwapFields {
+    pub peer: PeerId,
+    pub deal: u64,
+    pub name: Digest,
+    pub len: u32,
+    pub new: bool,
+}
+
+/// A chunk that a peer took back, as its change has it beside the slots and claims that it gave.
+#[derive(Clone, Copy)]
+pub struct CancelFields {
+    pub peer: PeerId,
+    pub deal: u64,
+    pub name: Digest,
+}
+
 /// A deal that was refused, as its change has it.
 #[derive(Clone, Copy)]
 pub struct RefusedFields {

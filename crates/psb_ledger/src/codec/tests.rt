@@ -21,6 +21,24 @@ const REFUSED: [u8; 22] = [
     10, 0, 0, 0, 2, 0, 0, 0, 0, 0, 0, 0, 2, 8, 0, 0, 0, 0, 0, 0, 0, 1,
 ];
 
+/// Peer 2 stored a chunk of 600 bytes as its deal 3, in the place of the slots 5 and 7.
+const SWAP: [u8; 62] = [
+    6, 0, 0, 0, 2, 0, 0, 0, 0, 0, 0, 0, 3, 9, 9, 9, 9, 9, 9, 9, 9, 9, 9, 9, 9, 9, 9, 9, 9, 9, 9, 9,
+    9, 9, 9, 9, 9, 9, 9, 9, 9, 9, 9, 9, 9, 0, 0, 0, 2, 0, 0, 0, 5, 0, 0, 0, 7, 0, 0, 2, 88, 0,
+];
+
+/// Peer 2 took a chunk back as its deal 4, against slot 256.
+const LET_GO: [u8; 53] = [
+    7, 0, 0, 0, 2, 0, 0, 0, 0, 0, 0, 0, 4, 9, 9, 9, 9, 9, 9, 9, 9, 9, 9, 9, 9, 9, 9, 9, 9, 9, 9, 9,
+    9, 9, 9, 9, 9, 9, 9, 9, 9, 9, 9, 9, 9, 0, 0, 0, 1, 0, 0, 1, 0,
+];
+
+/// Peer 2 took a chunk back as its deal 4, and put a claim into slot 256.
+const PUT_BACK: [u8; 53] = [
+    8, 0, 0, 0, 2, 0, 0, 0, 0, 0, 0, 0, 4, 9, 9, 9, 9, 9, 9, 9, 9, 9, 9, 9, 9, 9, 9, 9, 9, 9, 9, 9,
+    9, 9, 9, 9, 9, 9, 9, 9, 9, 9, 9, 9, 9, 0, 0, 0, 1, 0, 0, 1, 0,
+];
+
 /// The same bytes, kept as an own chunk.
 const KEPT: [u8; 38] = [
     2, 0xd8, 0x6e, 0x38, 0x62, 0x78, 0xa7, 0x17, 0x82, 0xa2, 0x83, 0xf9, 0x6a, 0xae, 0x4f, 0x4e,
@@ -68,12 +86,15 @@ fn stored() -> [u8; 512] {
 fn records_of_a_first_path_are_read_and_written(rt: HostRuntime) -> Result<(), Fail> {
     let stored = stored();
     let snapped = snapped(rt.alloc())?;
-    let records: [(&[u8], &[u8]); 6] = [
+    let records: [(&[u8], &[u8]); 9] = [
         (&BEGUN, SETTINGS),
         (&KEPT, &stored),
         (snapped.as_slice(), &[]),
         (&FORGOT, &[]),
         (&FRESH, &stored),
+        (&SWAP, &[]),
+        (&LET_GO, &[]),
+        (&PUT_BACK, &stored),
         (&REFUSED, &[]),
     ];
     for (head, body) in records {
@@ -167,12 +188,15 @@ fn a_snapshot_outside_the_grammar_is_none(rt: HostRuntime) -> Result<(), Fail> {
 fn a_head_that_is_cut_or_longer_is_none(rt: HostRuntime) -> Result<(), Fail> {
     let stored = stored();
     let snapped = snapped(rt.alloc())?;
-    let records: [(&[u8], &[u8]); 6] = [
+    let records: [(&[u8], &[u8]); 9] = [
         (&BEGUN, SETTINGS),
         (&KEPT, &stored),
         (snapped.as_slice(), &[]),
         (&FORGOT, &[]),
         (&FRESH, &stored),
+        (&SWAP, &[]),
+        (&LET_GO, &[]),
+        (&PUT_BACK, &stored),
         (&REFUSED, &[]),
     ];
     for (head, body) in records {
@@ -186,6 +210,33 @@ fn a_head_that_is_cut_or_longer_is_none(rt: HostRuntime) -> Result<(), Fail> {
         assert_eq!(rt; long, Some(ChangeError::BadHead));
     }
     Ok(())
+}
+
+#[test]
+fn slots_outside_the_grammar_are_none(rt: HostRuntime) {
+    let bytes = [
+        ("slots that do not ascend", 56, 5),
+        ("a slot too many", 48, 1),
+        ("a slot too few", 48, 3),
+        ("slots for more memory than there is", 45, 0xff),
+        ("length 0", 59, 0),
+        ("flag 2", 61, 2),
+    ];
+    for (what, place, byte) in bytes {
+        let mut head = SWAP;
+        if place < 62 {
+            head[place] = byte;
+        }
+        if place == 59 {
+            head[60] = byte;
+        }
+        let answer = decode_change(rt.alloc(), &head, None).err();
+        assert_eq!(rt; answer, Some(ChangeError::BadHead), "{what}");
+    }
+    let odd = decode_change(rt.alloc(), &LET_GO, Some(&[0])).err();
+    assert_eq!(rt; odd, Some(ChangeError::BadHead), "a cancel with a body");
+    let short = decode_change(rt.alloc(), &PUT_BACK, Some(&[0; 511])).err();
+    assert_eq!(rt; short, Some(ChangeError::BadHead), "claims of 511 bytes");
 }
 
 /// A head with another byte at a place.
@@ -202,7 +253,7 @@ fn fields_and_bodies_outside_the_grammar_are_none(rt: HostRuntime) {
     let stored = stored();
     let whole: &[u8] = &stored;
     let heads = [
-        ("kind 6", with(&FRESH, 0, 6), Some(whole)),
+        ("kind 9", with(&FRESH, 0, 9), Some(whole)),
         ("flag 2", with(&FRESH, 53, 2), Some(whole)),
         (
             "held already, with a body",

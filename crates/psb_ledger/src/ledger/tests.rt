@@ -7,6 +7,8 @@ use psb_bytes::{Bytes, DigestList, Ref, Ticket};
 use std::process::Abort;
 use std::test::Fail;
 
+mod deals;
+
 /// A node with capacity 64 and one peer, of id 2.
 const SETTINGS: &[u8; 274] =
     b"id = 1\naddress = \"127.0.0.1:7001\"\nseed = \"000102030405060708090a0b0c0d0e0f101112131415161718191a1b1c1d1e1f\"\ncapacity = 64\nbuddies = 2\nforward = true\n[[peer]]\nid = 2\naddress = \"127.0.0.1:7002\"\nkey = \"202122232425262728292a2b2c2d2e2f303132333435363738393a3b3c3d3e3f\"\nhops = 0\n";

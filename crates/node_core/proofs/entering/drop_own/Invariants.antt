@@ -1,7 +1,8 @@
 use Rattle.std.proofs.Common.{take}
+use Rattle.chunk_store.specs.declared.owner.Owner.TheVariants.{Own}
 use Rattle.psb_model.specs.Words.{name_listed}
 use Rattle.node_core.specs.Names.{Drops}
 use Rattle.node_core.proofs.entering.drop_own.Given as goal
 
 abbrev pub invariant-loop-name : goal.invariant-loop-name
-invariant-loop-name l = Drops l.fn.names l.names (name_listed (take l.name-index l.fn.dropped))
+invariant-loop-name l = Drops l.fn.names l.names Own (name_listed (take l.name-index l.fn.dropped))

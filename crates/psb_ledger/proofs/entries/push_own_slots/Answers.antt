@@ -1,7 +1,7 @@
 use Rattle.std.proofs.Common.{◌+◌, ◌++◌, ◌∷◌, [], ◌∙◌, sym, ap, arith}
 use Rattle.std.proofs.lemmas.List.{append_assoc}
 use Rattle.psb_model.specs.Effects.{own_slot, own_slots}
-use Rattle.psb_ledger.proofs.Slots.{one_more_slot}
+use Rattle.psb_ledger.proofs.Numbers.{one_more_slot}
 use Rattle.psb_ledger.proofs.entries.push_own_slots.Goals as goal
 
 pub loop-i-preserved : goal.loop-i-preserved

@@ -5,7 +5,7 @@ use Rattle.psb_bytes.specs.declared.ids.Object.TheVariants.{Chunk}
 use Rattle.psb_model.specs.Words.{has}
 use Rattle.psb_model.specs.State.{Row, in_key, is_held}
 use Rattle.psb_ledger.specs.View.{AccountView, LedgerView, named_row}
-use Rattle.psb_ledger.proofs.After.{held_names}
+use Rattle.psb_ledger.proofs.Peers.{held_names}
 use Rattle.psb_ledger.proofs.book.Book.is_held.Goals as goal
 
 pub returns-then-has : goal.returns-then-has

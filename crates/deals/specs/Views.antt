@@ -1,0 +1,16 @@
+-- What the values of the code stand for.
+use Rattle.psb_machine.specs.Deals.{Deal, StoreFresh, StoreSwap, Cancel, PutBack, Facts}
+use Rattle.deals.specs.declared.deal.DealView.{DealView}
+use Rattle.deals.specs.declared.deal.DealView.TheVariants as view
+use Rattle.deals.specs.declared.facts.Facts.{Facts as FactsHere}
+
+-- the deal, without where it lies in memory
+abbrev pub deal_in : DealView → Deal
+deal_in (view.StoreFresh name bytes) = StoreFresh name bytes.now
+deal_in (view.StoreSwap name slots bytes) = StoreSwap name slots bytes.now
+deal_in (view.Cancel name slots) = Cancel name slots
+deal_in (view.PutBack name claims) = PutBack name claims
+
+-- what was looked up
+abbrev pub facts_in : FactsHere → Facts
+facts_in f = record { name_fits = f.name_fits; clash = f.clash; new_body = f.new_body; home = f.home; issued = f.issued; capacity = f.capacity }

@@ -1,0 +1,17 @@
+/// What is looked up before a deal is judged. Of a chunk that is let go no bytes come, and the first
+/// three have no say.
+#[derive(Clone, Copy, PartialEq, Eq, Debug)]
+pub struct Facts {
+    /// Whether the bytes hash to their name.
+    pub name_fits: bool,
+    /// Whether other bytes are held under the name.
+    pub clash: bool,
+    /// Whether none are held under it.
+    pub new_body: bool,
+    /// The own claim that the bytes are, if they are one.
+    pub home: Option<u32>,
+    /// The number of the next claim.
+    pub issued: u32,
+    /// How many units the node may hold for others.
+    pub capacity: u32,
+}

@@ -1,0 +1,188 @@
+//! What is looked up before a fresh offer is judged.
+
+ghost use Rattle.std.specs.Prelude.{◌≡◌, ◌<◌, ◌⊎◌, List, Bool, ℕ, true, false, not, Some, None, is_some, IsSome, IfSome, IfOk, OnErr};
+ghost use Rattle.psb_bytes.specs.Objects.{name_eq};
+ghost use Rattle.psb_digest.specs.Hashes.{sha as sha_of};
+ghost use Rattle.psb_station.specs.Span.{Shows, Tells_bytes, Looked};
+ghost use Rattle.node_journal.specs.Entry.{Entry};
+ghost use Rattle.psb_model.specs.State.{State, is_held};
+ghost use Rattle.psb_model.specs.History.{state};
+ghost use Rattle.psb_model.specs.declared.change.Change.{Change};
+ghost use Rattle.psb_machine.specs.Deals.{meets_others, is_named, is_new};
+ghost use Rattle.deals.specs.Views.{deal_in};
+ghost use Rattle.node_core.specs.Stands.{AreDecoded};
+ghost use Rattle.chunk_store.specs.Store.{record_of, is_owner};
+ghost use Rattle.chunk_store.specs.declared.owner.Owner.TheVariants.{Peer};
+ghost use Rattle.node_core.specs.Names.{KnowsNames, AreThere, HasNone};
+ghost use Rattle.node_core.specs.Making.{AreFacts, why_refused, clashes};
+
+use crate::Fault;
+use crate::offer::Offer;
+use chunk_store::{Fit, Owner, Store, StoreError};
+use deals::{DealView, Facts};
+use node_journal::Log;
+use psb_bytes::{Digest, PeerId};
+use psb_digest::sha;
+use psb_ledger::Ledger;
+use psb_station::Disk;
+use std::alloc::Global;
+
+/// What is looked up of sealed bytes that come under a name: whether they have it, whether other bytes are held
+/// under it, and whether none are.
+#[derive(Clone, Copy)]
+struct Sealed {
+    named: bool,
+    clash: bool,
+    new: bool,
+}
+
+/// Whether other bytes are held under the name, which the peer does not have here. The disk is read only
+/// where some are held.
+fn meets_others<L: Log, D: Disk>(
+    alloc: Global,
+    log: &mut L,
+    disk: &mut D,
+    names: &Store,
+    peer: PeerId,
+    name: &Digest,
+    bytes: &[u8],
+) -> Result<bool, Fault>
+    requires whole { L.is_broken log.old ≡ false }
+    requires below { IfSome (record_of names.now name.now) (λ k. k < L.size log.old) }
+    requires there { IfSome (record_of names.now name.now) (λ k. L.keeps_body log.old k ≡ true) }
+    requires named { sha_of bytes.now ≡ name.now }
+    requires absent { is_owner names.now (Peer peer) name.now ≡ false }
+    ensures exact { IfOk result (λ r. Tells_bytes (D.view disk.new) → (h : List Change) (es : List Entry) → KnowsNames names.now h → AreDecoded h es
+        → Shows (L.holds log.old es) (D.view disk.old) → r ≡ meets_others h name.now bytes.now) }
+    ensures unheld { IfOk result (λ r. record_of names.now name.now ≡ None → r ≡ false) }
+    ensures log { log.new ≡ log.old }
+    ensures looked { Looked (result ≡ Err Fault.DiskFault) (D.view disk.old) (D.view disk.new) }
+    ensures reads { (D.view disk.new).write_faults ≡ (D.view disk.old).write_faults }
+    ensures only { OnErr result ((result ≡ Err Fault.DiskFault) ⊎ (result ≡ Err Fault.Memory)) }
+{
+    let mut scratch = Vec::new(alloc);
+    let owner = Owner::Peer(peer);
+    match names.look(log, disk, owner, name, bytes, &mut scratch) {
+        Ok(Fit::New | Fit::Shared) => Ok(false),
+        Err(StoreError::Clash(_)) => Ok(true),
+        Err(StoreError::Altered) => Ok(true),
+        Err(StoreError::DiskFault) => Err(Fault::DiskFault),
+        Err(StoreError::Memory) => Err(Fault::Memory),
+        Err(StoreError::Already) => unreachable!(),
+    }
+}
+
+/// What is looked up of the sealed bytes of a Store. Bodies are compared only where the bytes have their name and
+/// the peer does not have it here.
+fn sealed_facts<L: Log, D: Disk>(
+    alloc: Global,
+    log: &mut L,
+    disk: &mut D,
+    names: &Store,
+    peer: PeerId,
+    name: &Digest,
+    bytes: &[u8],
+) -> Result<Sealed, Fault>
+    requires whole { L.is_broken log.old ≡ false }
+    requires there { AreThere names.now (L.size log.old) (L.keeps_body log.old) }
+    ensures named { IfOk result (λ f. f.named ≡ name_eq (sha_of bytes.now) name.now) }
+    ensures new { IfOk result (λ f. f.new ≡ not (is_some (record_of names.now name.now))) }
+
+    // What is told of other bytes has a say only where the bytes have their name and the peer does not have it here.
+    ensures exact { IfOk result (λ f. Tells_bytes (D.view disk.new) → (h : List Change) (es : List Entry) → KnowsNames names.now h → AreDecoded h es
+        → Shows (L.holds log.old es) (D.view disk.old) → name_eq (sha_of bytes.now) name.now ≡ true → is_owner names.now (Peer peer) name.now ≡ false
+        → f.clash ≡ meets_others h name.now bytes.now) }
+    ensures unheld { IfOk result (λ f. record_of names.now name.now ≡ None → f.clash ≡ false) }
+    ensures log { log.new ≡ log.old }
+    ensures looked { Looked (result ≡ Err Fault.DiskFault) (D.view disk.old) (D.view disk.new) }
+    ensures reads { (D.view disk.new).write_faults ≡ (D.view disk.old).write_faults }
+    ensures only { OnErr result ((result ≡ Err Fault.DiskFault) ⊎ (result ≡ Err Fault.Memory)) }
+{
+    let named = sha(bytes) == *name;
+    let clash = if named && !names.holds(Owner::Peer(peer), name) {
+        meets_others(alloc, log, disk, names, peer, name, bytes)?
+    } else {
+        false
+    };
+    Ok(Sealed {
+        named,
+        clash,
+        new: names.record_of(name).is_none(),
+    })
+}
+
+/// What is looked up of the sealed bytes that a deal brings. A chunk that is let go comes without any.
+fn looked_up<L: Log, D: Disk>(
+    alloc: Global,
+    log: &mut L,
+    disk: &mut D,
+    names: &Store,
+    offer: &Offer<'_>,
+) -> Result<Sealed, Fault>
+    requires whole { L.is_broken log.old ≡ false }
+    requires there { AreThere names.now (L.size log.old) (L.keeps_body log.old) }
+    ensures named { IfOk result (λ f. f.named ≡ is_named (deal_in offer.now.deal)) }
+    ensures new { IfOk result (λ f. (s : State) → ((name : List ℕ) → is_some (record_of names.now name) ≡ is_held s name) → f.new ≡ is_new s (deal_in offer.now.deal)) }
+    ensures exact { IfOk result (λ f. Tells_bytes (D.view disk.new) → (h : List Change) (es : List Entry) → KnowsNames names.now h → AreDecoded h es
+        → Shows (L.holds log.old es) (D.view disk.old) → why_refused (state h) offer.now f.clash ≡ why_refused (state h) offer.now (clashes h offer.now)) }
+    ensures unheld { IfOk result (λ f. HasNone names.now (deal_in offer.now.deal) → f.clash ≡ false) }
+    ensures log { log.new ≡ log.old }
+    ensures looked { Looked (result ≡ Err Fault.DiskFault) (D.view disk.old) (D.view disk.new) }
+    ensures reads { (D.view disk.new).write_faults ≡ (D.view disk.old).write_faults }
+    ensures only { OnErr result ((result ≡ Err Fault.DiskFault) ⊎ (result ≡ Err Fault.Memory)) }
+{
+    match &offer.deal {
+        DealView::StoreFresh { name, bytes } => {
+            sealed_facts(alloc, log, disk, names, offer.peer, name, bytes)
+        }
+        DealView::StoreSwap { name, bytes, .. } => {
+            sealed_facts(alloc, log, disk, names, offer.peer, name, bytes)
+        }
+        DealView::Cancel { .. } | DealView::PutBack { .. } => Ok(Sealed {
+            named: true,
+            clash: false,
+            new: false,
+        }),
+    }
+}
+
+/// The facts that a fresh offer is judged by.
+pub(crate) fn facts_of<L: Log, D: Disk>(
+    alloc: Global,
+    log: &mut L,
+    disk: &mut D,
+    ledger: &Ledger,
+    names: &Store,
+    offer: &Offer<'_>,
+) -> Result<Facts, Fault>
+    requires whole { L.is_broken log.old ≡ false }
+    requires there { AreThere names.now (L.size log.old) (L.keeps_body log.old) }
+    requires held { (name : List ℕ) → is_some (record_of names.now name) ≡ is_held ledger.now.state name }
+    requires present { IsSome ledger.now.state.settings }
+
+    // On each disk they are the offer's, as if other bytes were held under its name or none were; where the disk
+    // tells its bytes, that is so or has no say.
+    ensures are { IfOk result (λ f. AreFacts f ledger.now.state offer.now) }
+    ensures exact { IfOk result (λ f. Tells_bytes (D.view disk.new) → (h : List Change) (es : List Entry) → KnowsNames names.now h → AreDecoded h es
+        → Shows (L.holds log.old es) (D.view disk.old) → why_refused (state h) offer.now f.clash ≡ why_refused (state h) offer.now (clashes h offer.now)) }
+
+    // Where nothing is compared, what the disk tells has no say.
+    ensures unheld { IfOk result (λ f. HasNone names.now (deal_in offer.now.deal) → f.clash ≡ false) }
+    ensures log { log.new ≡ log.old }
+    ensures looked { Looked (result ≡ Err Fault.DiskFault) (D.view disk.old) (D.view disk.new) }
+    ensures reads { (D.view disk.new).write_faults ≡ (D.view disk.old).write_faults }
+    ensures only { OnErr result ((result ≡ Err Fault.DiskFault) ⊎ (result ≡ Err Fault.Memory)) }
+{
+    let Some(settings) = ledger.settings() else {
+        unreachable!()
+    };
+    let Sealed { named, clash, new } = looked_up(alloc, log, disk, names, offer)?;
+    Ok(Facts {
+        name_fits: named,
+        clash,
+        new_body: new,
+        home: None,
+        issued: ledger.issued(),
+        capacity: settings.capacity,
+    })
+}

@@ -1,0 +1,96 @@
+-- What is known of a deal whose frame was read.
+use Rattle.std.proofs.Common.{◌≡◌, ℕ, true, ◌&&◌, ◌==◌, nat_le, nat_lt, List, [], ◌∷◌, length, Some, refl, sym, ap, ◌∙◌, subst, ◌≤◌}
+use Rattle.std.specs.List.{list_all}
+use Rattle.std.proofs.lemmas.Bool.{and_parts, leb-true}
+use Rattle.std.proofs.lemmas.List.{length-map}
+use Rattle.psb_bytes.specs.declared.lists.SlotClaim.{SlotClaim}
+use Rattle.psb_model.specs.Grammar.{ascend, is_u32, is_u64}
+use Rattle.wire_codec.specs.Fields.{within, ascends, is_digest, is_claim, are_slots, are_claims, is_text, are_bytes}
+use Rattle.wire_codec.specs.Frames.{fits}
+use Rattle.wire_codec.specs.declared.frame.Frame.{Frame}
+use Rattle.wire_codec.specs.declared.frame.Frame.TheVariants as frame
+use Rattle.wire_codec.specs.declared.limits.TheConstants.{MOST_SLOTS, CLAIM_BYTES}
+use Rattle.psb_machine.specs.Deals.{Deal, StoreFresh, StoreSwap, Cancel, PutBack, deal_of, slots_of}
+use Rattle.psb_machine.specs.Judging.{SlotsFit, SwapFits, CancelFits, PutBackFits, DealFits}
+
+-- a frame that was read
+pub record FrameFits (p number : ℕ) (frame : Frame) : Type 0 where
+  pub peer : is_u32 p ≡ true
+  pub number_fits : is_u64 number ≡ true
+  pub frame_is : fits frame ≡ true
+
+-- slots ascend in a frame as they do in a record
+ascend_same : (l : List ℕ) → ascends l ≡ ascend l
+ascend_same [] = refl
+ascend_same (x ∷ []) = refl
+ascend_same (x ∷ y ∷ ys) = ap (λ b. nat_lt x y && b) (ascend_same (y ∷ ys))
+
+few_of : (least n : ℕ) → within least MOST_SLOTS n ≡ true → n ≤ MOST_SLOTS
+few_of least n h = leb-true n MOST_SLOTS (and_parts (nat_le least n) (nat_le n MOST_SLOTS) h).1
+
+slots_fit : (least : ℕ) (slots : List ℕ) → are_slots least slots ≡ true → SlotsFit slots
+slots_fit least slots h =
+    let a = and_parts (within least MOST_SLOTS (length slots)) (list_all is_u32 slots && ascends slots) h in
+    let b = and_parts (list_all is_u32 slots) (ascends slots) a.1 in
+    record { few = few_of least (length slots) a.0; widths = b.0; ascend = sym (ascend_same slots) ∙ b.1 }
+
+claim_slots : (claims : List SlotClaim) → list_all is_claim claims ≡ true → list_all is_u32 (slots_of claims) ≡ true
+claim_slots [] h = refl
+claim_slots (c ∷ cs) h =
+    let two = and_parts (is_claim c) (list_all is_claim cs) h in
+    let slot = (and_parts (is_u32 c.slot) ((length c.bytes == CLAIM_BYTES) && are_bytes c.bytes) two.0).0 in
+    rw (slot, claim_slots cs two.1) refl
+
+claims_fit : (claims : List SlotClaim) → are_claims 1 claims ≡ true → SlotsFit (slots_of claims) × (list_all is_claim claims ≡ true)
+claims_fit claims h =
+    let a = and_parts (within 1 MOST_SLOTS (length claims)) (list_all is_claim claims && ascends (slots_of claims)) h in
+    let b = and_parts (list_all is_claim claims) (ascends (slots_of claims)) a.1 in
+    let few = few_of 1 (length claims) a.0 in (
+      record {
+        few = subst (λ (n : ℕ). n ≤ MOST_SLOTS) (sym (length-map claims (λ (c : SlotClaim). c.slot))) few;
+        widths = claim_slots claims b.0;
+        ascend = sym (ascend_same (slots_of claims)) ∙ b.1;
+      },
+      b.0,
+    )
+
+store_fits : (p number : ℕ) (name slots bytes : List ℕ) → FrameFits p number (frame.Store name slots bytes) → SwapFits p number name slots bytes
+store_fits p number name slots bytes f =
+    let a = and_parts (is_digest name) (are_slots 0 slots && is_text 1 bytes) f.frame_is in
+    let b = and_parts (are_slots 0 slots) (is_text 1 bytes) a.1 in
+    let c = and_parts (within 1 32768 (length bytes)) (are_bytes bytes) b.1 in
+    let d = and_parts (nat_le 1 (length bytes)) (nat_le (length bytes) 32768) c.0 in
+    record {
+      store = record {
+        peer = f.peer;
+        number_fits = f.number_fits;
+        name_fits = a.0;
+        long = leb-true 1 (length bytes) d.0;
+        short = leb-true (length bytes) 32768 d.1;
+        bytes_fit = c.1;
+      };
+      slots = slots_fit 0 slots b.0;
+    }
+
+cancel_fits : (p number : ℕ) (name slots : List ℕ) → FrameFits p number (frame.Cancel name slots) → CancelFits p number name slots
+cancel_fits p number name slots f =
+    let a = and_parts (is_digest name) (are_slots 1 slots) f.frame_is in
+    record { peer = f.peer; number_fits = f.number_fits; name_fits = a.0; slots = slots_fit 1 slots a.1 }
+
+put_back_fits : (p number : ℕ) (name : List ℕ) (claims : List SlotClaim) → FrameFits p number (frame.PutBack name claims) → PutBackFits p number name claims
+put_back_fits p number name claims f =
+    let a = and_parts (is_digest name) (are_claims 1 claims) f.frame_is in
+    let b = claims_fit claims a.1 in
+    record { peer = f.peer; number_fits = f.number_fits; name_fits = a.0; slots = b.0; claims_fit = b.1 }
+
+-- the parts of a deal that a frame asks for are within their bounds
+pub deal_fits : (p number : ℕ) (f : Frame) (deal : Deal) → FrameFits p number f → deal_of f ≡ Some deal → DealFits p number deal
+deal_fits p number (frame.Store name [] bytes) deal f is =
+    let same : StoreFresh name bytes ≡ deal = cc in subst (DealFits p number) same (store_fits p number name [] bytes f).store
+deal_fits p number (frame.Store name (slot ∷ slots) bytes) deal f is =
+    let same : StoreSwap name (slot ∷ slots) bytes ≡ deal = cc in subst (DealFits p number) same (store_fits p number name (slot ∷ slots) bytes f)
+deal_fits p number (frame.Cancel name slots) deal f is =
+    let same : Cancel name slots ≡ deal = cc in subst (DealFits p number) same (cancel_fits p number name slots f)
+deal_fits p number (frame.PutBack name claims) deal f is =
+    let same : PutBack name claims ≡ deal = cc in subst (DealFits p number) same (put_back_fits p number name claims f)
+deal_fits p number _ deal f is = absurd (cc)
