@@ -1,11 +1,11 @@
 #!/usr/bin/env python3
-"""Times a node that has long histories: how it opens them, and how many Stores it answers, refuses and drops. Not a
-part of the gate.
+"""Times a node that has long histories: how it opens them, and how many Stores and Releases it answers, refuses and
+drops. Not a part of the gate.
 
     tests/bench/node.py [PROGRAM]     times crates/psb/out/psb, or the program that is named
 
 Writes the images by the formats of docs/FORMATS.md in memory (/dev/shm), opens each by `ledger`, and then
-serves peers that send Stores one after another, each when the one before it was answered.
+serves peers that send Stores and Releases one after another, each when the one before it was answered.
 """
 
 import hashlib
@@ -21,7 +21,8 @@ import time
 TOP = os.path.dirname(os.path.dirname(os.path.dirname(os.path.abspath(__file__))))
 PROGRAM = os.path.join(TOP, "crates", "psb", "out", "psb")
 MEMORY = "/dev/shm"
-NODE, STORE, ACCEPTED, REFUSED, TOOK_FRESH = 1, 1, 4, 5, 5
+NODE, STORE, RELEASE, ACCEPTED, REFUSED, TOOK_FRESH, LET_GO = 1, 1, 2, 4, 5, 5, 7
+CANCEL, PUT_BACK = 0, 1
 BURST = 100
 
 
@@ -53,21 +54,42 @@ def took(peer, deal, slot, body):
     return record(struct.pack(">BIQ", TOOK_FRESH, peer, deal) + sha(body) + struct.pack(">IIB", slot, len(body), 1), body)
 
 
-def write_image(path, text, changes, peers):
-    """A node that took so many chunks of one unit, in turn of each peer."""
+def let_go(peer, deal, slot, body):
+    return record(struct.pack(">BIQ", LET_GO, peer, deal) + sha(body) + struct.pack(">II", 1, slot), b"")
+
+
+def write_image(path, text, changes, peers, gone=0):
+    """A node that took so many chunks of one unit, in turn of each peer, and let the first of them go again."""
     with open(path, "wb") as disk:
         disk.write(b"PSBLOG01" + bytes(8) + record(b"\x01", text))
         for number in range(changes):
             disk.write(took(peers[number % len(peers)], number // len(peers) + 1, number, chunk(number, 512)))
+        for number in range(gone):
+            disk.write(let_go(peers[0], changes // len(peers) + number + 1, number, chunk(number, 512)))
         disk.write(b"\x00")
 
 
-def store(peer, deal, body, named=True):
-    """A Store of these bytes under their name, or under one that is not theirs."""
-    name = sha(body if named else body + b"other")
-    text = name + struct.pack(">HI", 0, len(body)) + body
-    head = struct.pack(">4sB3xIIQI", b"PSB1", STORE, peer, NODE, deal, len(text))
+def datagram(kind, peer, deal, text):
+    head = struct.pack(">4sB3xIIQI", b"PSB1", kind, peer, NODE, deal, len(text))
     return head + text + hmac.new(key(peer), head + text, hashlib.sha256).digest()
+
+
+def slot_list(slots):
+    return struct.pack(">H", len(slots)) + b"".join(struct.pack(">I", slot) for slot in slots)
+
+
+def store(peer, deal, body, named=True, slots=()):
+    """A Store of these bytes under their name, or under one that is not theirs; with slots it is a swap."""
+    name = sha(body if named else body + b"other")
+    return datagram(STORE, peer, deal, name + slot_list(slots) + struct.pack(">I", len(body)) + body)
+
+
+def cancel(peer, deal, body, slot):
+    return datagram(RELEASE, peer, deal, sha(body) + bytes([CANCEL]) + slot_list([slot]))
+
+
+def put_back(peer, deal, body, slot):
+    return datagram(RELEASE, peer, deal, sha(body) + bytes([PUT_BACK]) + slot_list([slot]) + bytes(512))
 
 
 def timed(program, path, *words):
@@ -134,6 +156,20 @@ def refused(serving, first, count):
     return sum(serving.answer(frame, deal, REFUSED) for deal, frame in enumerate(frames, first))
 
 
+def released(serving, first, count):
+    """Seconds for so many chunks that are let go with their slot, as many that are put back into another slot, and as
+    many that are stored in the place of those slots, each sent when the one before was answered."""
+    def seconds(deal, frame_of):
+        frames = [frame_of(deal + i, i) for i in range(count)]
+        return sum(serving.answer(frame, at, ACCEPTED) for at, frame in enumerate(frames, deal))
+
+    return (
+        seconds(first, lambda deal, i: cancel(2, deal, chunk(i, 512), i)),
+        seconds(first + count, lambda deal, i: put_back(2, deal, chunk(count + i, 512), 10**6 + i)),
+        seconds(first + 2 * count, lambda deal, i: store(2, deal, chunk(10**15 + i, 512), slots=[10**6 + i])),
+    )
+
+
 def dropped(serving, first, bursts):
     """Seconds for so many bursts of datagrams that fail a test of their format, each with a refused Store behind it,
     by whose answer it is known that they were taken."""
@@ -163,6 +199,16 @@ def main():
             write_image(path, settings(port, peers), changes, [peer for peer, _ in peers])
             seconds, memory = timed(program, path, "ledger")
             print(f"opened {changes} changes of {len(peers)} peer(s): {seconds:.2f} s, {memory:.0f} MiB", flush=True)
+        for changes, gone in ((150_000, 150_000), (150_000, 0)):
+            write_image(path, settings(port, [(2, there)]), changes, [2], gone)
+            seconds, memory = timed(program, path, "ledger")
+            print(f"opened {changes} chunks of which {gone} were let go: {seconds:.2f} s, {memory:.0f} MiB", flush=True)
+        for changes in (3_000, 30_000, 300_000):
+            write_image(path, settings(port, [(2, there)]), changes, [2])
+            with Serving(program, path, port, link) as serving:
+                refused(serving, changes + 1, 1)
+                rates = [1_000 / seconds for seconds in released(serving, changes + 2, 1_000)]
+                print(f"behind {changes} units, cancels, put backs and swaps: {rates[0]:.0f}, {rates[1]:.0f}, {rates[2]:.0f} a second", flush=True)
         for changes in (0, 3_000, 30_000, 300_000):
             for size, count in ((512, 2_000), (32_768, 400)):
                 write_image(path, settings(port, [(2, there)]), changes, [2])
