@@ -2,6 +2,9 @@
 use Rattle.psb_machine.specs.Deals.{Deal, StoreFresh, StoreSwap, Cancel, PutBack, Facts}
 use Rattle.deals.specs.declared.deal.DealView.{DealView}
 use Rattle.deals.specs.declared.deal.DealView.TheVariants as view
+use Rattle.psb_machine.specs.Settling.{Reply, Accepts, Refuses}
+use Rattle.deals.specs.declared.reply.AnswerView.{AnswerView}
+use Rattle.deals.specs.declared.reply.AnswerView.TheVariants as answer
 use Rattle.deals.specs.declared.facts.Facts.{Facts as FactsHere}
 
 -- the deal, without where it lies in memory
@@ -10,6 +13,11 @@ deal_in (view.StoreFresh name bytes) = StoreFresh name bytes.now
 deal_in (view.StoreSwap name slots bytes) = StoreSwap name slots bytes.now
 deal_in (view.Cancel name slots) = Cancel name slots
 deal_in (view.PutBack name claims) = PutBack name claims
+
+-- the answer to an own deal
+abbrev pub answer_in : AnswerView → Reply
+answer_in (answer.Accepts claims) = Accepts claims
+answer_in (answer.Refuses why detail) = Refuses why detail
 
 -- what was looked up
 abbrev pub facts_in : FactsHere → Facts

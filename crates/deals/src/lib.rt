@@ -1,10 +1,13 @@
-//! Deals with a peer: how one stands by its number, and the change that a fresh one makes.
+//! Deals with a peer: how one stands by its number, the change that a fresh one makes, and the change that
+//! a reply to one of the node's own makes.
 #![tactic(auto)]
 
 mod deal;
 mod facts;
 mod judging;
 mod reasons;
+mod reply;
+mod settling;
 mod slots;
 mod standings;
 mod taking;
@@ -14,6 +17,8 @@ pub use facts::Facts;
 pub use judging::judge;
 pub use psb_machine::{Reason, Refusal, Standing};
 pub use reasons::refusal;
+pub use reply::{AnswerView, ReplyView};
+pub use settling::settle;
 pub use standings::standing;
 
 #[cfg(test)]

@@ -20,7 +20,7 @@ fn sealed(alloc: Global, new: bool, bytes: &[u8]) -> Result<Bytes, Memory>
 }
 
 /// The bytes of claims, one behind the other.
-fn joined(alloc: Global, claims: &ClaimsView<'_>) -> Result<Bytes, Memory>
+pub(crate) fn joined(alloc: Global, claims: &ClaimsView<'_>) -> Result<Bytes, Memory>
     ensures { IfOk result (λ all. all ≡ claims_joined claims.now) }
 {
     let mut all = Vec::new(alloc);

@@ -5,6 +5,8 @@ ghost use Rattle.psb_model.specs.Grammar.{in_grammar};
 ghost use Rattle.psb_machine.specs.Judging.{IsShort};
 ghost use Rattle.deals.specs.Views.{deal_in};
 
+mod replies;
+
 use super::*;
 use psb_bytes::{Bytes, Digest, Memory, PeerId, SlotList};
 use psb_digest::hmac;
@@ -202,14 +204,20 @@ fn body_of(alloc: Global, kind: Kind, tag: u8, slots: &[u32], len: usize) -> Res
     Ok(out)
 }
 
-/// The datagram from 2 to 1 with a body, under deal number 4.
+/// The datagram from 2 to 1 that asks for a deal.
 fn datagram(alloc: Global, kind: Kind, body: &[u8]) -> Result<Vec<u8>, Fail> {
-    let mut out = Vec::new(alloc);
-    out.extend_from_slice(&MAGIC)?;
-    out.push(match kind {
+    let number = match kind {
         Kind::Store => 1,
         Kind::Cancel | Kind::PutBack => 2,
-    })?;
+    };
+    sealed(alloc, number, body)
+}
+
+/// The datagram from 2 to 1 of a frame of this kind with a body, under deal number 4.
+fn sealed(alloc: Global, kind: u8, body: &[u8]) -> Result<Vec<u8>, Fail> {
+    let mut out = Vec::new(alloc);
+    out.extend_from_slice(&MAGIC)?;
+    out.push(kind)?;
     out.extend_from_slice(&[0, 0, 0, 0, 0, 0, 2, 0, 0, 0, 1, 0, 0, 0, 0, 0, 0, 0, 4])?;
     let len = u32::try_from(body.len()).ok().ok_or("the body is short")?;
     out.extend_from_slice(&len.to_be_bytes())?;

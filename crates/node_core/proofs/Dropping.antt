@@ -1,5 +1,5 @@
 -- Names from whose owners one is taken.
-use Rattle.std.proofs.Common.{◌≡◌, inl, inr, ℕ, ◌+◌, ◌<◌, Bool, true, false, not, ◌||◌, ◌&&◌, ◌↔◌, cond, List, [], ◌∷◌, ◌++◌, length, take, get_or, None, Result, Ok, Err, IfOk, OnOk, OnErr, refl, sym, ◌∙◌, ap, subst}
+use Rattle.std.proofs.Common.{◌≡◌, ◌⊎◌, inl, inr, ℕ, ◌+◌, ◌<◌, Bool, true, false, not, ◌||◌, ◌&&◌, ◌↔◌, cond, List, [], ◌∷◌, ◌++◌, length, take, get_or, None, Result, Ok, Err, IfOk, OnOk, OnErr, refl, sym, ◌∙◌, ap, subst}
 use Rattle.std.proofs.lemmas.Bool.{false≢true, eqb-true, eq-eqb}
 use Rattle.std.proofs.lemmas.List.{take_more}
 use Rattle.chunk_store.specs.declared.error.NotThere.{NotThere}
@@ -9,9 +9,11 @@ use Rattle.chunk_store.specs.declared.store.Store.{Store}
 use Rattle.chunk_store.specs.Owners.{owner_eq}
 use Rattle.chunk_store.specs.Store.{record_of, is_owner}
 use Rattle.psb_model.specs.Words.{name_eq, name_listed}
+use Rattle.psb_model.specs.State.{own_has}
+use Rattle.psb_model.specs.declared.entries.OwnEntry.{OwnEntry}
 use Rattle.psb_model.proofs.ByObject.{by_cases}
 use Rattle.psb_model.proofs.Own.{name_same, name_refl}
-use Rattle.node_core.specs.Names.{IsOwned, IsLeft, Drops}
+use Rattle.node_core.specs.Names.{HasNoOwner, IsOwned, IsLeft, Drops}
 use Rattle.node_core.proofs.Walking.{or_none, or_true, and_true, and_none, listed_last}
 
 pub owner_same : (a b : Owner) → owner_eq a b ≡ true → a ≡ b
@@ -126,3 +128,60 @@ drop_step old mid new owner gone n (Err e) drops owners last_is records not_ther
 pub drop_next : (old new : Store) (owner : Owner) (dropped : List (List ℕ)) (i : ℕ) (n : List ℕ) → i < length dropped → n ≡ get_or dropped i n → Drops old new owner (more_gone (name_listed (take i dropped)) n) → Drops old new owner (name_listed (take (i + 1) dropped))
 drop_next old new owner dropped i n lt here d = gone_as old new owner (more_gone (name_listed (take i dropped)) n) (name_listed (take (i + 1) dropped))
     (λ q. ap (λ (l : List (List ℕ)). name_listed l q) (take_more dropped i n lt ∙ ap (λ (m : List ℕ). take i dropped ++ m ∷ []) (sym here)) ∙ listed_last (take i dropped) n q) d
+
+-- ---- names that are no own chunks
+
+-- what was taken away in two goes was taken away
+pub drops_then : (old mid new : Store) (owner : Owner) (gone more : List ℕ → Bool) → Drops old mid owner gone → Drops mid new owner more → Drops old new owner (λ q. gone q || more q)
+drops_then old mid new owner gone more a b = record {
+  owners = λ o q. b.owners o q ∙ ap (λ (x : Bool). x && not (more q && owner_eq owner o)) (a.owners o q) ∙ owner_less (is_owner old o q) (gone q) (more q) (owner_eq owner o);
+  records = λ q. left_then q (a.records q) (b.records q);
+}
+  where
+    none_less : (q : List ℕ) → HasNoOwner mid q → HasNoOwner new q
+    none_less q nobody o = b.owners o q ∙ ap (λ (x : Bool). x && not (more q && owner_eq owner o)) (nobody o)
+
+    by_owned : (q : List ℕ) → IsOwned mid q → is_owner new owner q ≡ is_owner mid owner q → (is_owner new owner q ≡ is_owner old owner q) ⊎ IsOwned new q
+    by_owned q owned same = inr (record {
+      some = λ nobody. owned.some (λ o. by_cases (owner_eq owner o)
+          (λ k. let here : is_owner mid owner q ≡ false = sym same ∙ nobody owner in subst (λ (x : Owner). is_owner mid x q ≡ false) (owner_same owner o k) here)
+          (λ k. sym (b.owners o q ∙ ap (λ (x : Bool). is_owner mid o q && not (more q && x)) k ∙ ap (λ (x : Bool). is_owner mid o q && not x) (and_none (more q)) ∙ and_true (is_owner mid o q)) ∙ nobody o));
+    })
+
+    left_then : (q : List ℕ) → IsLeft old mid owner q → IsLeft mid new owner q → IsLeft old new owner q
+    left_then q (inl (was, own)) (inl (is, inr owned)) = inl (is ∙ was, inr owned)
+    left_then q (inl (was, inl own)) (inl (is, inl same)) = inl (is ∙ was, inl (same ∙ own))
+    left_then q (inl (was, inr owned)) (inl (is, inl same)) = inl (is ∙ was, by_owned q owned same)
+    left_then q (inl was) (inr none) = inr none
+    left_then q (inr (none, nobody)) (inl (is, how)) = inr (is ∙ none, none_less q nobody)
+    left_then q (inr (none, nobody)) (inr gone_now) = inr gone_now
+
+-- one name more of a list, of which those go that own has no longer
+pub drop_lost_next : (old mid new : Store) (own : List OwnEntry) (dropped : List (List ℕ)) (i : ℕ) (n : List ℕ) → i < length dropped → n ≡ get_or dropped i n
+    → Drops old mid Own (λ q. name_listed (take i dropped) q && not (own_has own q)) → Drops mid new Own (λ q. name_eq n q && not (own_has own q))
+    → Drops old new Own (λ q. name_listed (take (i + 1) dropped) q && not (own_has own q))
+drop_lost_next old mid new own dropped i n lt here before step =
+    gone_as old new Own (λ q. (name_listed (take i dropped) q && not (own_has own q)) || (name_eq n q && not (own_has own q))) (λ q. name_listed (take (i + 1) dropped) q && not (own_has own q))
+    (λ q. ap (λ (b : Bool). b && not (own_has own q)) (ap (λ (l : List (List ℕ)). name_listed l q) (take_more dropped i n lt ∙ ap (λ (m : List ℕ). take i dropped ++ m ∷ []) (sym here)) ∙ listed_last (take i dropped) n q)
+    ∙ both (name_listed (take i dropped) q) (name_eq n q) (not (own_has own q)))
+    (drops_then old mid new Own (λ q. name_listed (take i dropped) q && not (own_has own q)) (λ q. name_eq n q && not (own_has own q)) before step)
+  where
+    both : (a b c : Bool) → ((a || b) && c) ≡ ((a && c) || (b && c))
+    both true true true = refl
+    both true true false = refl
+    both true false true = refl
+    both true false false = refl
+    both false b c = refl
+
+-- a name that own has stays
+pub lost_none : (store : Store) (own : List OwnEntry) (n : List ℕ) → own_has own n ≡ true → Drops store store Own (λ q. name_eq n q && not (own_has own q))
+lost_none store own n has = drop_start store Own (λ q. name_eq n q && not (own_has own q)) (λ q. by_cases (name_eq n q)
+    (λ k. rw k (ap not (ap (own_has own) (sym (name_same n q k)) ∙ has)))
+    (λ k. rw k refl))
+
+-- one that it does not have goes
+pub lost_one : (old new : Store) (own : List OwnEntry) (n : List ℕ) → own_has own n ≡ false → Drops old new Own (name_eq n) → Drops old new Own (λ q. name_eq n q && not (own_has own q))
+lost_one old new own n lacks drops = gone_as old new Own (name_eq n) (λ q. name_eq n q && not (own_has own q)) (λ q. by_cases (name_eq n q)
+    (λ k. rw k (ap not (ap (own_has own) (sym (name_same n q k)) ∙ lacks)))
+    (λ k. rw k refl))
+    drops

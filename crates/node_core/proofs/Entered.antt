@@ -11,21 +11,23 @@ use Rattle.chunk_store.specs.Records.{or_else}
 use Rattle.chunk_store.specs.Store.{record_of, is_owner}
 use Rattle.psb_model.specs.declared.entries.OwnEntry.{OwnEntry}
 use Rattle.psb_model.specs.declared.change.Change.{Change}
-use Rattle.psb_model.specs.declared.change.Change.TheVariants.{Begun, Kept, Snapped, Forgot, TookFresh, TookSwap, LetGo, LetGoBack, Refused}
+use Rattle.psb_model.specs.declared.change.Change.TheVariants.{Begun, Kept, Snapped, Forgot, TookFresh, TookSwap, LetGo, LetGoBack, Refused, Proposed, Settled, Turned, Chose}
 use Rattle.psb_model.specs.Words.{name_eq, name_listed, has}
-use Rattle.psb_model.specs.State.{Row, State, nothing_yet, row, row_in, has_row, at_row, is_peer, in_key, own_has, is_held}
+use Rattle.psb_model.specs.State.{Row, State, nothing_yet, row, row_in, has_row, at_row, is_peer, in_key, own_has, own_marked, is_held}
 use Rattle.psb_model.specs.Conditions.{allowed, tests, settings_of_body, peer_of, is_begun}
-use Rattle.psb_model.specs.Effects.{after, kept_lists, kept_without}
+use Rattle.psb_model.specs.Effects.{after, all_rows_after, kept_lists, kept_without, is_named}
 use Rattle.psb_model.specs.History.{state, is_built, is_lawful}
 use Rattle.psb_model.specs.Needed.{brings_name}
 use Rattle.psb_model.proofs.ByObject.{by_cases}
 use Rattle.psb_model.proofs.Own.{name_same}
 use Rattle.psb_model.proofs.Rows.{row_in-at_row, row_in-at_other, row_in-first_rows}
 use Rattle.psb_model.proofs.Steps.{parts}
-use Rattle.psb_model.proofs.Built.{IsPlain, plain_state, allows, begun_before, changed, rows_one, row_then, held_in, own_is, own_with_is, Gains, Loses, fresh_gains, swap_gains, refused_gains, let_go_loses, put_back_loses, all_gain, none_first, was_held, brings_none}
+use Rattle.psb_model.proofs.Built.{IsPlain, plain_state, marks_has, allows, begun_before, changed, rows_one, row_then}
+use Rattle.psb_model.proofs.Held.{held_in, own_with_is, Gains, Loses, fresh_gains, swap_gains, refused_gains, proposed_gains, settled_gains, turned_gains, let_go_loses, put_back_loses, all_gain, none_first, was_held, brings_none}
+use Rattle.psb_model.proofs.Leaving.{own_stays, forgot_has, ended_has, settled_beside, turned_beside}
 use Rattle.psb_model.proofs.Prefixes.{state_snoc, changes_counted}
 use Rattle.node_core.specs.declared.entering.Entering.{Entering}
-use Rattle.node_core.specs.Names.{owns, brought_from, KnowsNames, AreThere, Adds, SameNames, HasNoOwner, IsLeft, Drops, Forgets, Enters, IsEntering, Enter, IsNew}
+use Rattle.node_core.specs.Names.{owns, brought_from, KnowsNames, AreThere, Adds, SameNames, HasNoOwner, IsLeft, Drops, GivesUp, deal_names, Enters, IsEntering, Enter, IsNew}
 use Rattle.node_core.proofs.Brought.{brought_snoc}
 use Rattle.node_core.proofs.Ordering.{IsOrdered, ordered_state, ordered_after, none_in_row, none_in_rows}
 use Rattle.node_core.proofs.Dropping.{owner_same}
@@ -91,14 +93,14 @@ differ_at s t p f name b own rows peer gains = record {
     by_owner Own q = ap (λ own. own_has own q) own ∙ sym (ap (λ (x : Bool). own_has s.own q || x) (and_none (b && name_eq name q)) ∙ or_none (own_has s.own q))
     by_owner (Peer r) q = ap (λ (l : List (ℕ × Row)). has in_key (row_in l r).ins (Chunk q)) rows ∙ one_gains p f q (b && name_eq name q) s.rows peer (gains q) r
 
-differ_kept : (s : State) (name : List ℕ) (len : ℕ) (new : Bool) (body : Option (List ℕ)) → IsPlain s → Differ s (after s (Kept name len new body)) Own name true
-differ_kept s name len new body plain = record {
+differ_kept : (s : State) (name : List ℕ) (len : ℕ) (new : Bool) (body : Option (List ℕ)) → IsPlain s → allowed s (Kept name len new body) ≡ true → Differ s (after s (Kept name len new body)) Own name true
+differ_kept s name len new body plain may = record {
   owners = λ o q. by_owner o q;
   held = λ q. ap (λ (x : Bool). x || held_in s.rows q) (own_now q) ∙ or_middle (own_has s.own q) (name_eq name q) (held_in s.rows q);
 }
   where
     own_now : (q : List ℕ) → own_has (after s (Kept name len new body)).own q ≡ (own_has s.own q || name_eq name q)
-    own_now q = ap (λ own. own_has own q) (own_is s (Kept name len new body) plain refl) ∙ own_with_is (record { name = name; len = len; marked = false }) s.own q
+    own_now q = ap (λ own. own_has own q) (own_stays s (Kept name len new body) plain refl may refl) ∙ own_with_is (record { name = name; len = len; marked = false }) s.own q
 
     by_owner : (o : Owner) (q : List ℕ) → owns (after s (Kept name len new body)) o q ≡ (owns s o q || (name_eq name q && owner_eq Own o))
     by_owner Own q = own_now q ∙ ap (λ (x : Bool). own_has s.own q || x) (sym (and_true (name_eq name q)))
@@ -180,6 +182,10 @@ placed old new h (TookSwap p deal name numbers len brings body) number lawful bu
 placed old new h (LetGo p deal name numbers) number lawful built is may knows enters q k here = inl (left_record old new (Peer p) q k (enters.records q) here, refl)
 placed old new h (LetGoBack p deal name numbers body) number lawful built is may knows enters q k here = inl (left_record old new (Peer p) q k (enters.records q) here, refl)
 placed old new h (Refused p deal why detail) number lawful built is may knows enters q k here = inl (sym (enters.records q) ∙ here, refl)
+placed old new h (Proposed p deal what) number lawful built is may knows enters q k here = inl (sym (enters.records q) ∙ here, refl)
+placed old new h (Settled p deal numbers body) number lawful built is may knows enters q k here = inl (left_record old new Own q k (enters.drops.records q) here, refl)
+placed old new h (Turned p deal why detail) number lawful built is may knows enters q k here = inl (left_record old new Own q k (enters.drops.records q) here, refl)
+placed old new h (Chose candidates) number lawful built is may knows enters q k here = inl (sym (enters.records q) ∙ here, refl)
 placed old new h _ number lawful built is may knows enters q k here = absurd (false≢true is)
 
 placed_brought : (old : Store) (h : List Change) (c : Change) (q : List ℕ) (k : ℕ) → KnowsNames old h → IsPlaced old c (length h) q k → brought_from 0 q (h ++ c ∷ []) ≡ Some k
@@ -201,17 +207,6 @@ added_names old new h c owner name differ knows adds places = record {
   held = λ q. ap is_some (adds.records q) ∙ some_or (record_of old q) (name_eq name q) (length h) ∙ ap (λ (b : Bool). b || name_eq name q) (knows.held q) ∙ sym (differ.held q) ∙ ap (λ (t : State). is_held t q) (sym (state_snoc h c));
   records = λ q k here. placed_brought old h c q k knows (places q k here);
 }
-
-own_filtered : (f : List ℕ → Bool) (l : List OwnEntry) (q : List ℕ) → own_has (filter (λ (e : OwnEntry). f e.name) l) q ≡ (own_has l q && f q)
-own_filtered f [] q = refl
-own_filtered f (e ∷ es) q =
-    by_cases (name_eq e.name q)
-    (λ k.
-    let same : f e.name ≡ f q = ap f (name_same e.name q k) in
-    by_cases (f e.name)
-    (λ t. rw (t, k) (sym t ∙ same))
-    (λ t. rw (t, k) (own_filtered f es q ∙ ap (λ (b : Bool). own_has es q && b) (sym same ∙ t) ∙ and_none (own_has es q) ∙ sym t ∙ same)))
-    (λ k. by_cases (f e.name) (λ t. rw (t, k) (own_filtered f es q)) (λ t. rw (t, k) (own_filtered f es q)))
 
 or_parts : (a b : Bool) → (a || b) ≡ false → (a ≡ false) × (b ≡ false)
 or_parts true b h = absurd (false≢true (sym h))
@@ -270,24 +265,29 @@ left_names old new h c owner gone lawful built is later may none knows drops own
         (λ free. absurd (owned.some (nobody_has new t q (λ o. owners_now o q) free)))
     held_now q (inr (gone_is, nobody)) = ap is_some gone_is ∙ sym (not_held new t q ordered_now (λ o. owners_now o q) nobody)
 
-forgot_names : (old new : Store) (h : List Change) (number : ℕ) → is_lawful h ≡ true → list_all is_built h ≡ true → allowed (state h) (Forgot number) ≡ true → KnowsNames old h → Forgets (state h) old new number → KnowsNames new (h ++ Forgot number ∷ [])
-forgot_names old new h number lawful built may knows f = left_names old new h (Forgot number) Own f.gone lawful built refl refl may (λ q. refl) knows f.drops owners_now
+-- own chunks were given up by a change that leaves what peers have here
+given_up_names : (old new : Store) (h : List Change) (c : Change) → is_lawful h ≡ true → list_all is_built h ≡ true → is_built c ≡ true → is_begun c ≡ false → allowed (state h) c ≡ true → ((q : List ℕ) → brings_name q c ≡ false)
+    → ((q : List ℕ) → own_has (state h).own q ≡ false → own_has (after (state h) c).own q ≡ false) → ((p : ℕ) (q : List ℕ) → owns (after (state h) c) (Peer p) q ≡ owns (state h) (Peer p) q)
+    → KnowsNames old h → GivesUp (state h) c old new → KnowsNames new (h ++ c ∷ [])
+given_up_names old new h c lawful built is later may none fewer peers knows f = left_names old new h c Own f.gone lawful built is later may none knows f.drops owners_now
   where
-    own_now : (q : List ℕ) → own_has (after (state h) (Forgot number)).own q ≡ (own_has (state h).own q && kept_lists (kept_without number (state h).kept) q)
-    own_now q = ap (λ own. own_has own q) (own_is (state h) (Forgot number) (plain_state h lawful built) refl) ∙ own_filtered (kept_lists (kept_without number (state h).kept)) (state h).own q
+    gone_own : (a g w : Bool) → (a ≡ true → g ≡ not w) → (a ≡ false → w ≡ false) → (a && not (g && true)) ≡ w
+    gone_own false g w are less = sym (less refl)
+    gone_own true g true are less = ap (λ (b : Bool). not (b && true)) (are refl)
+    gone_own true g false are less = ap (λ (b : Bool). not (b && true)) (are refl)
 
-    gone_own : (a g w : Bool) → (a ≡ true → g ≡ not w) → (a && not (g && true)) ≡ (a && w)
-    gone_own false g w is = refl
-    gone_own true g true is = ap (λ (b : Bool). not (b && true)) (is refl)
-    gone_own true g false is = ap (λ (b : Bool). not (b && true)) (is refl)
-
-    owners_now : (o : Owner) (q : List ℕ) → is_owner new o q ≡ owns (after (state h) (Forgot number)) o q
+    owners_now : (o : Owner) (q : List ℕ) → is_owner new o q ≡ owns (after (state h) c) o q
     owners_now Own q =
         f.drops.owners Own q
         ∙ ap (λ (b : Bool). b && not (f.gone q && true)) (knows.owners Own q)
-        ∙ gone_own (own_has (state h).own q) (f.gone q) (kept_lists (kept_without number (state h).kept) q) (f.are q)
-        ∙ sym (own_now q)
-    owners_now (Peer p) q = f.drops.owners (Peer p) q ∙ ap (λ (b : Bool). is_owner old (Peer p) q && not b) (and_none (f.gone q)) ∙ and_true (is_owner old (Peer p) q) ∙ knows.owners (Peer p) q
+        ∙ gone_own (own_has (state h).own q) (f.gone q) (own_has (after (state h) c).own q) (f.are q) (fewer q)
+    owners_now (Peer p) q = f.drops.owners (Peer p) q ∙ ap (λ (b : Bool). is_owner old (Peer p) q && not b) (and_none (f.gone q)) ∙ and_true (is_owner old (Peer p) q) ∙ knows.owners (Peer p) q ∙ sym (peers p q)
+
+-- what the peers have here stays, where a change of one brings no chunk and takes none
+peers_stay : (s : State) (c : Change) (p : ℕ) → IsPlain s → is_built c ≡ true → peer_of c ≡ Some p → is_peer s p ≡ true → ((q : List ℕ) → Gains (changed s c) q false) → (r : ℕ) (q : List ℕ) → owns (after s c) (Peer r) q ≡ owns s (Peer r) q
+peers_stay s c p plain is peer here gains r q = ap (λ (x : Row). has in_key x.ins (Chunk q)) (row_then s c p r plain.rows is peer here) ∙ by_cases (p == r)
+    (λ k. rw k (gains q (row s r) ∙ or_none (has in_key (row s r).ins (Chunk q))))
+    (λ k. rw k refl)
 
 -- a peer let a chunk go
 let_go_names : (old new : Store) (h : List Change) (c : Change) (p : ℕ) (name : List ℕ) → is_lawful h ≡ true → list_all is_built h ≡ true → is_built c ≡ true → is_begun c ≡ false → peer_of c ≡ Some p → is_peer (state h) p ≡ true → (after (state h) c).own ≡ (state h).own → allowed (state h) c ≡ true → ((q : List ℕ) → brings_name q c ≡ false) → ((q : List ℕ) → Loses (changed (state h) c) name q)
@@ -325,8 +325,8 @@ begun_names old new h body none knows same = at h none knows
     }
     at (c ∷ h) first knows = absurd (omega (arith, first))
 
-snapped_owns : (s : State) (c : Change) → (after s c).own ≡ s.own → (after s c).rows ≡ s.rows → (o : Owner) (q : List ℕ) → owns (after s c) o q ≡ owns s o q
-snapped_owns s c own rows Own q = ap (λ l. own_has l q) own
+snapped_owns : (s : State) (c : Change) → ((q : List ℕ) → own_has (after s c).own q ≡ own_has s.own q) → (after s c).rows ≡ s.rows → (o : Owner) (q : List ℕ) → owns (after s c) o q ≡ owns s o q
+snapped_owns s c own rows Own q = own q
 snapped_owns s c own rows (Peer p) q = ap (λ (l : List (ℕ × Row)). has in_key (row_in l p).ins (Chunk q)) rows
 
 -- with one change more
@@ -336,35 +336,60 @@ names_grown old new h (Begun body) lawful built is may knows enters =
     begun_names old new h body (omega (arith, changes_counted h, eqb-true (state h).changes 0 ts.0)) knows enters
 names_grown old new h (Kept name len brings body) lawful built is may knows enters =
     let c : Change = Kept name len brings body in
-    added_names old new h c Own name (differ_kept (state h) name len brings body (plain_state h lawful built)) knows enters (placed old new h c (length h) lawful built is may knows enters)
+    added_names old new h c Own name (differ_kept (state h) name len brings body (plain_state h lawful built) may) knows enters (placed old new h c (length h) lawful built is may knows enters)
 names_grown old new h (Snapped number ticket files folders bytes left names) lawful built is may knows enters =
     let c : Change = Snapped number ticket files folders bytes left names in
-    let own = own_is (state h) c (plain_state h lawful built) refl in
-    same_names old new h c (λ q. refl) (snapped_owns (state h) c own refl) (λ q. ap (λ l. own_has l q || held_in (state h).rows q) own) knows enters
-names_grown old new h (Forgot number) lawful built is may knows enters = forgot_names old new h number lawful built may knows enters
+    let own : (q : List ℕ) → own_has (after (state h) c).own q ≡ own_has (state h).own q = λ q. ap (λ l. own_has l q) (own_stays (state h) c (plain_state h lawful built) refl may refl) ∙ marks_has (λ e. e.marked && not (name_listed names e.name)) (state h).own q in
+    same_names old new h c (λ q. refl) (snapped_owns (state h) c own refl) (λ q. ap (λ b. b || held_in (state h).rows q) (own q)) knows enters
+names_grown old new h (Forgot number) lawful built is may knows enters =
+    let p = plain_state h lawful built in
+    given_up_names old new h (Forgot number) lawful built refl refl may (λ q. refl)
+    (λ q lacks. forgot_has (state h) number q p ∙ ap (λ (b : Bool). b && (kept_lists (kept_without number (state h).kept) q || is_named (state h).rows q)) lacks)
+    (λ r q. refl) knows enters
 names_grown old new h (TookFresh p deal name first len brings body) lawful built is may knows enters =
     let c : Change = TookFresh p deal name first len brings body in
     let s = state h in
     added_names old new h c (Peer p) name
-    (differ_at s (after s c) p (changed s c) name true (own_is s c (plain_state h lawful built) refl) (rows_one s c p (plain_state h lawful built).rows refl refl) (allows s c may).peer (λ q. fresh_gains s p deal name first len brings body q))
+    (differ_at s (after s c) p (changed s c) name true (own_stays s c (plain_state h lawful built) refl may refl) (rows_one s c p (plain_state h lawful built).rows refl refl) (allows s c may).peer (λ q. fresh_gains s p deal name first len brings body q))
     knows enters (placed old new h c (length h) lawful built is may knows enters)
 names_grown old new h (TookSwap p deal name numbers len brings body) lawful built is may knows enters =
     let c : Change = TookSwap p deal name numbers len brings body in
     let s = state h in
     added_names old new h c (Peer p) name
-    (differ_at s (after s c) p (changed s c) name true (own_is s c (plain_state h lawful built) refl) (rows_one s c p (plain_state h lawful built).rows refl refl) (allows s c may).peer (λ q. swap_gains s p deal name numbers len brings body q))
+    (differ_at s (after s c) p (changed s c) name true (own_stays s c (plain_state h lawful built) refl may refl) (rows_one s c p (plain_state h lawful built).rows refl refl) (allows s c may).peer (λ q. swap_gains s p deal name numbers len brings body q))
     knows enters (placed old new h c (length h) lawful built is may knows enters)
 names_grown old new h (LetGo p deal name numbers) lawful built is may knows enters =
     let c : Change = LetGo p deal name numbers in
-    let_go_names old new h c p name lawful built refl refl refl (allows (state h) c may).peer (own_is (state h) c (plain_state h lawful built) refl) may (λ q. refl) (λ q. let_go_loses (state h) p deal name numbers q) knows enters
+    let_go_names old new h c p name lawful built refl refl refl (allows (state h) c may).peer (own_stays (state h) c (plain_state h lawful built) refl may refl) may (λ q. refl) (λ q. let_go_loses (state h) p deal name numbers q) knows enters
 names_grown old new h (LetGoBack p deal name numbers body) lawful built is may knows enters =
     let c : Change = LetGoBack p deal name numbers body in
-    let_go_names old new h c p name lawful built refl refl refl (allows (state h) c may).peer (own_is (state h) c (plain_state h lawful built) refl) may (λ q. refl) (λ q. put_back_loses (state h) p deal name numbers body q) knows enters
+    let_go_names old new h c p name lawful built refl refl refl (allows (state h) c may).peer (own_stays (state h) c (plain_state h lawful built) refl may refl) may (λ q. refl) (λ q. put_back_loses (state h) p deal name numbers body q) knows enters
 names_grown old new h (Refused p deal why detail) lawful built is may knows enters =
     let c : Change = Refused p deal why detail in
     let s = state h in
-    let differ : Differ s (after s c) (Peer p) [] false = differ_at s (after s c) p (changed s c) [] false (own_is s c (plain_state h lawful built) refl) (rows_one s c p (plain_state h lawful built).rows refl refl) (allows s c may).peer (λ q. refused_gains s p deal why detail q) in
+    let differ : Differ s (after s c) (Peer p) [] false = differ_at s (after s c) p (changed s c) [] false (own_stays s c (plain_state h lawful built) refl may refl) (rows_one s c p (plain_state h lawful built).rows refl refl) (allows s c may).peer (λ q. refused_gains s p deal why detail q) in
     same_names old new h c (λ q. refl) (λ o q. differ.owners o q ∙ or_none (owns s o q)) (λ q. differ.held q ∙ or_none (is_held s q)) knows enters
+names_grown old new h (Proposed p deal what) lawful built is may knows enters =
+    let c : Change = Proposed p deal what in
+    let s = state h in
+    let differ : Differ s (after s c) (Peer p) [] false = differ_at s (after s c) p (changed s c) [] false (own_stays s c (plain_state h lawful built) is may refl) (rows_one s c p (plain_state h lawful built).rows is refl) (allows s c may).peer (λ q. proposed_gains s p deal what q) in
+    same_names old new h c (λ q. refl) (λ o q. differ.owners o q ∙ or_none (owns s o q)) (λ q. differ.held q ∙ or_none (is_held s q)) knows enters
+names_grown old new h (Settled p deal numbers body) lawful built is may knows enters =
+    let c : Change = Settled p deal numbers body in
+    let s = state h in
+    let plain = plain_state h lawful built in
+    given_up_names old new h c lawful built refl refl may (λ q. refl) (λ q lacks. ended_has s c q plain refl ∙ ap (λ (b : Bool). b && (not (own_marked s.own q) || is_named (all_rows_after s c) q)) lacks)
+    (peers_stay s c p plain refl refl (allows s c may).peer (λ q. settled_gains s p deal numbers body q)) knows enters
+names_grown old new h (Turned p deal why detail) lawful built is may knows enters =
+    let c : Change = Turned p deal why detail in
+    let s = state h in
+    let plain = plain_state h lawful built in
+    given_up_names old new h c lawful built refl refl may (λ q. refl) (λ q lacks. ended_has s c q plain refl ∙ ap (λ (b : Bool). b && (not (own_marked s.own q) || is_named (all_rows_after s c) q)) lacks)
+    (peers_stay s c p plain refl refl (allows s c may).peer (λ q. turned_gains s p deal why detail q)) knows enters
+names_grown old new h (Chose candidates) lawful built is may knows enters =
+    let c : Change = Chose candidates in
+    let own : (q : List ℕ) → own_has (after (state h) c).own q ≡ own_has (state h).own q = λ q. ap (λ l. own_has l q) (own_stays (state h) c (plain_state h lawful built) refl may refl) in
+    same_names old new h c (λ q. refl) (snapped_owns (state h) c own refl) (λ q. ap (λ b. b || held_in (state h).rows q) (own q)) knows enters
 names_grown old new h _ lawful built is may knows enters = absurd (false≢true is)
 
 -- a store without names knows the empty history
@@ -403,20 +428,49 @@ is_new store h s (TookSwap p deal name numbers len brings body) e knows here is 
 is_new store h s (LetGo p deal name numbers) e knows here is may it = subst (IsNew store) (sym it) tt
 is_new store h s (LetGoBack p deal name numbers body) e knows here is may it = subst (IsNew store) (sym it) tt
 is_new store h s (Refused p deal why detail) e knows here is may it = subst (IsNew store) (sym it) tt
+is_new store h s (Proposed p deal what) e knows here is may it = subst (IsNew store) (sym it) tt
+is_new store h s (Settled p deal numbers body) e knows here is may it = subst (IsNew store) (sym it) tt
+is_new store h s (Turned p deal why detail) e knows here is may it = subst (IsNew store) (sym it) tt
+is_new store h s (Chose candidates) e knows here is may it = subst (IsNew store) (sym it) tt
 is_new store h s _ e knows here is may it = absurd (false≢true is)
 
+-- names that may go, and of which those went that own has no longer
+given_up_of : (s : State) (c : Change) (old new : Store) (names : List (List ℕ)) → ((q : List ℕ) → own_has s.own q ≡ true → name_listed names q ≡ false → own_has (after s c).own q ≡ true) → Drops old new Own (λ q. name_listed names q && not (own_has (after s c).own q)) → GivesUp s c old new
+given_up_of s c old new names stay drops = record {
+  gone = λ q. name_listed names q && not (own_has (after s c).own q);
+  are = λ q has. by_cases (name_listed names q) (λ k. rw k refl) (λ k. rw (k, stay q has k) refl);
+  drops = drops;
+}
+
 -- what was worked out of a change is what the change does
-pub enters_of : (s : State) (old new : Store) (c : Change) (e : Entering) (number : ℕ) → is_built c ≡ true → IsEntering s c e → Enter old new e number → Enters s old new c number
-enters_of s old new (Begun body) e number is it enter = subst (λ (x : Entering). Enter old new x number) it enter
-enters_of s old new (Kept name len brings body) e number is it enter = subst (λ (x : Entering). Enter old new x number) it enter
-enters_of s old new (Snapped snapshot ticket files folders bytes left names) e number is it enter = subst (λ (x : Entering). Enter old new x number) it enter
-enters_of s old new (Forgot snapshot) e number is it enter = record { gone = name_listed it.0; are = it.2; drops = subst (λ (x : Entering). Enter old new x number) it.1 enter }
-enters_of s old new (TookFresh p deal name first len brings body) e number is it enter = subst (λ (x : Entering). Enter old new x number) it enter
-enters_of s old new (TookSwap p deal name numbers len brings body) e number is it enter = subst (λ (x : Entering). Enter old new x number) it enter
-enters_of s old new (LetGo p deal name numbers) e number is it enter = subst (λ (x : Entering). Enter old new x number) it enter
-enters_of s old new (LetGoBack p deal name numbers body) e number is it enter = subst (λ (x : Entering). Enter old new x number) it enter
-enters_of s old new (Refused p deal why detail) e number is it enter = subst (λ (x : Entering). Enter old new x number) it enter
-enters_of s old new _ e number is it enter = absurd (false≢true is)
+enters_of : (s : State) (old new : Store) (c : Change) (e : Entering) (number : ℕ) → IsPlain s → is_built c ≡ true → IsEntering s c e → Enter (after s c).own old new e number → Enters s old new c number
+enters_of s old new (Forgot snapshot) e number p is it enter =
+    given_up_of s (Forgot snapshot) old new it.0 (λ q has other. forgot_has s snapshot q p ∙ rw (has, listed q has other) refl) (subst (λ (x : Entering). Enter (after s (Forgot snapshot)).own old new x number) it.1 enter)
+  where
+    listed : (q : List ℕ) → own_has s.own q ≡ true → name_listed it.0 q ≡ false → kept_lists (kept_without snapshot s.kept) q ≡ true
+    listed q has other = by_cases (kept_lists (kept_without snapshot s.kept) q) (λ k. k) (λ k. absurd (false≢true (sym other ∙ it.2 q has k)))
+enters_of s old new (Settled q deal numbers body) e number p is it enter =
+    let c : Change = Settled q deal numbers body in
+    given_up_of s c old new (deal_names s q) (λ n has other. settled_beside s q deal numbers body n p other ∙ has) (subst (λ (x : Entering). Enter (after s c).own old new x number) it enter)
+enters_of s old new (Turned q deal why detail) e number p is it enter =
+    let c : Change = Turned q deal why detail in
+    given_up_of s c old new (deal_names s q) (λ n has other. turned_beside s q deal why detail n p other ∙ has) (subst (λ (x : Entering). Enter (after s c).own old new x number) it enter)
+enters_of s old new (Begun body) e number p is it enter = subst (λ (x : Entering). Enter (after s (Begun body)).own old new x number) it enter
+enters_of s old new (Kept name len brings body) e number p is it enter = subst (λ (x : Entering). Enter (after s (Kept name len brings body)).own old new x number) it enter
+enters_of s old new (Snapped snapshot ticket files folders bytes left names) e number p is it enter = subst (λ (x : Entering). Enter (after s (Snapped snapshot ticket files folders bytes left names)).own old new x number) it enter
+enters_of s old new (TookFresh q deal name first len brings body) e number p is it enter = subst (λ (x : Entering). Enter (after s (TookFresh q deal name first len brings body)).own old new x number) it enter
+enters_of s old new (TookSwap q deal name numbers len brings body) e number p is it enter = subst (λ (x : Entering). Enter (after s (TookSwap q deal name numbers len brings body)).own old new x number) it enter
+enters_of s old new (LetGo q deal name numbers) e number p is it enter = subst (λ (x : Entering). Enter (after s (LetGo q deal name numbers)).own old new x number) it enter
+enters_of s old new (LetGoBack q deal name numbers body) e number p is it enter = subst (λ (x : Entering). Enter (after s (LetGoBack q deal name numbers body)).own old new x number) it enter
+enters_of s old new (Refused q deal why detail) e number p is it enter = subst (λ (x : Entering). Enter (after s (Refused q deal why detail)).own old new x number) it enter
+enters_of s old new (Proposed q deal what) e number p is it enter = subst (λ (x : Entering). Enter (after s (Proposed q deal what)).own old new x number) it enter
+enters_of s old new (Chose candidates) e number p is it enter = subst (λ (x : Entering). Enter (after s (Chose candidates)).own old new x number) it enter
+enters_of s old new _ e number p is it enter = absurd (false≢true is)
+
+-- so it is after the change was made of a history
+pub enters_after : (s t : State) (h : List Change) (old new : Store) (c : Change) (e : Entering) (number : ℕ) → s ≡ state h → is_lawful h ≡ true → list_all is_built h ≡ true → is_built c ≡ true → t ≡ after s c → IsEntering s c e → Enter t.own old new e number → Enters s old new c number
+enters_after s t h old new c e number here lawful built is grown it enter =
+    enters_of s old new c e number (subst IsPlain (sym here) (plain_state h lawful built)) is it (subst (λ (x : State). Enter x.own old new e number) grown enter)
 
 pub names_same : (old new : Store) (h : List Change) → SameNames old new → KnowsNames old h → KnowsNames new h
 names_same old new h same knows = record {
@@ -461,5 +515,9 @@ there_grown s old new (TookFresh p deal name first len brings body) size more ke
 there_grown s old new (TookSwap p deal name numbers len brings body) size more keeps keeps' is longer same last there enters = added_there old new (Peer p) name size more keeps keeps' (longer, same, last) there enters
 there_grown s old new (LetGo p deal name numbers) size more keeps keeps' is longer same last there enters = λ q k here. still_there size more keeps keeps' k (longer, same, last) (there q k (left_record old new (Peer p) q k (enters.records q) here))
 there_grown s old new (LetGoBack p deal name numbers body) size more keeps keeps' is longer same last there enters = λ q k here. still_there size more keeps keeps' k (longer, same, last) (there q k (left_record old new (Peer p) q k (enters.records q) here))
+there_grown s old new (Proposed p deal what) size more keeps keeps' is longer same last there enters = λ q k here. still_there size more keeps keeps' k (longer, same, last) (there q k (sym (enters.records q) ∙ here))
+there_grown s old new (Settled p deal numbers body) size more keeps keeps' is longer same last there enters = λ q k here. still_there size more keeps keeps' k (longer, same, last) (there q k (left_record old new Own q k (enters.drops.records q) here))
+there_grown s old new (Turned p deal why detail) size more keeps keeps' is longer same last there enters = λ q k here. still_there size more keeps keeps' k (longer, same, last) (there q k (left_record old new Own q k (enters.drops.records q) here))
+there_grown s old new (Chose candidates) size more keeps keeps' is longer same last there enters = λ q k here. still_there size more keeps keeps' k (longer, same, last) (there q k (sym (enters.records q) ∙ here))
 there_grown s old new (Refused p deal why detail) size more keeps keeps' is longer same last there enters = λ q k here. still_there size more keeps keeps' k (longer, same, last) (there q k (sym (enters.records q) ∙ here))
 there_grown s old new _ size more keeps keeps' is longer same last there enters = absurd (false≢true is)

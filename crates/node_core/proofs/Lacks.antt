@@ -14,11 +14,12 @@ use Rattle.psb_model.specs.Effects.{after}
 use Rattle.psb_model.specs.History.{state, lawful_from, is_built}
 use Rattle.psb_model.specs.Needed.{brings, brings_name, gives_slot, slots_given, needs_name, needs_slot, is_needed_by, is_body, body_is_right, bodies_right, last_that, last_bringing}
 use Rattle.psb_model.specs.declared.change.Change.{Change}
-use Rattle.psb_model.specs.declared.change.Change.TheVariants.{Begun, Kept, Snapped, Forgot, TookFresh, TookSwap, LetGo, LetGoBack, Refused}
+use Rattle.psb_model.specs.declared.change.Change.TheVariants.{Begun, Kept, Snapped, Forgot, TookFresh, TookSwap, LetGo, LetGoBack, Refused, Proposed, Settled, Turned, Chose}
 use Rattle.psb_model.proofs.ByObject.{by_cases}
 use Rattle.psb_model.proofs.Own.{name_same, name_refl}
 use Rattle.psb_model.proofs.Steps.{parts}
-use Rattle.psb_model.proofs.Built.{allows, has_direct}
+use Rattle.psb_model.proofs.Built.{allows}
+use Rattle.psb_model.proofs.Directs.{has_direct}
 use Rattle.psb_model.proofs.Prefixes.{lawful_cons}
 use Rattle.chunk_store.specs.declared.store.Store.{Store}
 use Rattle.chunk_store.specs.Store.{record_of}
@@ -226,28 +227,33 @@ name_right s c name cs later brings_it none_given none = ap (λ (b : Bool). not 
         ∙ ap (λ (b : Bool). (is_held s name && not (list_any (brings_name name) cs)) || b) (no_slot (peer_of c))
         ∙ or_last (is_held s name && not (list_any (brings_name name) cs))
 
--- and one that gives slots their bytes has them
-slots_right : (s : State) (p deal : ℕ) (name numbers : List ℕ) (body : Option (List ℕ)) (cs : List Change) → LacksNone s (LetGoBack p deal name numbers body ∷ cs) → (not (is_needed_by s (LetGoBack p deal name numbers body) cs) || body_is_right (LetGoBack p deal name numbers body)) ≡ true
-slots_right s p deal name numbers (Some bytes) cs none = or_true (not (is_needed_by s (LetGoBack p deal name numbers (Some bytes)) cs))
-slots_right s p deal name numbers None cs none = ap (λ (b : Bool). not b || false) (none_passes_here (λ n. has_direct (row s p).ins n && not (list_any (gives_slot p n) cs)) numbers one)
+none_passes_here : (f : ℕ → Bool) (l : List ℕ) → ((n : ℕ) → list_any (λ m. m == n) l ≡ true → f n ≡ false) → list_any f l ≡ false
+none_passes_here f [] h = refl
+none_passes_here f (m ∷ ms) h =
+    let first : f m ≡ false = h m (ap (λ (b : Bool). b || list_any (λ x. x == m) ms) (eq-eqb m m refl)) in
+    ap (λ (b : Bool). b || list_any f ms) first ∙ none_passes_here f ms (λ n k. h n (ap (λ (b : Bool). m == n || b) k ∙ or_true (m == n)))
+
+-- and one that gives slots of a peer their bytes, and brings none under a name, has them
+slots_right : (s : State) (c : Change) (p : ℕ) (cs : List Change) → is_begun c ≡ false → brings c ≡ None → peer_of c ≡ Some p → LacksNone s (c ∷ cs) → (not (is_needed_by s c cs) || body_is_right c) ≡ true
+slots_right s c p cs later no_name of_peer none = by_cases (body_is_right c)
+    (λ right. ap (λ (b : Bool). not (is_needed_by s c cs) || b) right ∙ or_true (not (is_needed_by s c cs)))
+    (λ wrong. ap (λ (b : Bool). not b || body_is_right c) (needs ∙ none_passes_here (λ n. has_direct (row s p).ins n && not (list_any (gives_slot p n) cs)) (slots_given c) (one wrong)))
   where
-    c : Change
-    c = LetGoBack p deal name numbers None
+    needs : is_needed_by s c cs ≡ list_any (λ n. has_direct (row s p).ins n && not (list_any (gives_slot p n) cs)) (slots_given c)
+    needs =
+        ap (λ (b : Bool). b || needs_name s (brings c) cs || needs_slot s (peer_of c) (slots_given c) cs) later
+        ∙ ap (λ (o : Option (List ℕ)). needs_name s o cs || needs_slot s (peer_of c) (slots_given c) cs) no_name
+        ∙ ap (λ (o : Option ℕ). needs_slot s o (slots_given c) cs) of_peer
 
-    none_passes_here : (f : ℕ → Bool) (l : List ℕ) → ((n : ℕ) → list_any (λ m. m == n) l ≡ true → f n ≡ false) → list_any f l ≡ false
-    none_passes_here f [] h = refl
-    none_passes_here f (m ∷ ms) h =
-        let first : f m ≡ false = h m (ap (λ (b : Bool). b || list_any (λ x. x == m) ms) (eq-eqb m m refl)) in
-        ap (λ (b : Bool). b || list_any f ms) first ∙ none_passes_here f ms (λ n k. h n (ap (λ (b : Bool). m == n || b) k ∙ or_true (m == n)))
-
-    one : (n : ℕ) → list_any (λ m. m == n) numbers ≡ true → (has_direct (row s p).ins n && not (list_any (gives_slot p n) cs)) ≡ false
-    one n given = by_cases (has_direct (row s p).ins n)
+    one : body_is_right c ≡ false → (n : ℕ) → list_any (λ m. m == n) (slots_given c) ≡ true → (has_direct (row s p).ins n && not (list_any (gives_slot p n) cs)) ≡ false
+    one wrong n given = by_cases (has_direct (row s p).ins n)
         (λ direct. by_cases (list_any (gives_slot p n) cs)
         (λ again. rw (direct, again) refl)
         (λ last.
-        let it : gives_slot p n c ≡ true = ap (λ (b : Bool). b && list_any (λ m. m == n) numbers) (eq-eqb p p refl) ∙ given in
+        let it : gives_slot p n c ≡ true = ap (λ (o : Option ℕ). elim o [ None ↦ false | Some q ↦ q == p && list_any (λ m. m == n) (slots_given c) ]) of_peer ∙ ap (λ (b : Bool). b && list_any (λ m. m == n) (slots_given c)) (eq-eqb p p refl) ∙ given in
         let here : last_that (gives_slot p n) (c ∷ cs) ≡ Some c = ap (λ (o : Option Change). or_this o (gives_slot p n c) c) (none_last (gives_slot p n) cs last) ∙ ap (λ (b : Bool). cond b (Some c) None) it in
-        absurd (false≢true (sym (none.slots p n direct) ∙ ap lacks here))))
+        let right : body_is_right c ≡ true = not_false (body_is_right c) (sym (ap lacks here) ∙ none.slots p n direct) in
+        absurd (false≢true (sym wrong ∙ right))))
         (λ away. rw away refl)
 
 one_right : (s t : State) (c : Change) (cs : List Change) → allowed t c ≡ true → is_built c ≡ true → LacksNone s (c ∷ cs) → (not (is_needed_by s c cs) || body_is_right c) ≡ true
@@ -263,8 +269,12 @@ one_right s t (TookFresh p deal name first len false body) cs may built none = r
 one_right s t (TookSwap p deal name numbers len true body) cs may built none = name_right s (TookSwap p deal name numbers len true body) name cs refl refl refl none
 one_right s t (TookSwap p deal name numbers len false body) cs may built none = refl
 one_right s t (LetGo p deal name numbers) cs may built none = refl
-one_right s t (LetGoBack p deal name numbers body) cs may built none = slots_right s p deal name numbers body cs none
+one_right s t (LetGoBack p deal name numbers body) cs may built none = slots_right s (LetGoBack p deal name numbers body) p cs refl refl refl none
 one_right s t (Refused p deal why detail) cs may built none = refl
+one_right s t (Proposed p deal what) cs may built none = refl
+one_right s t (Settled p deal numbers body) cs may built none = slots_right s (Settled p deal numbers body) p cs refl refl refl none
+one_right s t (Turned p deal why detail) cs may built none = refl
+one_right s t (Chose candidates) cs may built none = refl
 one_right s t _ cs may built none = absurd (false≢true built)
 
 pub sound_of : (s t : State) (cs : List Change) → lawful_from t cs ≡ true → list_all is_built cs ≡ true → LacksNone s cs → bodies_right s cs ≡ true

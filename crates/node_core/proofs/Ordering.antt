@@ -10,17 +10,22 @@ use Rattle.psb_settings.specs.Settings.{have_distinct_ids, has_id}
 use Rattle.psb_settings.proofs.Ranges.{settings_of-are}
 use Rattle.psb_model.specs.declared.entries.Snapshot.{Snapshot}
 use Rattle.psb_model.specs.declared.change.Change.{Change}
-use Rattle.psb_model.specs.declared.change.Change.TheVariants.{Begun, Kept, Snapped, Forgot, TookFresh, TookSwap, LetGo, LetGoBack, Refused}
-use Rattle.psb_model.specs.Words.{has}
+use Rattle.psb_model.specs.declared.change.Change.TheVariants.{Begun, Kept, Snapped, Forgot, TookFresh, TookSwap, LetGo, LetGoBack, Refused, Proposed, Settled, Turned, Chose}
+use Rattle.psb_model.specs.Words.{all_of, name_listed, has}
+use Rattle.psb_model.specs.declared.entries.OwnEntry.{OwnEntry}
+use Rattle.psb_bytes.specs.declared.ids.Object.{Object}
+use Rattle.psb_bytes.specs.Objects.{object_cmp}
+use Rattle.std.specs.Ordering.{is_lt}
 use Rattle.psb_model.specs.State.{Row, State, nothing_yet, row_in, has_row, at_row, in_key, own_has}
 use Rattle.psb_model.specs.Conditions.{allowed, tests, names_ascend, settings_of_body, peer_of}
-use Rattle.psb_model.specs.Effects.{after, blank_rows, first_rows, kept_lists, kept_without}
+use Rattle.psb_model.specs.Effects.{after, all_rows_after, own_after, set_marks, blank_rows, first_rows, kept_lists, kept_without}
 use Rattle.psb_model.specs.History.{state, state_from, lawful_from, is_lawful, is_built}
 use Rattle.psb_model.proofs.ByObject.{by_cases}
 use Rattle.psb_model.proofs.Steps.{parts}
 use Rattle.psb_model.proofs.Rows.{has_row-at_row}
 use Rattle.psb_model.proofs.Prefixes.{lawful_cons}
-use Rattle.psb_model.proofs.Built.{IsPlain, plain_nothing, plain_after, allows, changed, rows_one, own_is, held_in}
+use Rattle.psb_model.proofs.Built.{IsPlain, is_kept, plain_nothing, plain_after, allows, changed, rows_one}
+use Rattle.psb_model.proofs.Held.{held_in}
 use Rattle.psb_ledger.specs.View.{in_order, own_key}
 use Rattle.psb_ledger.proofs.OwnTrees.{ordered_with, ordered_kept}
 
@@ -115,42 +120,56 @@ all_less n (x ∷ xs) h =
     let a = and_parts (ascends x) (list_all ascends xs) h in
     by_cases (not (x.number == n)) (λ k. rw k (rw a.0 (all_less n xs a.1))) (λ k. rw k (all_less n xs a.1))
 
--- a change of a peer leaves the own chunks and the snapshots, and each peer its one row
-ordered_peer : (s : State) (c : Change) (q : ℕ) → IsPlain s → is_built c ≡ true → peer_of c ≡ Some q → (after s c).own ≡ s.own → (after s c).kept ≡ s.kept → IsOrdered s → IsOrdered (after s c)
-ordered_peer s c q p b peer own kept o = record {
-  own = subst (λ own. in_order own_key own ≡ true) (sym own) o.own;
+-- marks leave the order of own chunks
+marks_behind : (mark : OwnEntry → Bool) (o : Object) (l : List OwnEntry) → list_all (λ (x : OwnEntry). is_lt (object_cmp o (own_key x))) (set_marks mark l) ≡ list_all (λ (x : OwnEntry). is_lt (object_cmp o (own_key x))) l
+marks_behind mark o [] = refl
+marks_behind mark o (e ∷ es) = ap (λ b. is_lt (object_cmp o (own_key e)) && b) (marks_behind mark o es)
+
+marks_ordered : (mark : OwnEntry → Bool) (l : List OwnEntry) → in_order own_key l ≡ true → in_order own_key (set_marks mark l) ≡ true
+marks_ordered mark [] h = refl
+marks_ordered mark (e ∷ es) h =
+    let a = and_parts (list_all (λ (x : OwnEntry). is_lt (object_cmp (own_key e) (own_key x))) es) (in_order own_key es) h in
+    rw (marks_behind mark (own_key e) es ∙ a.0, marks_ordered mark es a.1) refl
+
+own_after_ordered : (s : State) (c : Change) → all_of (tests s c) ≡ true → in_order own_key s.own ≡ true → in_order own_key (own_after s c) ≡ true
+own_after_ordered s (Kept name len new body) h o = ordered_with (record { name = name; len = len; marked = false }) s.own o (not_true (own_has s.own name) (parts (tests s (Kept name len new body)) h).0)
+own_after_ordered s (Snapped number ticket files folders bytes left names) h o = marks_ordered (λ e. e.marked && not (name_listed names e.name)) s.own o
+own_after_ordered s (Forgot number) h o = marks_ordered (λ e. e.marked || not (kept_lists (kept_without number s.kept) e.name)) s.own o
+own_after_ordered s _ h o = o
+
+-- so does what is given up
+ordered_own : (s : State) (c : Change) → allowed s c ≡ true → in_order own_key s.own ≡ true → in_order own_key (after s c).own ≡ true
+ordered_own s c h o = ordered_kept (is_kept (all_rows_after s c)) (own_after s c) (own_after_ordered s c (allows s c h).tests o)
+
+-- a change of a peer leaves the snapshots, and each peer its one row
+ordered_peer : (s : State) (c : Change) (q : ℕ) → IsPlain s → is_built c ≡ true → allowed s c ≡ true → peer_of c ≡ Some q → (after s c).kept ≡ s.kept → IsOrdered s → IsOrdered (after s c)
+ordered_peer s c q p b h peer kept o = record {
+  own = ordered_own s c h o.own;
   kept = subst (λ ks. list_all ascends ks ≡ true) (sym kept) o.kept;
   rows = subst (λ (l : List (ℕ × Row)). are_distinct l ≡ true) (sym (rows_one s c q p.rows b peer)) (distinct_at_row q (changed s c) s.rows o.rows);
 }
 
 pub ordered_after : (s : State) (c : Change) → IsPlain s → is_built c ≡ true → allowed s c ≡ true → IsOrdered s → IsOrdered (after s c)
-ordered_after s (Begun body) p b h o = record { own = subst (λ own. in_order own_key own ≡ true) (sym (own_is s (Begun body) p refl)) o.own; kept = o.kept; rows = distinct_first body }
-ordered_after s (Kept name len new body) p b h o =
-    let c : Change = Kept name len new body in
-    let ts = parts (tests s c) (allows s c h).tests in
-    record {
-      own = subst (λ own. in_order own_key own ≡ true) (sym (own_is s c p refl)) (ordered_with (record { name = name; len = len; marked = false }) s.own o.own (not_true (own_has s.own name) ts.0));
-      kept = o.kept;
-      rows = o.rows;
-    }
+ordered_after s (Begun body) p b h o = record { own = ordered_own s (Begun body) h o.own; kept = o.kept; rows = distinct_first body }
+ordered_after s (Kept name len new body) p b h o = record { own = ordered_own s (Kept name len new body) h o.own; kept = o.kept; rows = o.rows }
 ordered_after s (Snapped number ticket files folders bytes left names) p b h o =
     let c : Change = Snapped number ticket files folders bytes left names in
     let ts = parts (tests s c) (allows s c h).tests in
     record {
-      own = subst (λ own. in_order own_key own ≡ true) (sym (own_is s c p refl)) o.own;
+      own = ordered_own s c h o.own;
       kept = all_end s.kept (record { number = number; ticket = ticket; files = files; folders = folders; bytes = bytes; left = left; names = names }) o.kept ts.1.0;
       rows = o.rows;
     }
-ordered_after s (Forgot number) p b h o = record {
-  own = subst (λ own. in_order own_key own ≡ true) (sym (own_is s (Forgot number) p refl)) (ordered_kept (λ e. kept_lists (kept_without number s.kept) e.name) s.own o.own);
-  kept = all_less number s.kept o.kept;
-  rows = o.rows;
-}
-ordered_after s (TookFresh q deal name first len new body) p b h o = let c : Change = TookFresh q deal name first len new body in ordered_peer s c q p refl refl (own_is s c p refl) refl o
-ordered_after s (TookSwap q deal name numbers len new body) p b h o = let c : Change = TookSwap q deal name numbers len new body in ordered_peer s c q p refl refl (own_is s c p refl) refl o
-ordered_after s (LetGo q deal name numbers) p b h o = let c : Change = LetGo q deal name numbers in ordered_peer s c q p refl refl (own_is s c p refl) refl o
-ordered_after s (LetGoBack q deal name numbers body) p b h o = let c : Change = LetGoBack q deal name numbers body in ordered_peer s c q p refl refl (own_is s c p refl) refl o
-ordered_after s (Refused q deal why detail) p b h o = let c : Change = Refused q deal why detail in ordered_peer s c q p refl refl (own_is s c p refl) refl o
+ordered_after s (Forgot number) p b h o = record { own = ordered_own s (Forgot number) h o.own; kept = all_less number s.kept o.kept; rows = o.rows }
+ordered_after s (Chose candidates) p b h o = record { own = ordered_own s (Chose candidates) h o.own; kept = o.kept; rows = o.rows }
+ordered_after s (TookFresh q deal name first len new body) p b h o = ordered_peer s (TookFresh q deal name first len new body) q p refl h refl refl o
+ordered_after s (TookSwap q deal name numbers len new body) p b h o = ordered_peer s (TookSwap q deal name numbers len new body) q p refl h refl refl o
+ordered_after s (LetGo q deal name numbers) p b h o = ordered_peer s (LetGo q deal name numbers) q p refl h refl refl o
+ordered_after s (LetGoBack q deal name numbers body) p b h o = ordered_peer s (LetGoBack q deal name numbers body) q p refl h refl refl o
+ordered_after s (Refused q deal why detail) p b h o = ordered_peer s (Refused q deal why detail) q p refl h refl refl o
+ordered_after s (Proposed q deal what) p b h o = ordered_peer s (Proposed q deal what) q p b h refl refl o
+ordered_after s (Settled q deal numbers body) p b h o = ordered_peer s (Settled q deal numbers body) q p refl h refl refl o
+ordered_after s (Turned q deal why detail) p b h o = ordered_peer s (Turned q deal why detail) q p refl h refl refl o
 ordered_after s _ p b h o = absurd (false≢true b)
 
 ordered_from : (s : State) (h : List Change) → IsPlain s → lawful_from s h ≡ true → list_all is_built h ≡ true → IsOrdered s → IsOrdered (state_from s h)

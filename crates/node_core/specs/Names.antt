@@ -14,10 +14,11 @@ use Rattle.psb_model.specs.History.{state}
 use Rattle.psb_model.specs.Needed.{brings_name, last_place}
 use Rattle.psb_model.specs.declared.change.Change.{Change}
 use Rattle.psb_machine.specs.Deals.{Deal, StoreFresh, StoreSwap, Cancel, PutBack}
-use Rattle.psb_model.specs.declared.change.Change.TheVariants.{Kept, Forgot, TookFresh, TookSwap, LetGo, LetGoBack}
-use Rattle.psb_model.specs.Effects.{kept_lists, kept_without}
+use Rattle.psb_model.specs.declared.change.Change.TheVariants.{Kept, Forgot, TookFresh, TookSwap, LetGo, LetGoBack, Settled, Turned}
+use Rattle.psb_model.specs.declared.entries.OwnEntry.{OwnEntry}
+use Rattle.psb_model.specs.Effects.{after, kept_lists, kept_without, deal_name, pending_name}
 use Rattle.node_core.specs.declared.entering.Entering.{Entering}
-use Rattle.node_core.specs.declared.entering.Entering.TheVariants.{Nothing, AddsOwner, DropsOwner, DropsOwn}
+use Rattle.node_core.specs.declared.entering.Entering.TheVariants.{Nothing, AddsOwner, DropsOwner, MayDropOwn}
 
 -- whether a body is held under the name for this owner
 abbrev pub owns : State → Owner → List ℕ → Bool
@@ -67,49 +68,57 @@ pub record Drops (old new : Store) (owner : Owner) (gone : List ℕ → Bool) : 
   pub owners : (o : Owner) (q : List ℕ) → is_owner new o q ≡ (is_owner old o q && not (gone q && owner_eq owner o))
   pub records : (q : List ℕ) → IsLeft old new owner q
 
--- of the own names those are gone that no kept snapshot lists without this one
-abbrev pub AreGone : State → ℕ → (List ℕ → Bool) → Type 0
-AreGone s number gone = (q : List ℕ) → own_has s.own q ≡ true → gone q ≡ not (kept_lists (kept_without number s.kept) q)
-
--- so it is where the snapshot is forgotten
-pub record Forgets (s : State) (old new : Store) (number : ℕ) : Type 0 where
+-- The own chunks that a change gives up are gone: those that the state after it has no longer.
+pub record GivesUp (s : State) (c : Change) (old new : Store) : Type 0 where
   pub gone : List ℕ → Bool
-  pub are : AreGone s number gone
+  pub are : (q : List ℕ) → own_has s.own q ≡ true → gone q ≡ not (own_has (after s c).own q)
   pub drops : Drops old new Own gone
 
 -- what a change with this number, of a kind that is built, does to the names, after this state
 abbrev pub Enters : State → Store → Store → Change → ℕ → Type 0
 Enters s old new (Kept name len brings body) number = Adds old new Own name number
-Enters s old new (Forgot snapshot) number = Forgets s old new snapshot
+Enters s old new (Forgot snapshot) number = GivesUp s (Forgot snapshot) old new
 Enters s old new (TookFresh p deal name first len brings body) number = Adds old new (Peer p) name number
 Enters s old new (TookSwap p deal name numbers len brings body) number = Adds old new (Peer p) name number
 Enters s old new (LetGo p deal name numbers) number = Drops old new (Peer p) (name_eq name)
 Enters s old new (LetGoBack p deal name numbers body) number = Drops old new (Peer p) (name_eq name)
+Enters s old new (Settled p deal numbers body) number = GivesUp s (Settled p deal numbers body) old new
+Enters s old new (Turned p deal why detail) number = GivesUp s (Turned p deal why detail) old new
 Enters s old new _ number = SameNames old new
+
+-- The own names that may go: those that no kept snapshot lists without this one, and those of the peer's pending
+-- deal.
+abbrev pub AreUnlisted : State → ℕ → List (List ℕ) → Type 0
+AreUnlisted s number names = (q : List ℕ) → own_has s.own q ≡ true → kept_lists (kept_without number s.kept) q ≡ false → name_listed names q ≡ true
+
+abbrev pub deal_names : State → ℕ → List (List ℕ)
+deal_names s p = pending_name deal_name (row s p).pending
 
 -- what is worked out of it before the change is made
 abbrev pub IsEntering : State → Change → Entering → Type 0
 IsEntering s (Kept name len brings body) e = e ≡ AddsOwner Own name
-IsEntering s (Forgot snapshot) e = (names : List (List ℕ)) × (e ≡ DropsOwn names) × AreGone s snapshot (name_listed names)
+IsEntering s (Forgot snapshot) e = (names : List (List ℕ)) × (e ≡ MayDropOwn names) × AreUnlisted s snapshot names
 IsEntering s (TookFresh p deal name first len brings body) e = e ≡ AddsOwner (Peer p) name
 IsEntering s (TookSwap p deal name numbers len brings body) e = e ≡ AddsOwner (Peer p) name
 IsEntering s (LetGo p deal name numbers) e = e ≡ DropsOwner (Peer p) name
 IsEntering s (LetGoBack p deal name numbers body) e = e ≡ DropsOwner (Peer p) name
+IsEntering s (Settled p deal numbers body) e = e ≡ MayDropOwn (deal_names s p)
+IsEntering s (Turned p deal why detail) e = e ≡ MayDropOwn (deal_names s p)
 IsEntering s _ e = e ≡ Nothing
 
--- what that does to the names
-abbrev pub Enter : Store → Store → Entering → ℕ → Type 0
-Enter old new Nothing number = SameNames old new
-Enter old new (AddsOwner owner name) number = Adds old new owner name number
-Enter old new (DropsOwner owner name) number = Drops old new owner (name_eq name)
-Enter old new (DropsOwn names) number = Drops old new Own (name_listed names)
+-- what that does to the names, where these are the own chunks after it
+abbrev pub Enter : List OwnEntry → Store → Store → Entering → ℕ → Type 0
+Enter own old new Nothing number = SameNames old new
+Enter own old new (AddsOwner owner name) number = Adds old new owner name number
+Enter own old new (DropsOwner owner name) number = Drops old new owner (name_eq name)
+Enter own old new (MayDropOwn names) number = Drops old new Own (λ q. name_listed names q && not (own_has own q))
 
 -- the owner to whom a name is given does not have it yet
 abbrev pub IsNew : Store → Entering → Type 0
 IsNew store Nothing = Unit {0}
 IsNew store (AddsOwner owner name) = is_owner store owner name ≡ false
 IsNew store (DropsOwner owner name) = Unit {0}
-IsNew store (DropsOwn names) = Unit {0}
+IsNew store (MayDropOwn names) = Unit {0}
 
 -- a store has no record of the bytes that the deal would be compared with
 abbrev pub HasNone : Store → Deal → Type 0

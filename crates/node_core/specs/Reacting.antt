@@ -9,20 +9,26 @@ use Rattle.wire_codec.specs.Frames.{datagram}
 use Rattle.psb_machine.specs.Deals.{is_compared}
 use Rattle.psb_machine.specs.Judging.{IsShort}
 use Rattle.psb_machine.specs.Replies.{reply_of, reply}
-use Rattle.psb_machine.specs.Machine.{Situation, Input, Datagram, Reaction as MachineReaction, react, settled, quiet, drops, makes, tells_again, here}
+use Rattle.psb_machine.specs.Settling.{settle}
+use Rattle.psb_machine.specs.Machine.{Situation, Input, Datagram, Reaction as MachineReaction, react, settled, quiet, drops, makes, tells_again, by_settled, here}
 use Rattle.psb_machine.specs.Gets.{has_chunk}
 use Rattle.node_core.specs.Letters.{letters_of}
-use Rattle.deals.specs.Views.{deal_in}
+use Rattle.deals.specs.Views.{answer_in, deal_in}
 use Rattle.node_core.specs.Making.{CanMake, MayMake, IsNextOffer, made_of, made_in, why_refused}
 use Rattle.node_core.specs.Unread.{IsUnread, IsCertain, NeedsRecord}
 use Rattle.node_core.specs.declared.decision.Decision.{Decision}
-use Rattle.node_core.specs.declared.decision.Decision.TheVariants.{Drop, Pass, Make, Again, Give}
+use Rattle.node_core.specs.declared.decision.Decision.TheVariants.{Drop, Pass, Make, Again, Settle, Give}
 use Rattle.node_core.specs.declared.offer.Offer.{Offer}
+use Rattle.node_core.specs.declared.offer.Reply.{Reply}
 use Rattle.node_core.specs.declared.offer.Request.{Request}
 use Rattle.node_core.specs.declared.reaction.Reaction.{Reaction}
 use Rattle.node_core.specs.declared.node.Node.{Node}
 
 -- ---- what is to be done with a datagram
+
+-- the change that a reply makes, if it fits the pending deal
+abbrev pub settled_by : State → Reply → Option Change
+settled_by s r = settle s r.peer r.reply.number (answer_in r.reply.answer)
 
 -- the machine makes the change of this offer, and tells of it
 pub record MakesChange (n : Situation) (x : List ℕ) (o : Offer) : Type 0 where
@@ -53,12 +59,18 @@ pub record GivesBytes (n : Situation) (x : List ℕ) (r : Request) : Type 0 wher
   -- they are read from their record
   pub read : NeedsRecord n (Datagram x)
 
+-- the machine makes what the reply makes of the pending deal, and tells of it to nobody
+pub record SettlesDeal (n : Situation) (x : List ℕ) (r : Reply) : Type 0 where
+  pub reaction : react n (Datagram x) ≡ by_settled (settled_by (state n.history) r) n.volatile
+  pub valid : (c : Change) → settled_by (state n.history) r ≡ Some c → IsValid (n.history ++ c ∷ [])
+
 -- what the machine does with the datagram is decided
 abbrev pub Decides : Decision → Situation → List ℕ → Type 0
 Decides (Drop why) n x = react n (Datagram x) ≡ drops why n.volatile
 Decides Pass n x = react n (Datagram x) ≡ quiet n.volatile
 Decides (Make o) n x = MakesChange n x o
 Decides (Again o change) n x = TellsAgain n x o change
+Decides (Settle r) n x = SettlesDeal n x r
 Decides (Give r) n x = GivesBytes n x r
 
 -- what was decided can be done: the change may be made, or was made, and can be told of
@@ -67,6 +79,7 @@ CanDo (Drop why) s = Unit {0}
 CanDo Pass s = Unit {0}
 CanDo (Make o) s = CanMake s o × IsShort (deal_in o.deal) × IsNextOffer s o
 CanDo (Again o change) s = change < s.changes
+CanDo (Settle r) s = (c : Change) → settled_by s r ≡ Some c → MayMake s c
 CanDo (Give r) s = Unit {0}
 
 -- ---- what is made of it

@@ -1,22 +1,22 @@
 //! What a change does to the names that are held.
 
-ghost use Rattle.std.specs.Prelude.{◌≡◌, ◌&&◌, not, ℕ, List, [], ◌∷◌, ◌++◌, true, if◌then◌else◌, IfOk, OnOk};
+ghost use Rattle.std.specs.Prelude.{◌≡◌, ◌&&◌, not, option_to_list, ℕ, List, [], ◌∷◌, ◌++◌, true, if◌then◌else◌, IfOk, OnOk};
 ghost use Rattle.std.specs.List.{list_all};
-ghost use Rattle.std.specs.Option.{option_map};
-ghost use Rattle.psb_model.specs.State.{State, own_has};
+ghost use Rattle.std.specs.Option.{option_copied, option_map};
+ghost use Rattle.psb_model.specs.State.{State, row, own_has};
 ghost use Rattle.psb_model.specs.Conditions.{names_ascend};
 ghost use Rattle.psb_model.specs.Words.{name_eq, name_listed};
-ghost use Rattle.psb_model.specs.Effects.{kept_lists, kept_without};
+ghost use Rattle.psb_model.specs.Effects.{kept_lists, kept_without, deal_name};
 ghost use Rattle.psb_ledger.specs.OwnList.{next_own};
 ghost use Rattle.psb_ledger.specs.View.{in_order, own_key};
 ghost use Rattle.chunk_store.specs.Store.{has_room};
 ghost use Rattle.chunk_store.specs.declared.owner.Owner.TheVariants.{Own};
-ghost use Rattle.node_core.specs.Names.{Drops};
+ghost use Rattle.node_core.specs.Names.{deal_names, Drops};
 
 use chunk_store::{Owner, Store};
-use psb_bytes::{Digest, DigestList, Items, Memory};
+use psb_bytes::{Digest, DigestList, Items, Memory, PeerId};
 use psb_ledger::{Ledger, Opening};
-use psb_model::{Change, OwnEntry, Snapshot};
+use psb_model::{Change, Deal, DealWhat, OwnEntry, Snapshot};
 use std::alloc::Global;
 
 /// What the node keeps of its own, in a ledger or in one that is being read up.
@@ -30,6 +30,14 @@ pub(crate) trait OwnPart {
     /// The kept snapshots.
     fn snapshots(&self) -> &[Snapshot]
         ensures { result.now ≡ (state self.now).kept };
+
+    /// Whether the name is that of an own chunk.
+    fn has_chunk(&self, name: &Digest) -> bool
+        ensures { result ≡ own_has (state self.now).own name.now };
+
+    /// The own deal with the peer that has no reply yet.
+    fn deal_with(&self, peer: PeerId) -> Option<&Deal>
+        ensures { option_copied result ≡ (row (state self.now) peer).pending };
 }
 
 impl OwnPart for Ledger {
@@ -42,6 +50,14 @@ impl OwnPart for Ledger {
     fn snapshots(&self) -> &[Snapshot] {
         self.kept()
     }
+
+    fn has_chunk(&self, name: &Digest) -> bool {
+        self.has_own(name)
+    }
+
+    fn deal_with(&self, peer: PeerId) -> Option<&Deal> {
+        self.pending(peer)
+    }
 }
 
 impl OwnPart for Opening {
@@ -53,6 +69,14 @@ impl OwnPart for Opening {
 
     fn snapshots(&self) -> &[Snapshot] {
         self.kept()
+    }
+
+    fn has_chunk(&self, name: &Digest) -> bool {
+        self.has_own(name)
+    }
+
+    fn deal_with(&self, peer: PeerId) -> Option<&Deal> {
+        self.pending(peer)
     }
 }
 
@@ -103,7 +127,7 @@ fn add_unlisted<P: OwnPart>(
 }
 
 /// The own names that no kept snapshot lists without this one, in their order.
-fn dropped_names<P: OwnPart>(alloc: Global, past: &P, number: u32) -> Result<DigestList, Memory>
+fn unlisted_names<P: OwnPart>(alloc: Global, past: &P, number: u32) -> Result<DigestList, Memory>
     requires own { in_order own_key (P.state past.now).own ≡ true }
     requires kept { list_all (λ k. names_ascend k.names) (P.state past.now).kept ≡ true }
     ensures { IfOk result (λ names. (q : List ℕ) → name_listed names q ≡ (own_has (P.state past.now).own q && not (kept_lists (kept_without number (P.state past.now).kept) q))) }
@@ -117,6 +141,37 @@ fn dropped_names<P: OwnPart>(alloc: Global, past: &P, number: u32) -> Result<Dig
     Ok(Items::from_vec(names))
 }
 
+/// The own chunk that a deal names.
+fn name_of(deal: &DealWhat) -> Option<Digest>
+    ensures { option_to_list result ≡ deal_name deal.now }
+{
+    match deal {
+        DealWhat::Fresh { name }
+        | DealWhat::Swap { name, .. }
+        | DealWhat::Cancel { name, .. }
+        | DealWhat::PutBack { name, .. } => Some(*name),
+        DealWhat::Forward { .. } | DealWhat::Return { .. } => None,
+    }
+}
+
+/// The name of the peer's pending deal, if it has one.
+fn pending_name<P: OwnPart>(past: &P, peer: PeerId) -> Option<Digest>
+    ensures { option_to_list result ≡ deal_names (P.state past.now) peer }
+{
+    name_of(&past.deal_with(peer)?.what)
+}
+
+/// The same, as a list.
+fn deal_names<P: OwnPart>(alloc: Global, past: &P, peer: PeerId) -> Result<DigestList, Memory>
+    ensures { IfOk result (λ names. names ≡ deal_names (P.state past.now) peer) }
+{
+    let mut names = Vec::new(alloc);
+    if let Some(name) = pending_name(past, peer) {
+        names.push(name)?;
+    }
+    Ok(Items::from_vec(names))
+}
+
 /// What a change does to the names that are held, as it is worked out before the change is made.
 #[derive(Drop)]
 pub(crate) enum Entering {
@@ -125,8 +180,8 @@ pub(crate) enum Entering {
     AddsOwner(Owner, Digest),
     /// An owner is taken from a name.
     DropsOwner(Owner, Digest),
-    /// The node itself owns these names no longer.
-    DropsOwn(DigestList),
+    /// The node itself owns these names no longer, but for those that it still has after the change.
+    MayDropOwn(DigestList),
 }
 
 impl Entering {
@@ -145,7 +200,10 @@ impl Entering {
         match change {
             Change::Kept { name, .. } => Ok(Entering::AddsOwner(Owner::Own, *name)),
             Change::Forgot { number } => {
-                Ok(Entering::DropsOwn(dropped_names(alloc, past, *number)?))
+                Ok(Entering::MayDropOwn(unlisted_names(alloc, past, *number)?))
+            }
+            Change::Settled { peer, .. } | Change::Turned { peer, .. } => {
+                Ok(Entering::MayDropOwn(deal_names(alloc, past, *peer)?))
             }
             Change::TookFresh { peer, name, .. } | Change::TookSwap { peer, name, .. } => {
                 Ok(Entering::AddsOwner(Owner::Peer(*peer), *name))
@@ -157,17 +215,18 @@ impl Entering {
         }
     }
 
-    /// Has the names as the change leaves them, whose record has this number. Takes no memory.
-    pub(crate) fn enter(&self, names: &mut Store, number: u64)
+    /// Has the names as the change leaves them, whose record has this number, and after which the node keeps this
+    /// of its own. Takes no memory.
+    pub(crate) fn enter<P: OwnPart>(&self, names: &mut Store, number: u64, left: &P)
         requires room { has_room names.old ≡ true }
         requires fresh { IsNew names.old self.now }
-        ensures { Enter names.old names.new self.now number }
+        ensures { Enter (P.state left.now).own names.old names.new self.now number }
     {
         match self {
             Entering::Nothing => {}
             Entering::AddsOwner(owner, name) => names.add(*owner, name, number),
             Entering::DropsOwner(owner, name) => drop_owner(names, *owner, name),
-            Entering::DropsOwn(dropped) => drop_own(names, dropped.as_slice()),
+            Entering::MayDropOwn(dropped) => drop_own(names, dropped.as_slice(), left),
         }
     }
 }
@@ -179,11 +238,20 @@ fn drop_owner(names: &mut Store, owner: Owner, name: &Digest)
     let _ = names.remove(owner, name);
 }
 
-/// Takes the node itself from the owners of these names. Takes no memory.
-fn drop_own(names: &mut Store, dropped: &[Digest])
-    ensures { Drops names.old names.new Own (name_listed dropped.now) }
+/// Takes the node itself from the owners of a name that is no own chunk's. Takes no memory.
+fn drop_lost<P: OwnPart>(names: &mut Store, name: &Digest, left: &P)
+    ensures { Drops names.old names.new Own (λ q. name_eq name.now q && not (own_has (P.state left.now).own q)) }
+{
+    if !left.has_chunk(name) {
+        drop_owner(names, Owner::Own, name);
+    }
+}
+
+/// Takes the node itself from the owners of those of these names that are no own chunks. Takes no memory.
+fn drop_own<P: OwnPart>(names: &mut Store, dropped: &[Digest], left: &P)
+    ensures { Drops names.old names.new Own (λ q. name_listed dropped.now q && not (own_has (P.state left.now).own q)) }
 {
     for name in dropped {
-        let _ = names.remove(Owner::Own, name);
+        drop_lost(names, name, left);
     }
 }

@@ -11,7 +11,7 @@ use Rattle.psb_model.specs.State.{in_key, in_size, out_key, out_size}
 use Rattle.psb_model.specs.Effects.{own_slots, chunk_in}
 use Rattle.psb_model.proofs.ByObject.{sum_by-with_one, sum_by-with_all}
 use Rattle.psb_model.proofs.Parts.{sum-own_slots}
-use Rattle.psb_ledger.specs.View.{lacks_all, plain_row, fresh_row}
+use Rattle.psb_ledger.specs.View.{OwnDealsView, lacks_all, plain_row, fresh_row}
 use Rattle.psb_ledger.proofs.Ordered.{by_cases, is_false}
 
 -- what a list lacks, it lacks when others are gone
@@ -35,5 +35,5 @@ pub more_out : (back first u : ℕ) (old new : List OutEntry) → back ≡ sum_b
 more_out back first u old new total is = omega (arith, total, ap (sum_by out_size) is, sum_by-with_all out_key out_size (own_slots first u) old, sum-own_slots first u)
 
 -- the row of an account that took a chunk
-pub taken_row : (ins ins' : List InEntry) (outs outs' : List OutEntry) (debts : List DebtEntry) (last : LastDeal) (name : List ℕ) (u first deal change : ℕ) → ins' ≡ with_one in_key (chunk_in name u) ins → outs' ≡ with_all out_key (own_slots first u) outs → plain_row ins' outs' debts (record { number = deal; change = change }) ≡ fresh_row name u first deal change (plain_row ins outs debts last)
-taken_row ins ins' outs outs' debts last name u first deal change a b = λ i. plain_row (a i) (b i) debts (record { number = deal; change = change })
+pub taken_row : (ins ins' : List InEntry) (outs outs' : List OutEntry) (debts : List DebtEntry) (last : LastDeal) (deals : OwnDealsView) (name : List ℕ) (u first deal change : ℕ) → ins' ≡ with_one in_key (chunk_in name u) ins → outs' ≡ with_all out_key (own_slots first u) outs → plain_row ins' outs' debts (record { number = deal; change = change }) deals ≡ fresh_row name u first deal change (plain_row ins outs debts last deals)
+taken_row ins ins' outs outs' debts last deals name u first deal change a b = λ i. plain_row (a i) (b i) debts (record { number = deal; change = change }) deals

@@ -21,7 +21,7 @@ lacks_find key [] o h = refl
 lacks_find key (x ∷ xs) o h = by_cases (object_eq (key x) o) (λ k. absurd (false≢true (sym h ∙ rw k refl))) (λ k. let h' = rw k at h in rw k (lacks_find key xs o h'))
 
 -- behind an entry at the object there is none
-none_behind : {E : Type 0} (key : E → Object) (x : E) (xs : List E) (o : Object) → in_order key (x ∷ xs) ≡ true → object_eq (key x) o ≡ true → has key xs o ≡ false
+pub none_behind : {E : Type 0} (key : E → Object) (x : E) (xs : List E) (o : Object) → in_order key (x ∷ xs) ≡ true → object_eq (key x) o ≡ true → has key xs o ≡ false
 none_behind key x xs o h k =
     let a = and_parts (list_all (λ y. is_lt (object_cmp (key x) (key y))) xs) (in_order key xs) h in
     ap (has key xs) (sym (object_eq-same (key x) o k)) ∙ before_all key (key x) xs a.0

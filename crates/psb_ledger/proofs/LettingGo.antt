@@ -12,16 +12,18 @@ use Rattle.psb_model.specs.Conditions.{tests, each_slot}
 use Rattle.psb_model.specs.Move.{Move, still, after_move}
 use Rattle.psb_model.specs.Effects.{direct_slots, took_deal}
 use Rattle.psb_model.proofs.Balance.{steps}
-use Rattle.psb_model.proofs.Built.{allows}
+use Rattle.psb_model.proofs.Held.{chunk_stays}
+use Rattle.psb_model.proofs.Built.{allows, row_use, changed}
 use Rattle.psb_model.proofs.Steps.{parts, Step}
 use Rattle.psb_model.proofs.Tidy.{none_returned}
 use Rattle.psb_ledger.specs.declared.codec.fields.CancelFields.{CancelFields}
 use Rattle.psb_ledger.specs.declared.book.Book.TheInside.{Inside}
-use Rattle.psb_ledger.specs.View.{AccountView, LedgerView, let_go_row, put_back_row, let_go_tests, put_back_tests, lacks_all, HasListRoom, IsReached}
+use Rattle.psb_ledger.specs.View.{AccountView, LedgerView, let_go_row, put_back_row, let_go_tests, put_back_tests, lacks_all, HasListRoom}
 use Rattle.psb_ledger.proofs.Trees.{without_none}
 use Rattle.psb_ledger.proofs.Places.{found_here, found_peer, found_account}
+use Rattle.psb_ledger.proofs.OwnStays.{names_more}
 use Rattle.psb_ledger.proofs.Sound.{state_of, view_of, good_of}
-use Rattle.psb_ledger.proofs.Peers.{IsAt, Makes, makes, row_at, within_used, debts_stay, all_untied_out}
+use Rattle.psb_ledger.proofs.Peers.{IsAt, Makes, makes, row_at, within_used, debts_stay}
 
 -- the slots that a record lists can be counted
 pub listed_count : (ns : List ℕ) → numbers_listed ns ≡ true → length ns < 2 ^ 32
@@ -32,10 +34,8 @@ listed_count ns h = ltb-true (length ns) (2 ^ 32) (and_parts (ascend ns) (is_cou
 abbrev pub let_go_of : CancelFields → List ℕ → Change
 let_go_of x ns = LetGo x.peer x.deal x.name ns
 
-pub let_go_tests_are : (s : State) (x : CancelFields) (ns : List ℕ) (r : Row) → IsReached s → row s x.peer ≡ r → all_of (tests s (let_go_of x ns)) ≡ all_of (let_go_tests r x.deal x.name ns)
-let_go_tests_are s x ns r reached a =
-    let free = all_untied_out s x.peer ns reached in
-    rw free (λ j. all_of (let_go_tests (a j) x.deal x.name ns))
+pub let_go_tests_are : (s : State) (x : CancelFields) (ns : List ℕ) (r : Row) → row s x.peer ≡ r → all_of (tests s (let_go_of x ns)) ≡ all_of (let_go_tests r x.deal x.name ns)
+let_go_tests_are s x ns r a = λ j. all_of (let_go_tests (a j) x.deal x.name ns)
 
 abbrev let_go_move : List ℕ → List ℕ → Move
 let_go_move name ns = record still { in_gone = Chunk name ∷ []; out_gone = slots ns }
@@ -71,7 +71,8 @@ can_let_go l v x ns i r f =
       made = λ w total sums a b. makes l v c x.peer i l.issued total r w refl refl (record { settings = refl; own = refl; kept = refl; snapped = refl; chosen = refl }) f a
           (b ∙ sym (row_let_go x.name ns x.deal l.changes r.row))
           refl
-          (omega (arith, ap held_units b, held, sums));
+          (λ y n. names_more y (changed s c y) n (λ k. chunk_stays out_key ns y.outs n ∙ k) (debts_stay y.debts) (λ k. k))
+          (omega (arith, ap (row_use s) b, held, sums));
     }
 
 -- INTO SLOTS
@@ -89,7 +90,7 @@ pub row_put_back : (name ns : List ℕ) (deal change : ℕ) (r : Row) → took_d
 row_put_back name ns deal change r = λ i. put_back_row name ns deal change (record r { outs = without_none out_key r.outs i; debts = debts_stay r.debts i })
 
 -- slots that are none of the list, as entries
-lacks_direct : (ns : List ℕ) (l : List InEntry) → each_slot (λ o. not (has in_key l o)) ns ≡ true → lacks_all in_key (direct_slots ns) l ≡ true
+pub lacks_direct : (ns : List ℕ) (l : List InEntry) → each_slot (λ o. not (has in_key l o)) ns ≡ true → lacks_all in_key (direct_slots ns) l ≡ true
 lacks_direct [] l h = refl
 lacks_direct (n ∷ ns) l h =
     let a = and_parts (not (has in_key l (Slot n))) (each_slot (λ o. not (has in_key l o)) ns) h in
@@ -124,5 +125,6 @@ can_put_back l v x ns i r f room =
       made = λ w a b. makes l v c x.peer i l.issued l.used r w refl refl (record { settings = refl; own = refl; kept = refl; snapped = refl; chosen = refl }) f a
           (b ∙ sym (row_put_back x.name ns x.deal l.changes r.row))
           refl
-          (omega (arith, ap held_units b, held));
+          (λ y n. names_more y (changed s c y) n (λ k. chunk_stays out_key [] y.outs n ∙ k) (debts_stay y.debts) (λ k. k))
+          (omega (arith, ap (row_use s) b, held));
     }

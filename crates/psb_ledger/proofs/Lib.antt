@@ -12,6 +12,8 @@ pub mod Merged
 pub mod OwnTrees
 pub mod Places
 pub mod Forms
+pub mod BarredNumbers
+pub mod OwnStays
 pub mod Sound
 pub mod Peers
 pub mod Accounts
@@ -19,3 +21,6 @@ pub mod Taking
 pub mod Swapping
 pub mod LettingGo
 pub mod Keeping
+pub mod Replies
+pub mod Choosing
+pub mod DealHeads

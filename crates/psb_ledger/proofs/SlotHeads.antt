@@ -48,7 +48,7 @@ too_few bytes rest count small front less ns more widths listed e =
     omega (arith, less, t.0, ap length t.1, length-append (flat_map u32 ns) more, numbers_length ns)
 
 -- two lists of slots with what is behind them
-same_slots : (ns ms r s : List ℕ) → list_all is_u32 ns ≡ true → list_all is_u32 ms ≡ true → is_count (length ns) ≡ true → is_count (length ms) ≡ true → counted u32 ns ++ r ≡ counted u32 ms ++ s → (ns ≡ ms) × (r ≡ s)
+pub same_slots : (ns ms r s : List ℕ) → list_all is_u32 ns ≡ true → list_all is_u32 ms ≡ true → is_count (length ns) ≡ true → is_count (length ms) ≡ true → counted u32 ns ++ r ≡ counted u32 ms ++ s → (ns ≡ ms) × (r ≡ s)
 same_slots ns ms r s a b c d e = same_counted u32 is_u32 same_u32 ns ms r s a b c d (sym (append_assoc (u32 (length ns)) (flat_map u32 ns) r) ∙ e ∙ append_assoc (u32 (length ms)) (flat_map u32 ms) s)
 
 pub not_ascending : (bytes r1 r2 ns : List ℕ) (count : ℕ) → count < 2 ^ 32 → bytes ≡ u32 count ++ r1 → r1 ≡ flat_map u32 ns ++ r2 → list_all is_u32 ns ≡ true → length ns ≡ count → ascend ns ≡ false → HasNoSlots bytes

@@ -10,11 +10,11 @@ use Rattle.psb_model.specs.declared.change.Change.TheVariants.{Begun}
 use Rattle.psb_model.specs.State.{Row, State, at_row, held_units, coming}
 use Rattle.psb_model.specs.Grammar.{in_grammar}
 use Rattle.psb_model.specs.Conditions.{capacity, allowed, settings_of_body}
-use Rattle.psb_model.specs.Effects.{after, blank_rows, first_rows}
+use Rattle.psb_model.specs.Effects.{after, blank_rows, first_rows, given_up}
 use Rattle.psb_model.proofs.Balance.{Good, good_state}
-use Rattle.psb_model.proofs.Prefixes.{state_snoc, lawful_snoc, all_snoc}
-use Rattle.psb_model.proofs.Built.{IsPlain, plain_state as plain_history, own_next, own_is}
-use Rattle.psb_model.specs.History.{is_built}
+use Rattle.psb_model.proofs.Prefixes.{state_snoc, lawful_snoc, all_snoc, changes_counted}
+use Rattle.psb_model.proofs.Built.{IsPlain, plain_state as plain_history}
+use Rattle.psb_model.specs.History.{state, is_built}
 use Rattle.psb_ledger.specs.declared.book.Book.TheInside.{Inside}
 use Rattle.psb_ledger.specs.OwnTree.{own_room, mine_of}
 use Rattle.psb_ledger.specs.View.{AccountView, LedgerView, Mine, named_row, plain_state, IsReached, IsSound}
@@ -23,24 +23,29 @@ use Rattle.psb_ledger.proofs.Places.{Found, found_set}
 
 -- what the parts of a book are for its view
 abbrev pub mine : Inside → Mine
-mine l = mine_of l.own l.kept.items l.snapped
+mine l = mine_of l.own l.kept.items l.snapped l.chosen.items
 
 abbrev pub state_of : Inside → State
 state_of l = plain_state l.changes l.settings l.accounts.items l.issued (mine l)
 
 abbrev pub view_of : Inside → LedgerView
-view_of l = record { state = state_of l; accounts = l.accounts.items; next = l.next; next_accounts = l.next_accounts.items; in_blocks = l.in_blocks; own_room = own_room l.own; kept_room = vec_capacity l.kept - vec_len l.kept }
+view_of l = record { state = state_of l; accounts = l.accounts.items; next = l.next; next_accounts = l.next_accounts.items; next_chosen = l.next_chosen.items; in_blocks = l.in_blocks; own_room = own_room l.own; kept_room = vec_capacity l.kept - vec_len l.kept }
 
 -- a state that a history gives is good, and so is each that a lawful change makes of it
 pub good_of : (s : State) → IsReached s → Good s
 good_of s r = subst Good r.gives (good_state r.history r.lawful)
 
--- it owes nothing, has no deal under way and no mark, so own changes by what comes and goes alone
+-- it owes nothing, no claim is moved, and what is marked is named
 pub plain_of : (s : State) → IsReached s → IsPlain s
 plain_of s r = subst IsPlain r.gives (plain_history r.history r.lawful r.built)
 
-pub own_of : (s : State) (c : Change) → IsReached s → is_built c ≡ true → (after s c).own ≡ own_next s c
-own_of s c r built = own_is s c (plain_of s r) built
+-- before the first change there are no own chunks
+pub own_none : (s : State) → IsReached s → s.changes ≡ 0 → s.own ≡ []
+own_none s r none = of_history r.history r.gives
+  where
+    of_history : (h : List Change) → state h ≡ s → s.own ≡ []
+    of_history [] e = ap (λ (t : State). t.own) (sym e)
+    of_history (c ∷ cs) e = absurd (omega (arith, changes_counted (c ∷ cs), ap (λ (t : State). t.changes) e, none))
 
 pub reached_after : (s : State) (c : Change) → IsReached s → is_built c ≡ true → in_grammar c ≡ true → allowed s c ≡ true → IsReached (after s c)
 reached_after s c r built grammar may = record {
@@ -68,8 +73,9 @@ begun_sound m ch st vs is total body nst nvs none_yet sound same some rows small
     let s = plain_state ch st vs is m in
     let n = plain_state 1 nst nvs is m in
     let one : 1 ≡ ch + 1 = omega arith in
-    let mine = own_of s (Begun body) sound.reached refl in
-    let is_after : n ≡ after s (Begun body) = λ i. record { changes = one i; settings = same i; rows = rows i; issued = is; own = sym mine i; kept = m.kept; snapped = m.snapped; chosen = [] } in
+    let none : m.own ≡ [] = own_none s sound.reached none_yet in
+    let mine : m.own ≡ (after s (Begun body)).own = none ∙ ap (given_up (first_rows (settings_of_body body))) (sym none) in
+    let is_after : n ≡ after s (Begun body) = λ i. record { changes = one i; settings = same i; rows = rows i; issued = is; own = mine i; kept = m.kept; snapped = m.snapped; chosen = m.chosen } in
     let may : allowed s (Begun body) ≡ true = rw (none_yet, some) refl in (
       is_after,
       record {
@@ -97,4 +103,4 @@ pub same_rows : (vs : List AccountView) (p i : ℕ) (v w : AccountView) → Foun
 same_rows vs p i v w f a b = found_set vs p i v w (λ r. r) f a b ∙ at_row_none p (map named_row vs)
 
 pub same_state : (m : Mine) (ch : ℕ) (st : Option Settings) (vs ws : List AccountView) (is : ℕ) → map named_row ws ≡ map named_row vs → plain_state ch st ws is m ≡ plain_state ch st vs is m
-same_state m ch st vs ws is h = λ i. record { changes = ch; settings = st; rows = h i; issued = is; own = m.own; kept = m.kept; snapped = m.snapped; chosen = [] }
+same_state m ch st vs ws is h = λ i. record { changes = ch; settings = st; rows = h i; issued = is; own = m.own; kept = m.kept; snapped = m.snapped; chosen = m.chosen }

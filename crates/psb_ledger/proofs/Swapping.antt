@@ -1,35 +1,35 @@
 -- A chunk that may be taken in the place of slots: what the account needs, and what is left.
-use Rattle.std.proofs.Common.{◌≡◌, ℕ, ◌≤◌, Bool, true, false, List, length, None, refl, sym, ap, ◌∙◌, subst, arith}
+use Rattle.std.proofs.Common.{◌≡◌, ℕ, ◌≤◌, Bool, true, false, not, List, [], length, None, refl, sym, ap, ◌∙◌, subst, arith}
 use Rattle.std.proofs.lemmas.Bool.{and_parts}
 use Rattle.psb_bytes.specs.declared.ids.Object.TheVariants.{Chunk}
 use Rattle.psb_model.specs.declared.change.Change.{Change}
 use Rattle.psb_model.specs.declared.change.Change.TheVariants.{TookSwap}
 use Rattle.psb_model.specs.Words.{units, has, all_of}
-use Rattle.psb_model.specs.State.{Row, State, row, is_held, in_key, out_key, debt_size, held_units}
+use Rattle.psb_model.specs.State.{Row, State, row, is_held, tied_in, in_key, out_key, debt_size, held_units}
 use Rattle.psb_model.specs.Grammar.{ascend, chunk_fits, numbers_listed, is_count}
-use Rattle.psb_model.specs.Conditions.{tests}
+use Rattle.psb_model.specs.Conditions.{tests, each_slot}
 use Rattle.psb_model.specs.Move.{after_move}
 use Rattle.psb_model.specs.Effects.{took_deal}
 use Rattle.psb_model.proofs.Balance.{steps}
-use Rattle.psb_model.proofs.Built.{allows}
+use Rattle.psb_model.proofs.Held.{chunk_stays}
+use Rattle.psb_model.proofs.Built.{allows, row_use, changed}
 use Rattle.psb_model.proofs.Steps.{parts, Step}
 use Rattle.psb_model.proofs.Tidy.{swap_move, none_returned}
 use Rattle.psb_ledger.specs.declared.codec.fields.SwapFields.{SwapFields}
 use Rattle.psb_ledger.specs.declared.book.Book.TheInside.{Inside}
-use Rattle.psb_ledger.specs.View.{AccountView, LedgerView, swap_row, swap_tests, HasListRoom, IsReached}
+use Rattle.psb_ledger.specs.View.{AccountView, LedgerView, swap_row, swap_tests, HasListRoom}
 use Rattle.psb_ledger.proofs.Ordered.{is_false}
 use Rattle.psb_ledger.proofs.Trees.{without_none}
 use Rattle.psb_ledger.proofs.Places.{found_here, found_peer, found_account}
+use Rattle.psb_ledger.proofs.OwnStays.{names_more}
 use Rattle.psb_ledger.proofs.Sound.{state_of, view_of, good_of}
-use Rattle.psb_ledger.proofs.Peers.{IsAt, Makes, makes, row_at, debts_stay, all_untied_in}
+use Rattle.psb_ledger.proofs.Peers.{IsAt, Makes, makes, row_at, debts_stay}
 
 abbrev pub swap_of : SwapFields → List ℕ → Change
 swap_of x ns = TookSwap x.peer x.deal x.name ns x.len x.new None
 
-pub swap_tests_are : (s : State) (x : SwapFields) (ns : List ℕ) (r : Row) (held : Bool) → IsReached s → row s x.peer ≡ r → held ≡ is_held s x.name → all_of (tests s (swap_of x ns)) ≡ all_of (swap_tests r x.deal x.name ns x.new held (units x.len))
-swap_tests_are s x ns r held reached a b =
-    let free = all_untied_in s x.peer ns reached in
-    rw free (λ j. all_of (swap_tests (a j) x.deal x.name ns x.new (sym b j) (units x.len)))
+pub swap_tests_are : (s : State) (x : SwapFields) (ns : List ℕ) (r : Row) (held untied : Bool) → row s x.peer ≡ r → held ≡ is_held s x.name → untied ≡ each_slot (λ o. not (tied_in s x.peer o)) ns → all_of (tests s (swap_of x ns)) ≡ all_of (swap_tests r x.deal x.name ns x.new held untied (units x.len))
+swap_tests_are s x ns r held untied a b c = λ j. all_of (swap_tests (a j) x.deal x.name ns x.new (sym b j) (sym c j) (units x.len))
 
 pub row_swap : (name : List ℕ) (u : ℕ) (ns : List ℕ) (deal change : ℕ) (r : Row) → took_deal deal change (after_move (swap_move ns name u) r) ≡ swap_row name u ns deal change r
 row_swap name u ns deal change r = λ i. swap_row name u ns deal change (record r { outs = without_none out_key r.outs i; debts = debts_stay r.debts i })
@@ -64,5 +64,6 @@ can_swap l v x ns i u r f room same =
       made = λ w a b. makes l v c x.peer i l.issued l.used r w refl refl (record { settings = refl; own = refl; kept = refl; snapped = refl; chosen = refl }) f a
           (b ∙ ap (λ n. swap_row x.name n ns x.deal l.changes r.row) same ∙ sym (row_swap x.name (units x.len) ns x.deal l.changes r.row))
           refl
-          (omega (arith, ap held_units b, held));
+          (λ y n. names_more y (changed s c y) n (λ k. chunk_stays out_key [] y.outs n ∙ k) (debts_stay y.debts) (λ k. k))
+          (omega (arith, ap (row_use s) b, held));
     }

@@ -8,11 +8,12 @@ use Rattle.psb_model.specs.declared.change.Change.{Change}
 use Rattle.psb_model.specs.declared.change.Change.TheVariants.{TookFresh, Refused}
 use Rattle.psb_model.specs.Words.{units, occurs, has, all_of, with_one, with_all, without}
 use Rattle.psb_model.specs.State.{Row, State, row, is_held, in_key, in_size, out_key, held_units, back_units, used}
-use Rattle.psb_model.specs.Conditions.{capacity, tests, fresh_tests}
+use Rattle.psb_model.specs.Conditions.{capacity, most_claims, tests, fresh_tests}
 use Rattle.psb_model.specs.Move.{still, after_move}
 use Rattle.psb_model.specs.Effects.{chunk_in, own_slots, took_deal}
 use Rattle.psb_model.proofs.ByObject.{sum_by-with_one, has-occurs}
-use Rattle.psb_model.proofs.Built.{allows}
+use Rattle.psb_model.proofs.Held.{chunk_stays}
+use Rattle.psb_model.proofs.Built.{allows, row_use, changed}
 use Rattle.psb_model.proofs.Steps.{parts}
 use Rattle.psb_model.proofs.Tidy.{fresh_move}
 use Rattle.psb_ledger.specs.declared.codec.fields.FreshFields.{FreshFields}
@@ -22,6 +23,7 @@ use Rattle.psb_ledger.specs.View.{AccountView, LedgerView, fresh_row, lacks_all,
 use Rattle.psb_ledger.proofs.Ordered.{by_cases, is_false}
 use Rattle.psb_ledger.proofs.Trees.{without_none}
 use Rattle.psb_ledger.proofs.Places.{found_here, found_peer, found_account}
+use Rattle.psb_ledger.proofs.OwnStays.{names_more, has_with_all}
 use Rattle.psb_ledger.proofs.Sound.{state_of, view_of, good_of}
 use Rattle.psb_ledger.proofs.Peers.{IsAt, Makes, makes, row_at, within_used, debts_stay}
 
@@ -59,6 +61,7 @@ pub record CanTake (l : Inside) (v : LedgerView) (x : FreshFields) (i u : ℕ) (
   pub held : held_units r.row + u < 2 ^ 32
   pub back : back_units r.row + u < 2 ^ 32
   pub total : l.used + u < 2 ^ 32
+  pub drawn : l.issued + u < 2 ^ 32
   pub absent : has in_key r.row.ins (Chunk x.name) ≡ false
   pub free : lacks_all out_key (own_slots x.first u) r.row.outs ≡ true
   pub made : (w : AccountView) → w.id ≡ r.id → w.row ≡ fresh_row x.name u x.first x.deal l.changes r.row → Makes l v (change_of x) i (l.issued + u) (l.used + u) w
@@ -85,6 +88,7 @@ can_take l v x i u r f room same =
       held = held;
       back = omega (arith, held, tidy.balanced, ap held_units q, ap back_units q);
       total = total;
+      drawn = omega (arith, same, leb-true (l.issued + units x.len) most_claims ts.1.1.1.1.1.1.0);
       absent = ap (λ y. has in_key y.ins (Chunk x.name)) (sym q) ∙ is_false (has in_key (row s x.peer).ins (Chunk x.name)) ts.1.0;
       free = ap (λ (y : Row). lacks_all out_key (own_slots x.first u) y.outs) (sym q) ∙ lacks_own x.first u (row s x.peer).outs (λ n le. omega (arith, tidy.below n (omega (arith, first, le))));
       made = λ w a b.
@@ -92,7 +96,8 @@ can_take l v x i u r f room same =
           makes l v c x.peer i (l.issued + u) (l.used + u) r w refl refl (record { settings = refl; own = refl; kept = refl; snapped = refl; chosen = refl }) f a
           (b' ∙ sym (row_fresh x.name (units x.len) x.first x.deal l.changes r.row))
           (ap (λ n. l.issued + n) same)
-          (omega (arith, ap held_units b', same, sum_by-with_one in_key in_size (chunk_in x.name (units x.len)) r.row.ins));
+          (λ y n. names_more y (changed s c y) n (λ k. has_with_all (own_slots x.first (units x.len)) (without out_key [] y.outs) (Chunk n) (chunk_stays out_key [] y.outs n ∙ k)) (debts_stay y.debts) (λ k. k))
+          (omega (arith, ap (row_use s) b', same, sum_by-with_one in_key in_size (chunk_in x.name (units x.len)) r.row.ins));
     }
 
 -- A REFUSAL
@@ -101,4 +106,4 @@ abbrev pub refusal_of : RefusedFields → Change
 refusal_of x = Refused x.peer x.deal x.why x.detail
 
 pub refused_one : (l : Inside) (v : LedgerView) (x : RefusedFields) (i : ℕ) (r w : AccountView) → IsAt l v (refusal_of x) x.peer i r → w.id ≡ r.id → w.row ≡ took_deal x.deal l.changes r.row → Makes l v (refusal_of x) i l.issued l.used w
-refused_one l v x i r w f a b = makes l v (refusal_of x) x.peer i l.issued l.used r w refl refl (record { settings = refl; own = refl; kept = refl; snapped = refl; chosen = refl }) f a (b ∙ sym (row_still x.deal l.changes r.row)) refl (omega (arith, ap held_units b))
+refused_one l v x i r w f a b = makes l v (refusal_of x) x.peer i l.issued l.used r w refl refl (record { settings = refl; own = refl; kept = refl; snapped = refl; chosen = refl }) f a (b ∙ sym (row_still x.deal l.changes r.row)) refl (λ y n. names_more y (changed (state_of l) (refusal_of x) y) n (λ k. chunk_stays out_key [] y.outs n ∙ k) (debts_stay y.debts) (λ k. k)) (omega (arith, ap (row_use (state_of l)) b))

@@ -1,9 +1,12 @@
+pub mod DealHeads
 pub mod Fronts
 pub mod Joined
 pub mod Lists
+pub mod OwnDeals
 pub mod OwnList
 pub mod OwnTree
 pub mod Records
+pub mod Settling
 pub mod SlotHeads
 pub mod Snapping
 pub mod View

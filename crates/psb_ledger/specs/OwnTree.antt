@@ -13,5 +13,5 @@ own_items o = with_newest o.latest (map own_entry o.tree.entries)
 abbrev pub own_room : Own → ℕ
 own_room o = room_for_newest o.latest
 
-abbrev pub mine_of : Own → List Snapshot → Option SnapMark → Mine
-mine_of own kept snapped = record { own = own_items own; kept = kept; snapped = snapped }
+abbrev pub mine_of : Own → List Snapshot → Option SnapMark → List ℕ → Mine
+mine_of own kept snapped chosen = record { own = own_items own; kept = kept; snapped = snapped; chosen = chosen }

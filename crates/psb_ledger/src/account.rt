@@ -1,18 +1,26 @@
 //! What the ledger keeps of one peer, with its running sums.
 
-ghost use Rattle.std.specs.Prelude.{◌≡◌, ◌≤◌, not, true, OnOk, IfOk};
-ghost use Rattle.psb_bytes.specs.declared.ids.Object.TheVariants.{Slot};
+ghost use Rattle.std.specs.Prelude.{◌≡◌, ◌≤◌, not, true, map, option_to_list, OnOk, IfOk};
+ghost use Rattle.std.specs.List.{list_any};
+ghost use Rattle.std.specs.Option.{option_copied};
+ghost use Rattle.psb_bytes.specs.declared.ids.Object.TheVariants.{Chunk, Slot};
 ghost use Rattle.psb_model.specs.Words.{has, has_so, units_at};
-ghost use Rattle.psb_model.specs.State.{blank, in_key, in_size, out_key, held_units, back_units, debt_units};
-ghost use Rattle.psb_model.specs.Conditions.{carries_none, each_slot, is_direct};
+ghost use Rattle.psb_model.specs.State.{blank, in_key, in_size, out_key, out_size, debt_key, held_units, back_units, debt_units, is_barred, ties_in, ties_out};
+ghost use Rattle.psb_model.specs.Conditions.{carries_none, each_slot, is_direct, is_direct_or_home, is_own, is_pending};
+ghost use Rattle.psb_model.specs.Effects.{deal_name, pending_name, is_named};
 ghost use Rattle.psb_ledger.specs.Lists.{in_items, out_items, room, is_block};
-ghost use Rattle.psb_ledger.specs.View.{AccountView, plain_row, IsAccount};
+ghost use Rattle.psb_ledger.specs.OwnDeals.{barring, placed_name, coming_name, row_names};
+ghost use Rattle.psb_ledger.specs.View.{AccountView, named_row, plain_row, outs_settled, IsAccount};
 
+mod barred;
 mod moves;
+mod own_deals;
+mod own_moves;
 
 use crate::entry_list::{EntryList, InList, OutList};
-use psb_bytes::{Memory, Object, PeerId};
-use psb_model::{DebtEntry, InEntry, InState, LastDeal, OutEntry, OutState};
+use own_deals::OwnDeals;
+use psb_bytes::{Digest, Memory, Object, PeerId};
+use psb_model::{Deal, DebtEntry, InEntry, InState, LastDeal, OutEntry, OutState};
 use std::alloc::Global;
 use std::marker::Model;
 
@@ -25,6 +33,7 @@ pub struct Account {
     outs: OutList,
     debts: Vec<DebtEntry>,
     last: LastDeal,
+    deals: OwnDeals,
     held: u32,
     back: u32,
     debt: u32,
@@ -33,7 +42,7 @@ pub struct Account {
 impl Model for Account {
     ghost Value = { AccountView };
 
-    ghost view = { λ a. record { id = a.id; row = plain_row (in_items a.ins) (out_items a.outs) a.debts.items a.last; in_room = room a.ins; out_room = room a.outs; in_block = is_block a.ins } };
+    ghost view = { λ a. record { id = a.id; row = plain_row (in_items a.ins) (out_items a.outs) a.debts.items a.last a.deals; in_room = room a.ins; out_room = room a.outs; barred_room = a.deals.barred_room; cancel_room = a.deals.cancel_room; in_block = is_block a.ins } };
 
     ghost invariant = { λ a. IsAccount a.held a.back a.debt (in_items a.ins) (out_items a.outs) a.debts.items (is_block a.ins) (is_block a.outs) };
 }
@@ -43,6 +52,20 @@ fn is_here(entry: &InEntry) -> bool
     ensures { result ≡ is_direct entry.now }
 {
     matches!(entry.state, InState::Direct)
+}
+
+/// Whether the entry is of a claim whose bytes are here, or that has come home as an own one.
+fn is_ready(entry: &InEntry) -> bool
+    ensures { result ≡ is_direct_or_home entry.now }
+{
+    matches!(entry.state, InState::Direct | InState::Home(_))
+}
+
+/// Whether the entry is an own claim.
+fn is_claim(entry: &OutEntry) -> bool
+    ensures { result ≡ is_own entry.now }
+{
+    matches!(entry.state, OutState::Own)
 }
 
 /// Whether the entry carries no forwarded claim.
@@ -68,6 +91,7 @@ impl Account {
                 number: 0,
                 change: 0,
             },
+            deals: OwnDeals::new(alloc),
             held: 0,
             back: 0,
             debt: 0,
@@ -205,6 +229,180 @@ impl Account {
         slots.iter().all(|n| self.has_free(&Object::Slot(*n)))
     }
 
+    /// Whether the node answers to the peer for a claim in this slot, with its bytes here or as an
+    /// own one that has come home.
+    pub fn is_ready(&self, object: &Object) -> bool
+        ensures { result ≡ has_so in_key is_direct_or_home self.now.row.ins object.now }
+    {
+        let _held = self.held;
+        match self.ins.get(object) {
+            None => false,
+            Some(entry) => is_ready(&entry),
+        }
+    }
+
+    /// Whether that holds of each of these slots.
+    pub fn are_ready(&self, slots: &[u32]) -> bool
+        ensures { result ≡ each_slot (has_so in_key is_direct_or_home self.now.row.ins) slots.now }
+    {
+        slots.iter().all(|n| self.is_ready(&Object::Slot(*n)))
+    }
+
+    /// Whether the node has an own claim there on the peer.
+    pub fn is_own(&self, object: &Object) -> bool
+        ensures { result ≡ has_so out_key is_own self.now.row.outs object.now }
+    {
+        let _back = self.back;
+        match self.outs.get(object) {
+            None => false,
+            Some(entry) => is_claim(&entry),
+        }
+    }
+
+    /// Whether that holds of each of these slots.
+    pub fn are_own(&self, slots: &[u32]) -> bool
+        ensures { result ≡ each_slot (has_so out_key is_own self.now.row.outs) slots.now }
+    {
+        slots.iter().all(|n| self.is_own(&Object::Slot(*n)))
+    }
+
+    /// The units of the object in what the node has on the peer.
+    pub fn units_out(&self, object: &Object) -> u32
+        ensures { result ≡ units_at out_key out_size self.now.row.outs object.now }
+    {
+        let _back = self.back;
+        match self.outs.get(object) {
+            None => 0,
+            Some(entry) => entry.units,
+        }
+    }
+
+    /// Whether the peer lost the object.
+    pub fn has_debt(&self, object: &Object) -> bool
+        ensures { result ≡ has debt_key self.now.row.debts object.now }
+    {
+        let _debt = self.debt;
+        self.debts.iter().any(|d| d.object == *object)
+    }
+
+    /// The own deal that has no reply yet.
+    pub fn pending(&self) -> Option<&Deal>
+        ensures { option_copied result ≡ self.now.row.pending }
+    {
+        let _held = self.held;
+        self.deals.pending()
+    }
+
+    /// The number of the last own deal.
+    pub fn mine(&self) -> u64
+        ensures { result ≡ self.now.row.mine }
+    {
+        let _held = self.held;
+        self.deals.mine()
+    }
+
+    /// Whether the pending deal has this number.
+    pub fn is_pending(&self, deal: u64) -> bool
+        ensures { result ≡ is_pending self.now.row.pending deal }
+    {
+        let _held = self.held;
+        self.deals.is_pending(deal)
+    }
+
+    /// The number of the first change by which the peer turned the name down for good.
+    pub fn barred(&self, name: &Digest) -> Option<u64>
+        ensures { result ≡ barring self.now.row name.now }
+    {
+        let _held = self.held;
+        self.deals.barred(name)
+    }
+
+    /// Whether the peer turned the name down for good.
+    pub fn is_barred(&self, name: &Digest) -> bool
+        ensures { result ≡ is_barred self.now.row name.now }
+    {
+        self.barred(name).is_some()
+    }
+
+    /// The chunk that the pending deal names.
+    pub fn named(&self) -> Option<Digest>
+        ensures { option_to_list result ≡ pending_name deal_name self.now.row.pending }
+    {
+        let _held = self.held;
+        self.deals.named()
+    }
+
+    /// The chunk that a pending Fresh or Swap places.
+    pub fn placed(&self) -> Option<Digest>
+        ensures { result ≡ placed_name self.now.row.pending }
+    {
+        let _held = self.held;
+        self.deals.placed()
+    }
+
+    /// The chunk of a pending Fresh.
+    pub fn coming(&self) -> Option<Digest>
+        ensures { result ≡ coming_name self.now.row.pending }
+    {
+        let _held = self.held;
+        self.deals.coming()
+    }
+
+    /// Whether the pending deal ties the object in what the node has on the peer.
+    pub fn ties_out(&self, object: &Object) -> bool
+        ensures { result ≡ ties_out self.now.row.pending object.now }
+    {
+        let _held = self.held;
+        self.deals.ties_out(object)
+    }
+
+    /// Whether the pending deal ties none of these slots there.
+    pub fn unties_out(&self, slots: &[u32]) -> bool
+        ensures { result ≡ each_slot (λ o. not (ties_out self.now.row.pending o)) slots.now }
+    {
+        slots.iter().all(|n| !self.ties_out(&Object::Slot(*n)))
+    }
+
+    /// Whether the pending deal ties the object in what the node answers for to `holder`.
+    pub fn ties_in(&self, holder: PeerId, object: &Object) -> bool
+        ensures { result ≡ ties_in self.now.id self.now.row.pending holder object.now }
+    {
+        let _held = self.held;
+        self.deals.ties_in(self.id, holder, object)
+    }
+
+    /// Whether an entry there, a debt or the pending deal names the chunk.
+    pub fn names_chunk(&self, name: &Digest) -> bool
+        ensures { result ≡ row_names self.now.row name.now }
+    {
+        let chunk = Object::Chunk(*name);
+        self.has_out(&chunk) || self.has_debt(&chunk) || self.named() == Some(*name)
+    }
+
+    /// How many entries come to what the node has on the peer when the pending deal is settled.
+    pub fn outs_settled(&self) -> u32
+        ensures { result ≡ outs_settled self.now.row self.now.row.pending }
+    {
+        if self.placed().is_some() {
+            return 1;
+        }
+        match self.deals.put_back() {
+            None => 0,
+            Some(name) => self.units_out(&Object::Chunk(name)),
+        }
+    }
+
+    /// Makes room for a reply that turns the pending deal down.
+    pub fn reserve_turn(&mut self) -> Result<(), Memory>
+        ensures id { self.new.id ≡ self.old.id }
+        ensures row { self.new.row ≡ self.old.row }
+        ensures form { self.new.in_block ≡ self.old.in_block }
+        ensures barred_room { OnOk result (1 ≤ self.new.barred_room) }
+        ensures cancel_room { OnOk result (1 ≤ self.new.cancel_room) }
+    {
+        self.deals.reserve()
+    }
+
     /// Makes room for so many entries in the two lists.
     pub fn reserve(&mut self, ins: usize, outs: usize) -> Result<(), Memory>
         ensures id { self.new.id ≡ self.old.id }
@@ -229,9 +427,23 @@ impl Account {
             outs: self.outs.into_block()?,
             debts: self.debts,
             last: self.last,
+            deals: self.deals,
             held: self.held,
             back: self.back,
             debt: self.debt,
         })
     }
+}
+
+/// Whether some account names the chunk.
+pub fn is_named(accounts: &[Account], name: &Digest) -> bool
+    ensures { result ≡ is_named (map named_row accounts.now) name.now }
+{
+    any_names(accounts, name)
+}
+
+fn any_names(accounts: &[Account], name: &Digest) -> bool
+    ensures { result ≡ list_any (λ v. row_names v.row name.now) accounts.now }
+{
+    accounts.iter().any(|a| a.names_chunk(name))
 }

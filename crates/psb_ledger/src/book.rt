@@ -10,19 +10,22 @@ ghost use Rattle.psb_ledger.specs.View.{HasRoom};
 
 mod accounts;
 mod begin;
+mod choosing;
 mod deals;
 mod keeping;
 mod letting_go;
 mod looking;
+mod proposing;
+mod settling;
 mod swapping;
 mod taking;
 
 use crate::account::Account;
-use crate::codec::{CancelFields, FreshFields, KeptFields, RefusedFields, SwapFields};
+use crate::codec::{CancelFields, FreshFields, KeptFields, RefusedFields, ReplyFields, SwapFields};
 use crate::own::Own;
 use accounts::accounts_in_blocks;
-use psb_bytes::{Memory, units_of};
-use psb_model::{Change, SnapMark, Snapshot};
+use psb_bytes::{Memory, PeerId, units_of};
+use psb_model::{Change, Deal, SnapMark, Snapshot};
 use psb_settings::Settings;
 use std::alloc::Global;
 use std::marker::Model;
@@ -55,8 +58,10 @@ pub struct Book {
     own: Own,
     kept: Vec<Snapshot>,
     snapped: Option<SnapMark>,
+    chosen: Vec<PeerId>,
     next: Option<Settings>,
     next_accounts: Vec<Account>,
+    next_chosen: Vec<PeerId>,
     in_blocks: bool,
 }
 
@@ -67,9 +72,9 @@ impl Model for Book {
 
     ghost Value = { LedgerView };
 
-    ghost view = { λ l. record { state = plain_state l.changes l.settings l.accounts.items l.issued (mine_of l.own l.kept.items l.snapped); accounts = l.accounts.items; next = l.next; next_accounts = l.next_accounts.items; in_blocks = l.in_blocks; own_room = own_room l.own; kept_room = vec_capacity l.kept - vec_len l.kept } };
+    ghost view = { λ l. record { state = plain_state l.changes l.settings l.accounts.items l.issued (mine_of l.own l.kept.items l.snapped l.chosen.items); accounts = l.accounts.items; next = l.next; next_accounts = l.next_accounts.items; next_chosen = l.next_chosen.items; in_blocks = l.in_blocks; own_room = own_room l.own; kept_room = vec_capacity l.kept - vec_len l.kept } };
 
-    ghost invariant = { λ l. IsBook l.used l.in_blocks l.accounts.items l.next_accounts.items (mine_of l.own l.kept.items l.snapped) (plain_state l.changes l.settings l.accounts.items l.issued (mine_of l.own l.kept.items l.snapped)) };
+    ghost invariant = { λ l. IsBook l.used l.in_blocks l.accounts.items l.next_accounts.items (mine_of l.own l.kept.items l.snapped l.chosen.items) (plain_state l.changes l.settings l.accounts.items l.issued (mine_of l.own l.kept.items l.snapped l.chosen.items)) };
 }
 
 impl Book {
@@ -88,8 +93,10 @@ impl Book {
             own: Own::new(alloc),
             kept: Vec::new(alloc),
             snapped: None,
+            chosen: Vec::new(alloc),
             next: None,
             next_accounts: Vec::new(alloc),
+            next_chosen: Vec::new(alloc),
             in_blocks,
         }
     }
@@ -112,6 +119,11 @@ impl Book {
             Change::LetGoBack { peer, slots, .. } => {
                 self.make_room_for(*peer, slots.as_slice().len(), 0)
             }
+            Change::Settled { peer, slots, .. } => {
+                self.make_room_to_settle(*peer, slots.as_slice().len())
+            }
+            Change::Turned { peer, .. } => self.make_room_to_turn(*peer),
+            Change::Chose { candidates } => self.make_room_to_choose(candidates.as_slice()),
             _ => Ok(()),
         }
     }
@@ -206,6 +218,27 @@ impl Book {
                 why,
                 detail,
             }),
+            Change::Proposed { peer, deal, what } => {
+                self.propose(peer, Deal { number: deal, what })
+            }
+            Change::Settled {
+                peer,
+                deal,
+                slots,
+                ..
+            } => self.settle(ReplyFields { peer, deal }, slots.as_slice()),
+            Change::Turned {
+                peer,
+                deal,
+                why,
+                detail,
+            } => self.turn(RefusedFields {
+                peer,
+                deal,
+                why,
+                detail,
+            }),
+            Change::Chose { candidates } => self.choose(candidates.as_slice()),
             _ => Err(NotNow),
         }
     }
@@ -225,8 +258,10 @@ impl Book {
             own: self.own,
             kept: self.kept,
             snapped: self.snapped,
+            chosen: self.chosen,
             next: None,
             next_accounts: Vec::new(self.alloc),
+            next_chosen: Vec::new(self.alloc),
             in_blocks: true,
         })
     }

@@ -5,17 +5,20 @@ ghost use Rattle.std.specs.List.{list_any};
 ghost use Rattle.std.specs.Option.{option_copied, option_map};
 ghost use Rattle.psb_bytes.specs.declared.ids.Object.TheVariants.{Slot};
 ghost use Rattle.psb_model.specs.Words.{has, has_so, units_at};
-ghost use Rattle.psb_model.specs.State.{row, used, own_has, is_held, in_key, in_size, out_key, held_units, back_units, debt_units, nothing_yet, tied_in, tied_out};
+ghost use Rattle.psb_model.specs.State.{row, used, own_has, own_marked, is_held, in_key, in_size, out_key, out_size, held_units, back_units, debt_units, nothing_yet, tied_in, tied_out};
 ghost use Rattle.psb_model.specs.Grammar.{in_grammar};
-ghost use Rattle.psb_model.specs.Conditions.{allowed, carries_none, is_direct};
+ghost use Rattle.psb_model.specs.Conditions.{allowed, carries_none, each_slot, is_direct};
 ghost use Rattle.psb_model.specs.Effects.{after};
 ghost use Rattle.psb_model.specs.History.{is_built};
 ghost use Rattle.psb_ledger.specs.View.{HasRoom};
+ghost use Rattle.psb_ledger.specs.OwnDeals.{barring};
 ghost use Rattle.psb_ledger.specs.OwnList.{known_len, next_own};
 
 use crate::book::{Balance, Book, NotNow};
 use psb_bytes::{Digest, Memory, Object, PeerId};
-use psb_model::{Change, DebtEntry, InEntry, LastDeal, OutEntry, OwnEntry, SnapMark, Snapshot};
+use psb_model::{
+    Change, Deal, DebtEntry, InEntry, LastDeal, OutEntry, OwnEntry, SnapMark, Snapshot,
+};
 use psb_settings::Settings;
 use std::alloc::Global;
 use std::marker::Model;
@@ -77,7 +80,8 @@ impl Ledger {
         self.book.issued()
     }
 
-    /// What the node answers for to all peers, in units of 512 bytes.
+    /// What the node answers for to all peers and will answer for by pending Fresh deals, in units of
+    /// 512 bytes.
     pub fn used(&self) -> u32
         ensures { result ≡ used self.now.state }
     {
@@ -194,20 +198,63 @@ impl Ledger {
         }
     }
 
-    /// Whether a pending deal of the node ties the object in what it answers for to the peer. No deal
-    /// of its own is built yet, so nothing is tied.
+    /// Whether the node answers for none of these slots to the peer.
+    pub fn lacks_slots(&self, peer: PeerId, slots: &[u32]) -> bool
+        ensures { result ≡ each_slot (λ o. not (has in_key (row self.now.state peer).ins o)) slots.now }
+    {
+        self.book.lacks_slots(peer, slots)
+    }
+
+    /// The units of the object in what the node has on the peer, 0 where it is not there.
+    pub fn units_out(&self, peer: PeerId, object: &Object) -> u32
+        ensures { result ≡ units_at out_key out_size (row self.now.state peer).outs object.now }
+    {
+        self.book.units_out(peer, object)
+    }
+
+    /// The own deal with the peer that has no reply yet.
+    pub fn pending(&self, peer: PeerId) -> Option<&Deal>
+        ensures { option_copied result ≡ (row self.now.state peer).pending }
+    {
+        self.book.pending(peer)
+    }
+
+    /// The number of the last own deal with the peer, 0 where there is none.
+    pub fn mine(&self, peer: PeerId) -> u64
+        ensures { result ≡ (row self.now.state peer).mine }
+    {
+        self.book.mine(peer)
+    }
+
+    /// The number of the first change by which the peer turned an own deal that names the chunk down
+    /// for good, None exactly where none did.
+    pub fn barred(&self, peer: PeerId, name: &Digest) -> Option<u64>
+        ensures { result ≡ barring (row self.now.state peer) name.now }
+    {
+        self.book.barred(peer, name)
+    }
+
+    /// Whether a pending deal of the node ties the object in what it answers for to the peer: a
+    /// Cancel with the peer ties the slots that it gives for its chunk.
     pub fn tied_in(&self, peer: PeerId, object: &Object) -> bool
         ensures { result ≡ tied_in self.now.state peer object.now }
     {
         self.book.tied_in(peer, object)
     }
 
-    /// Whether the pending deal with the peer ties the object there. No deal of the node's own is
-    /// built yet, so nothing is tied.
+    /// Whether the pending deal with the peer ties the object there: a Swap ties its slots, a Cancel
+    /// and a PutBack their chunk.
     pub fn tied_out(&self, peer: PeerId, object: &Object) -> bool
         ensures { result ≡ tied_out self.now.state peer object.now }
     {
         self.book.tied_out(peer, object)
+    }
+
+    /// The buddies of the last choice, in its order; none before the first.
+    pub fn chosen(&self) -> &[PeerId]
+        ensures { result.now ≡ self.now.state.chosen }
+    {
+        self.book.chosen()
     }
 
     /// Whether a body is held under the name.
@@ -243,6 +290,14 @@ impl Ledger {
         ensures { result ≡ own_has self.now.state.own name.now }
     {
         self.book.has_own(name)
+    }
+
+    /// Whether the name is that of an own chunk which no kept snapshot needs: it leaves as soon as
+    /// no peer has it and no deal names it.
+    pub fn is_marked(&self, name: &Digest) -> bool
+        ensures { result ≡ own_marked self.now.state.own name.now }
+    {
+        self.book.is_marked(name)
     }
 
     /// The length of the own chunk of this name, in bytes, None exactly where there is none.
@@ -281,6 +336,3 @@ impl Ledger {
         self.book.apply(c)
     }
 }
-
-#[cfg(test)]
-mod tests;

@@ -1,10 +1,10 @@
 //! A ledger that is being read up from a history.
 
 ghost use Rattle.std.specs.Prelude.{◌≡◌, ◌<◌, ◌^◌, ◌&&◌, ◌↔◌, IsTrue, OnOk, OnErr, IsOk, IfOk, false};
-ghost use Rattle.std.specs.Option.{option_map};
+ghost use Rattle.std.specs.Option.{option_copied, option_map};
 ghost use Rattle.psb_bytes.specs.declared.ids.Object.TheVariants.{Slot};
 ghost use Rattle.psb_model.specs.Words.{has_so};
-ghost use Rattle.psb_model.specs.State.{nothing_yet, row, in_key};
+ghost use Rattle.psb_model.specs.State.{nothing_yet, row, in_key, own_has};
 ghost use Rattle.psb_model.specs.Grammar.{in_grammar};
 ghost use Rattle.psb_model.specs.Conditions.{allowed, is_direct};
 ghost use Rattle.psb_model.specs.Effects.{after};
@@ -15,7 +15,7 @@ ghost use Rattle.psb_ledger.specs.OwnList.{next_own};
 use crate::book::{Book, NotNow};
 use crate::ledger::Ledger;
 use psb_bytes::{Digest, Memory, PeerId};
-use psb_model::{Change, OwnEntry, Snapshot};
+use psb_model::{Change, Deal, OwnEntry, Snapshot};
 use std::alloc::Global;
 use std::marker::Model;
 
@@ -63,6 +63,20 @@ impl Opening {
         ensures { result ≡ next_own (option_map (λ n. n.now) name.entry) self.now.state.own }
     {
         self.book.own_after(name)
+    }
+
+    /// As `Ledger::has_own`.
+    pub fn has_own(&self, name: &Digest) -> bool
+        ensures { result ≡ own_has self.now.state.own name.now }
+    {
+        self.book.has_own(name)
+    }
+
+    /// As `Ledger::pending`.
+    pub fn pending(&self, peer: PeerId) -> Option<&Deal>
+        ensures { option_copied result ≡ (row self.now.state peer).pending }
+    {
+        self.book.pending(peer)
     }
 
     /// As `Ledger::is_direct`.

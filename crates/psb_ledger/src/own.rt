@@ -1,42 +1,45 @@
 //! The node's own chunks, in the order of their names' bytes.
 
-ghost use Rattle.std.specs.Prelude.{◌≡◌, ◌≤◌, true, [], OnOk, filter, find, map};
+ghost use Rattle.std.specs.Prelude.{◌≡◌, ◌≤◌, ◌||◌, not, true, [], OnOk, find, map};
+ghost use Rattle.psb_ledger.specs.View.{named_row};
 ghost use Rattle.std.specs.List.{list_all};
 ghost use Rattle.std.specs.Option.{option_map};
+ghost use Rattle.psb_ledger.specs.View.{named_row};
 ghost use Rattle.std.specs.Ordering.{nat_cmp};
 ghost use Rattle.std.specs.Cmp.Lexicographic.{slice_cmp};
 ghost use Rattle.std.specs.BTreeMap.Range.{is_from_start};
 ghost use Rattle.psb_model.specs.Conditions.{names_ascend};
-ghost use Rattle.psb_model.specs.State.{own_has};
-ghost use Rattle.psb_model.specs.Effects.{own_with, kept_lists};
+ghost use Rattle.psb_model.specs.State.{own_has, own_marked};
+ghost use Rattle.psb_model.specs.Effects.{own_with, set_marks, given_up, is_named};
 ghost use Rattle.psb_ledger.specs.View.{in_order, own_key};
-ghost use Rattle.psb_ledger.specs.OwnList.{own_entry, entry_of, is_newest, newest_len, newest_listed, newest_behind, nearer, known_len, next_own};
+ghost use Rattle.psb_ledger.specs.OwnList.{own_entry, is_newest, newest_len, newest_marked, newest_lifted, newest_left, newest_other, newest_behind, nearer, known_len, next_own, lifts, marks, without_name};
+ghost use Rattle.psb_ledger.specs.OwnDeals.{own_units};
 
-use crate::snapshots::{is_below, is_listed};
-use psb_bytes::{Digest, Memory};
+use crate::account::{Account, is_named};
+use crate::snapshots::{has_name, is_below, is_listed};
+use psb_bytes::{Digest, Memory, units_of};
 use psb_model::{OwnEntry, Snapshot};
 use std::alloc::Global;
 use std::collections::BTreeMap;
 use std::ops::Bound;
 
-/// An own chunk by its name and length. No mark is kept: of the kinds that are built, each change
-/// gives up what it marks.
+/// What is kept of an own chunk beside its name.
 #[derive(Clone, Copy)]
 pub struct OwnChunk {
-    pub name: Digest,
-    pub len: u32,
+    len: u32,
+    marked: bool,
 }
 
 /// The chunks in a tree, and beside it the latest: a tree takes memory where it grows, so the latest
 /// goes in when room is made for the next.
 #[derive(Drop)]
 pub struct Own {
-    tree: BTreeMap<Digest, u32>,
-    latest: Option<OwnChunk>,
+    tree: BTreeMap<Digest, OwnChunk>,
+    latest: Option<OwnEntry>,
 }
 
 /// Whether there is a chunk, and it has the name.
-fn is_newest(chunk: &Option<OwnChunk>, name: &Digest) -> bool
+fn is_newest(chunk: &Option<OwnEntry>, name: &Digest) -> bool
     ensures { result ≡ is_newest chunk.now name.now }
 {
     match chunk {
@@ -46,7 +49,7 @@ fn is_newest(chunk: &Option<OwnChunk>, name: &Digest) -> bool
 }
 
 /// The length of the chunk, where it has the name.
-fn newest_len(chunk: &Option<OwnChunk>, name: &Digest) -> Option<u32>
+fn newest_len(chunk: &Option<OwnEntry>, name: &Digest) -> Option<u32>
     ensures { result ≡ newest_len chunk.now name.now }
 {
     match chunk {
@@ -55,17 +58,56 @@ fn newest_len(chunk: &Option<OwnChunk>, name: &Digest) -> Option<u32>
     }
 }
 
-/// The chunk, where a kept snapshot lists its name.
-fn if_listed(chunk: Option<OwnChunk>, kept: &[Snapshot]) -> Option<OwnChunk>
-    requires { list_all (λ k. names_ascend k.names) kept.now ≡ true }
-    ensures { result ≡ newest_listed kept.now chunk }
+/// Whether the chunk has the name and is marked.
+fn newest_marked(chunk: &Option<OwnEntry>, name: &Digest) -> bool
+    ensures { result ≡ newest_marked chunk.now name.now }
+{
+    match chunk {
+        None => false,
+        Some(c) => c.name == *name && c.marked,
+    }
+}
+
+/// The chunk, without its mark where a list has its name.
+fn if_lifted(chunk: Option<OwnEntry>, names: &[Digest]) -> Option<OwnEntry>
+    requires { names_ascend names.now ≡ true }
+    ensures { result ≡ newest_lifted names.now chunk }
 {
     let Some(c) = chunk else { return None };
-    is_listed(kept, &c.name).then_some(c)
+    Some(OwnEntry {
+        name: c.name,
+        len: c.len,
+        marked: c.marked && !has_name(names, &c.name),
+    })
+}
+
+/// The chunk, marked where no kept snapshot lists it, unless it is to leave.
+fn if_left(chunk: Option<OwnEntry>, kept: &[Snapshot], accounts: &[Account]) -> Option<OwnEntry>
+    requires { list_all (λ k. names_ascend k.names) kept.now ≡ true }
+    ensures { result ≡ newest_left kept.now (map named_row accounts.now) chunk }
+{
+    let Some(c) = chunk else { return None };
+    let marked = c.marked || !is_listed(kept, &c.name);
+    let stays = !marked || is_named(accounts, &c.name);
+    stays.then_some(OwnEntry {
+        name: c.name,
+        len: c.len,
+        marked,
+    })
+}
+
+/// The chunk, where it has another name.
+fn if_other(chunk: Option<OwnEntry>, name: &Digest) -> Option<OwnEntry>
+    ensures { result ≡ newest_other name.now chunk }
+{
+    match chunk {
+        Some(c) if c.name == *name => None,
+        _ => chunk,
+    }
 }
 
 /// The chunk, where it stands behind the name.
-fn if_behind(chunk: Option<OwnChunk>, name: Option<&Digest>) -> Option<OwnChunk>
+fn if_behind(chunk: Option<OwnEntry>, name: Option<&Digest>) -> Option<OwnEntry>
     ensures { result ≡ newest_behind (option_map (λ n. n.now) name.entry) chunk }
 {
     let (Some(c), Some(n)) = (chunk, name) else {
@@ -75,18 +117,34 @@ fn if_behind(chunk: Option<OwnChunk>, name: Option<&Digest>) -> Option<OwnChunk>
 }
 
 /// The one of two chunks that comes first.
-fn nearer(in_tree: Option<OwnEntry>, chunk: Option<OwnChunk>) -> Option<OwnEntry>
+fn nearer(in_tree: Option<OwnEntry>, chunk: Option<OwnEntry>) -> Option<OwnEntry>
     ensures { result ≡ nearer in_tree chunk }
 {
     let Some(c) = chunk else { return in_tree };
     match in_tree {
         Some(e) if !is_below(&c.name, &e.name) => Some(e),
-        _ => Some(OwnEntry {
-            name: c.name,
-            len: c.len,
-            marked: false,
-        }),
+        _ => Some(c),
     }
+}
+
+/// Whether an own chunk stays whose mark is set where no kept snapshot lists it.
+fn is_left(chunk: &mut OwnChunk, name: &Digest, kept: &[Snapshot], accounts: &[Account]) -> bool
+    requires { list_all (λ k. names_ascend k.names) kept.now ≡ true }
+    ensures chunk { own_entry (name.now, chunk.new) ≡ record (own_entry (name.now, chunk.old)) { marked = marks kept.now (own_entry (name.now, chunk.old)) } }
+    ensures stays { result ≡ (not (marks kept.now (own_entry (name.now, chunk.old))) || is_named (map named_row accounts.now) name.now) }
+{
+    chunk.marked = chunk.marked || !is_listed(kept, name);
+    !chunk.marked || is_named(accounts, name)
+}
+
+/// Lifts the mark of a chunk, where a list has its name. Each stays.
+fn is_lifted(chunk: &mut OwnChunk, name: &Digest, names: &[Digest]) -> bool
+    requires { names_ascend names.now ≡ true }
+    ensures chunk { own_entry (name.now, chunk.new) ≡ record (own_entry (name.now, chunk.old)) { marked = lifts names.now (own_entry (name.now, chunk.old)) } }
+    ensures stays { result ≡ true }
+{
+    chunk.marked = chunk.marked && !has_name(names, name);
+    true
 }
 
 impl Own {
@@ -122,7 +180,7 @@ impl Own {
         ensures { result ≡ known_len (own_items self.now) name.now }
     {
         match self.tree.get(name) {
-            Some(len) => Some(*len),
+            Some(chunk) => Some(chunk.len),
             None => newest_len(&self.latest, name),
         }
     }
@@ -134,27 +192,76 @@ impl Own {
         ensures room { OnOk result (1 ≤ own_room self.new) }
     {
         if let Some(chunk) = self.latest {
-            self.tree.insert(chunk.name, chunk.len)?;
+            let kept = OwnChunk {
+                len: chunk.len,
+                marked: chunk.marked,
+            };
+            self.tree.insert(chunk.name, kept)?;
             self.latest = None;
         }
         Ok(())
     }
 
-    pub fn insert(&mut self, chunk: OwnChunk)
+    pub fn insert(&mut self, chunk: OwnEntry)
         requires { 1 ≤ own_room self.old }
-        ensures { own_items self.new ≡ own_with (entry_of chunk) (own_items self.old) }
+        ensures { own_items self.new ≡ own_with chunk (own_items self.old) }
     {
         self.latest = Some(chunk);
     }
 
-    /// Keeps the chunks whose names some kept snapshot lists.
-    pub fn retain_listed(&mut self, kept: &[Snapshot])
+    /// Whether the chunk of this name is marked.
+    pub fn is_marked(&self, name: &Digest) -> bool
+        requires { in_order own_key (own_items self.now) ≡ true }
+        ensures { result ≡ own_marked (own_items self.now) name.now }
+    {
+        match self.tree.get(name) {
+            Some(chunk) => chunk.marked,
+            None => newest_marked(&self.latest, name),
+        }
+    }
+
+    /// The units of the chunk, 0 where no name is given.
+    pub fn units_of(&self, name: Option<Digest>) -> u32
+        requires { in_order own_key (own_items self.now) ≡ true }
+        ensures { result ≡ own_units (own_items self.now) name }
+    {
+        let Some(n) = name else { return 0 };
+        match self.len_of(&n) {
+            None => units_of(0),
+            Some(len) => units_of(len),
+        }
+    }
+
+    /// Lifts the marks of these names: one search for each chunk.
+    pub fn lift(&mut self, names: &[Digest])
+        requires ordered { in_order own_key (own_items self.old) ≡ true }
+        requires names { names_ascend names.now ≡ true }
+        ensures { own_items self.new ≡ set_marks (lifts names.now) (own_items self.old) }
+    {
+        self.tree
+            .retain(|name, chunk| is_lifted(chunk, name, names));
+        self.latest = if_lifted(self.latest, names);
+    }
+
+    /// Marks the chunks that no kept snapshot lists, and gives up the marked ones that no account
+    /// names.
+    pub fn mark_unlisted(&mut self, kept: &[Snapshot], accounts: &[Account])
         requires ordered { in_order own_key (own_items self.old) ≡ true }
         requires names { list_all (λ k. names_ascend k.names) kept.now ≡ true }
-        ensures { own_items self.new ≡ filter (λ e. kept_lists kept.now e.name) (own_items self.old) }
+        ensures { own_items self.new ≡ given_up (map named_row accounts.now) (set_marks (marks kept.now) (own_items self.old)) }
     {
-        self.tree.retain(|name, _len| is_listed(kept, name));
-        self.latest = if_listed(self.latest, kept);
+        self.tree
+            .retain(|name, chunk| is_left(chunk, name, kept, accounts));
+        self.latest = if_left(self.latest, kept, accounts);
+    }
+
+    /// Takes out the chunk of this name, if it is there.
+    pub fn remove(&mut self, name: &Digest)
+        requires { in_order own_key (own_items self.old) ≡ true }
+        ensures { own_items self.new ≡ without_name name.now (own_items self.old) }
+    {
+        self.tree.remove(name);
+        self.latest = if_other(self.latest, name);
     }
 
     /// The first chunk, or the first behind the name.
@@ -176,11 +283,11 @@ impl Own {
     fn first_from(&self, start: Bound<Digest>) -> Option<OwnEntry>
         ensures { result ≡ find (λ e. is_from_start (slice_cmp nat_cmp) start e.name) (map own_entry self.now.tree.entries) }
     {
-        let (name, len) = self.tree.range((start, Bound::Unbounded)).next()?;
+        let (name, chunk) = self.tree.range((start, Bound::Unbounded)).next()?;
         Some(OwnEntry {
             name: *name,
-            len: *len,
-            marked: false,
+            len: chunk.len,
+            marked: chunk.marked,
         })
     }
 }

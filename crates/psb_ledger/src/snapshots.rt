@@ -31,7 +31,7 @@ pub fn names_ascend(names: &[Digest]) -> bool
 }
 
 /// Whether names that ascend have this one.
-fn has_name(names: &[Digest], name: &Digest) -> bool
+pub fn has_name(names: &[Digest], name: &Digest) -> bool
     requires { names_ascend names.now ≡ true }
     ensures { result ≡ name_listed names.now name.now }
 {

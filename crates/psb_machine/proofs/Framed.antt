@@ -1,17 +1,18 @@
 -- What is known of a deal whose frame was read.
-use Rattle.std.proofs.Common.{◌≡◌, ℕ, true, ◌&&◌, ◌==◌, nat_le, nat_lt, List, [], ◌∷◌, length, Some, refl, sym, ap, ◌∙◌, subst, ◌≤◌}
+use Rattle.std.proofs.Common.{◌≡◌, ℕ, true, ◌&&◌, ◌==◌, nat_le, nat_lt, List, [], ◌∷◌, length, Some, refl, sym, ap, ◌∙◌, subst, ◌≤◌, ◌^◌, arith}
 use Rattle.std.specs.List.{list_all}
-use Rattle.std.proofs.lemmas.Bool.{and_parts, leb-true}
+use Rattle.std.proofs.lemmas.Bool.{and_parts, leb-true, lt-ltb}
 use Rattle.std.proofs.lemmas.List.{length-map}
 use Rattle.psb_bytes.specs.declared.lists.SlotClaim.{SlotClaim}
-use Rattle.psb_model.specs.Grammar.{ascend, is_u32, is_u64}
+use Rattle.psb_model.specs.Grammar.{ascend, is_u8, is_u32, is_u64}
 use Rattle.wire_codec.specs.Fields.{within, ascends, is_digest, is_claim, are_slots, are_claims, is_text, are_bytes}
 use Rattle.wire_codec.specs.Frames.{fits}
 use Rattle.wire_codec.specs.declared.frame.Frame.{Frame}
 use Rattle.wire_codec.specs.declared.frame.Frame.TheVariants as frame
-use Rattle.wire_codec.specs.declared.limits.TheConstants.{MOST_SLOTS, CLAIM_BYTES}
+use Rattle.wire_codec.specs.declared.limits.TheConstants.{MOST_SLOTS, CLAIM_BYTES, LAST_REASON}
 use Rattle.psb_machine.specs.Deals.{Deal, StoreFresh, StoreSwap, Cancel, PutBack, deal_of, slots_of}
-use Rattle.psb_machine.specs.Judging.{SlotsFit, SwapFits, CancelFits, PutBackFits, DealFits}
+use Rattle.psb_machine.specs.Settling.{Reply, Accepts, Refuses, replied_by}
+use Rattle.psb_machine.specs.Judging.{SlotsFit, SwapFits, CancelFits, PutBackFits, DealFits, ReplyFits}
 
 -- a frame that was read
 pub record FrameFits (p number : ℕ) (frame : Frame) : Type 0 where
@@ -41,11 +42,11 @@ claim_slots (c ∷ cs) h =
     let slot = (and_parts (is_u32 c.slot) ((length c.bytes == CLAIM_BYTES) && are_bytes c.bytes) two.0).0 in
     rw (slot, claim_slots cs two.1) refl
 
-claims_fit : (claims : List SlotClaim) → are_claims 1 claims ≡ true → SlotsFit (slots_of claims) × (list_all is_claim claims ≡ true)
-claims_fit claims h =
-    let a = and_parts (within 1 MOST_SLOTS (length claims)) (list_all is_claim claims && ascends (slots_of claims)) h in
+claims_fit : (least : ℕ) (claims : List SlotClaim) → are_claims least claims ≡ true → SlotsFit (slots_of claims) × (list_all is_claim claims ≡ true)
+claims_fit least claims h =
+    let a = and_parts (within least MOST_SLOTS (length claims)) (list_all is_claim claims && ascends (slots_of claims)) h in
     let b = and_parts (list_all is_claim claims) (ascends (slots_of claims)) a.1 in
-    let few = few_of 1 (length claims) a.0 in (
+    let few = few_of least (length claims) a.0 in (
       record {
         few = subst (λ (n : ℕ). n ≤ MOST_SLOTS) (sym (length-map claims (λ (c : SlotClaim). c.slot))) few;
         widths = claim_slots claims b.0;
@@ -80,7 +81,7 @@ cancel_fits p number name slots f =
 put_back_fits : (p number : ℕ) (name : List ℕ) (claims : List SlotClaim) → FrameFits p number (frame.PutBack name claims) → PutBackFits p number name claims
 put_back_fits p number name claims f =
     let a = and_parts (is_digest name) (are_claims 1 claims) f.frame_is in
-    let b = claims_fit claims a.1 in
+    let b = claims_fit 1 claims a.1 in
     record { peer = f.peer; number_fits = f.number_fits; name_fits = a.0; slots = b.0; claims_fit = b.1 }
 
 -- the parts of a deal that a frame asks for are within their bounds
@@ -94,3 +95,18 @@ deal_fits p number (frame.Cancel name slots) deal f is =
 deal_fits p number (frame.PutBack name claims) deal f is =
     let same : PutBack name claims ≡ deal = cc in subst (DealFits p number) same (put_back_fits p number name claims f)
 deal_fits p number _ deal f is = absurd (cc)
+
+-- ---- what is known of a reply whose frame was read
+
+refused_fits : (p number why detail : ℕ) → FrameFits p number (frame.Refused why detail) → (is_u8 why ≡ true) × (is_u64 detail ≡ true)
+refused_fits p number why detail f =
+    let a = and_parts (within 1 LAST_REASON why) (nat_lt detail (2 ^ 64)) f.frame_is in
+    let b = and_parts (nat_le 1 why) (nat_le why LAST_REASON) a.0 in
+    (lt-ltb why 256 (omega (arith, leb-true why LAST_REASON b.1)), a.1)
+
+pub reply_fits : (p number : ℕ) (f : Frame) (reply : Reply) → FrameFits p number f → replied_by f ≡ Some reply → ReplyFits reply
+reply_fits p number (frame.Accepted claims) reply f is =
+    let same : Accepts claims ≡ reply = cc in subst ReplyFits same (claims_fit 0 claims f.frame_is)
+reply_fits p number (frame.Refused why detail) reply f is =
+    let same : Refuses why detail ≡ reply = cc in subst ReplyFits same (refused_fits p number why detail f)
+reply_fits p number _ reply f is = absurd (cc)

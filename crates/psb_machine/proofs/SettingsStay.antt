@@ -11,8 +11,11 @@ use Rattle.wire_codec.specs.declared.frame.Dropped.{Dropped}
 use Rattle.wire_codec.specs.declared.frame.Frame.{Frame}
 use Rattle.psb_machine.specs.Deals.{standing, first_that_holds, judged, clashes, meets_others, Deal, StoreFresh, StoreSwap, Cancel, PutBack, deal_of, judged_at}
 use Rattle.psb_machine.specs.Gets.{got_of, has_chunk}
+use Rattle.psb_machine.specs.Settling.{Reply, Accepts, Refuses, replied_by, answers_deal}
+use Rattle.psb_model.specs.Words.{all_of}
+use Rattle.psb_model.specs.Conditions.{tests}
 use Rattle.psb_machine.specs.Judging.{reasons_at, taken_at}
-use Rattle.psb_machine.specs.Machine.{Situation, Input, Datagram, Tick, Keep, Snap, Forget, Reaction, changes_of, keys_of, quiet, tells_again, by_standing, on_deal, here, on_get, on_other, on_frame, on_keyed, on_read, on_datagram, react, next, has_snapshot}
+use Rattle.psb_machine.specs.Machine.{Situation, Input, Datagram, Tick, Keep, Snap, Forget, Reaction, changes_of, keys_of, quiet, tells_again, by_standing, on_deal, here, on_get, on_reply, on_rest, on_other, on_frame, on_keyed, on_read, on_datagram, react, next, has_snapshot}
 use Rattle.psb_model.proofs.ByObject.{by_cases}
 use Rattle.psb_machine.specs.declared.deals.Standing.{Standing}
 use Rattle.psb_machine.specs.declared.deals.Standing.TheVariants.{Fresh, Repeat, Stale, Gap}
@@ -40,11 +43,19 @@ deal_stays Repeat settings n p number key deal = refl
 deal_stays Stale settings n p number key deal = refl
 deal_stays Gap settings n p number key deal = refl
 
+reply_stays : (n : Situation) (p number : ℕ) (reply : Reply) → Stays (state n.history) (on_reply n p number reply)
+reply_stays n p number (Accepts claims) = by_cases (all_of (tests (state n.history) (answers_deal p number (Accepts claims)))) (λ k. rw k refl) (λ k. rw k refl)
+reply_stays n p number (Refuses why detail) = by_cases (all_of (tests (state n.history) (answers_deal p number (Refuses why detail)))) (λ k. rw k refl) (λ k. rw k refl)
+
 frame_stays : (settings : Settings) (n : Situation) (p number : ℕ) (key : List ℕ) (frame : Frame) → Stays (state n.history) (on_frame settings n p number key frame)
 frame_stays settings n p number key frame = got (got_of frame)
   where
-    either : (o : Option Deal) → Stays (state n.history) (elim o [ None ↦ quiet n.volatile | Some d ↦ on_deal settings n p number key d ])
-    either None = refl
+    rest : (o : Option Reply) → Stays (state n.history) (elim o [ None ↦ quiet n.volatile | Some r ↦ on_reply n p number r ])
+    rest None = refl
+    rest (Some r) = reply_stays n p number r
+
+    either : (o : Option Deal) → Stays (state n.history) (elim o [ None ↦ on_rest n p number frame | Some d ↦ on_deal settings n p number key d ])
+    either None = rest (replied_by frame)
     either (Some d) = deal_stays (standing (row (state n.history) p).last.number number) settings n p number key d
 
     given : (name : List ℕ) (b : Bool) → Stays (state n.history) (if b then tells_again (option_map (here settings key p number name) (last_brought name n.history)) n.volatile else quiet n.volatile)

@@ -6,9 +6,10 @@ use Rattle.wire_codec.specs.Frames.{Incoming, read_frame, key_in}
 use Rattle.wire_codec.specs.declared.frame.Dropped.{Dropped}
 use Rattle.psb_machine.specs.Deals.{Deal, deal_of}
 use Rattle.psb_machine.specs.Gets.{got_of}
+use Rattle.psb_machine.specs.Settling.{Reply, replied_by}
 use Rattle.wire_codec.specs.declared.frame.Frame.{Frame}
-use Rattle.wire_codec.specs.declared.frame.Frame.TheVariants.{Get}
-use Rattle.psb_machine.specs.Machine.{Situation, Datagram, keys_of, quiet, on_deal, on_get, on_other, on_keyed, on_read, on_datagram, react}
+use Rattle.wire_codec.specs.declared.frame.Frame.TheVariants.{Get, Accepted, Refused}
+use Rattle.psb_machine.specs.Machine.{Situation, Datagram, keys_of, quiet, on_deal, on_get, on_reply, on_rest, on_other, on_keyed, on_read, on_datagram, react}
 
 -- with its settings the machine reads the datagram
 pub react-read : (n : Situation) (x : List ℕ) (settings : Settings) → (state n.history).settings ≡ Some settings → react n (Datagram x) ≡ on_read settings n (read_frame settings.id (keys_of settings) x)
@@ -26,7 +27,7 @@ on_read-deal settings n r p number key frame deal read asks keyed =
     ap (λ (q : Result Incoming Dropped). on_read settings n q) read
     ∙ ap (λ (o : Option (List ℕ)). on_keyed settings n (record { from = p; number = number; frame = frame }) o) keyed
     ∙ ap (λ (o : Option (List ℕ)). elim o [ None ↦ on_other settings n p number key frame | Some name ↦ on_get settings n p number key name ]) (deal_no_get frame deal asks)
-    ∙ ap (λ (o : Option Deal). elim o [ None ↦ quiet n.volatile | Some d ↦ on_deal settings n p number key d ]) asks
+    ∙ ap (λ (o : Option Deal). elim o [ None ↦ on_rest n p number frame | Some d ↦ on_deal settings n p number key d ]) asks
 
 -- a Get of a peer that has a key
 pub on_read-get : (settings : Settings) (n : Situation) (r : Result Incoming Dropped) (p number : ℕ) (key name : List ℕ) → r ≡ Ok (record { from = p; number = number; frame = Get name }) → key_in (keys_of settings) p ≡ Some key
@@ -34,3 +35,23 @@ pub on_read-get : (settings : Settings) (n : Situation) (r : Result Incoming Dro
 on_read-get settings n r p number key name read keyed =
     ap (λ (q : Result Incoming Dropped). on_read settings n q) read
     ∙ ap (λ (o : Option (List ℕ)). on_keyed settings n (record { from = p; number = number; frame = Get name }) o) keyed
+
+-- a frame that is a reply is no Get, and asks for no deal
+reply_no_get : (frame : Frame) (reply : Reply) → replied_by frame ≡ Some reply → got_of frame ≡ None
+reply_no_get (Get name) reply is = absurd (cc)
+reply_no_get _ reply is = refl
+
+reply_no_deal : (frame : Frame) (reply : Reply) → replied_by frame ≡ Some reply → deal_of frame ≡ None
+reply_no_deal (Accepted claims) reply is = refl
+reply_no_deal (Refused why detail) reply is = refl
+reply_no_deal _ reply is = absurd (cc)
+
+-- a reply of a peer that has a key
+pub on_read-reply : (settings : Settings) (n : Situation) (r : Result Incoming Dropped) (p number : ℕ) (key : List ℕ) (frame : Frame) (reply : Reply) → r ≡ Ok (record { from = p; number = number; frame = frame }) → replied_by frame ≡ Some reply → key_in (keys_of settings) p ≡ Some key
+    → on_read settings n r ≡ on_reply n p number reply
+on_read-reply settings n r p number key frame reply read is keyed =
+    ap (λ (q : Result Incoming Dropped). on_read settings n q) read
+    ∙ ap (λ (o : Option (List ℕ)). on_keyed settings n (record { from = p; number = number; frame = frame }) o) keyed
+    ∙ ap (λ (o : Option (List ℕ)). elim o [ None ↦ on_other settings n p number key frame | Some name ↦ on_get settings n p number key name ]) (reply_no_get frame reply is)
+    ∙ ap (λ (o : Option Deal). elim o [ None ↦ on_rest n p number frame | Some d ↦ on_deal settings n p number key d ]) (reply_no_deal frame reply is)
+    ∙ ap (λ (o : Option Reply). elim o [ None ↦ quiet n.volatile | Some r ↦ on_reply n p number r ]) is

@@ -103,7 +103,7 @@ fresh_may settings h p number name bytes clash n f t =
     }
 
 -- slots as a record lists them
-counted : (numbers : List ℕ) → SlotsFit numbers → is_count (length numbers) ≡ true
+pub counted : (numbers : List ℕ) → SlotsFit numbers → is_count (length numbers) ≡ true
 counted numbers f = lt-ltb (length numbers) (2 ^ 32) (omega (arith, f.few))
 
 brings_swap : (p number : ℕ) (name numbers bytes : List ℕ) (held : Bool) → name_eq (sha bytes) name ≡ true → brings_right (TookSwap p number name numbers (length bytes) (not held) (sealed_part (not held) bytes)) ≡ true
@@ -176,7 +176,7 @@ joined_long (c ∷ cs) h =
     let long = eqb-true (length c.bytes) 512 (and_parts (length c.bytes == CLAIM_BYTES) (are_wire_bytes c.bytes) fit.1).0 in
     omega (arith, long, joined_long cs two.1, length-append c.bytes (claims_joined cs))
 
-joined_bytes : (claims : List SlotClaim) → list_all is_claim claims ≡ true → list_all is_u8 (claims_joined claims) ≡ true
+pub joined_bytes : (claims : List SlotClaim) → list_all is_claim claims ≡ true → list_all is_u8 (claims_joined claims) ≡ true
 joined_bytes [] h = refl
 joined_bytes (c ∷ cs) h =
     let two = and_parts (is_claim c) (list_all is_claim cs) h in

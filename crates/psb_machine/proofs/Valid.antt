@@ -11,22 +11,24 @@ use Rattle.psb_bytes.specs.declared.ids.Object.TheVariants.{Chunk}
 use Rattle.psb_digest.specs.Hashes.{sha}
 use Rattle.psb_settings.specs.declared.settings.Settings.{Settings}
 use Rattle.psb_model.specs.Words.{object_eq, has, units_at}
-use Rattle.psb_model.specs.State.{State, Row, row, row_in, in_key, in_size, held_units, out_key, debt_size, debt_units, coming, is_held, is_peer, used, own_has, snaps_made, tied_in}
+use Rattle.psb_model.specs.State.{State, row, in_key, in_size, out_key, debt_size, debt_units, is_held, is_peer, used, own_has, snaps_made, tied_in}
 use Rattle.psb_model.specs.Grammar.{in_grammar, is_u8, is_u32, is_u64, is_count}
-use Rattle.psb_model.specs.Conditions.{is_next_deal, allowed}
+use Rattle.psb_model.specs.Conditions.{capacity, is_next_deal, allowed}
 use Rattle.psb_model.specs.History.{state}
 use Rattle.psb_model.specs.Needed.{brings_right, last_brought, IsValid}
 use Rattle.psb_model.specs.declared.change.Change.{Change}
 use Rattle.psb_model.specs.declared.change.Change.TheVariants.{Kept, Forgot, Refused}
-use Rattle.psb_model.proofs.Built.{valid_snoc, plain_state, plain_row, used_most}
+use Rattle.psb_model.proofs.Built.{plain_state, plain_row, use_within}
+use Rattle.psb_model.proofs.Bodies.{valid_snoc}
 use Rattle.psb_model.proofs.ByObject.{by_cases}
 use Rattle.wire_codec.specs.Frames.{Incoming, read_frame, key_in}
 use Rattle.wire_codec.specs.declared.frame.Dropped.{Dropped}
 use Rattle.wire_codec.specs.declared.frame.Frame.{Frame}
 use Rattle.psb_machine.specs.Laws.{KeepFits, SnapFits}
 use Rattle.psb_machine.specs.Deals.{standing, code_of, first_that_holds, judged, Deal, StoreFresh, StoreSwap, Cancel, PutBack, deal_of, slots_of, is_engaged, chunk_units, clashes, judged_at, meets_others}
-use Rattle.psb_machine.specs.Machine.{Situation, changes_of, kept_with, snapped_with, has_snapshot, on_keep, on_snap, on_forget, keys_of, quiet, tells_again, by_standing, on_deal, on_get, on_other, here, on_frame, on_read, on_keyed, on_datagram}
+use Rattle.psb_machine.specs.Machine.{Situation, changes_of, kept_with, snapped_with, has_snapshot, on_keep, on_snap, on_forget, keys_of, quiet, tells_again, by_standing, on_deal, on_get, on_reply, on_rest, on_other, here, on_frame, on_read, on_keyed, on_datagram}
 use Rattle.psb_machine.specs.Gets.{got_of, has_chunk}
+use Rattle.psb_machine.specs.Settling.{Reply, replied_by}
 use Rattle.psb_machine.specs.declared.deals.Standing.{Standing}
 use Rattle.psb_machine.specs.declared.deals.Standing.TheVariants.{Fresh, Repeat, Stale, Gap}
 use Rattle.psb_machine.specs.declared.deals.Reason.{Reason}
@@ -36,10 +38,11 @@ use Rattle.psb_machine.specs.declared.snap_note.SnapNote.{SnapNote}
 use Rattle.psb_machine.specs.Judging.{DealFits, reasons_at, taken_at, judged_with}
 use Rattle.psb_machine.proofs.Standings.{fresh_is_next, detail_fits, first_fits}
 use Rattle.psb_machine.proofs.Slots.{found_fits}
-use Rattle.psb_machine.proofs.Framed.{FrameFits, deal_fits}
+use Rattle.psb_machine.proofs.Framed.{FrameFits, deal_fits, reply_fits}
 use Rattle.psb_machine.proofs.Taken.{MayTake, begun_here, either_none, flag_same, body_in_grammar, body_of_bytes, deal_may}
 use Rattle.psb_machine.proofs.Lasts.{drawn}
-use Rattle.psb_machine.proofs.Peers.{keyed_is_peer}
+use Rattle.psb_machine.proofs.Peers.{keyed_is_peer, settings_read}
+use Rattle.psb_machine.proofs.Settled.{reply_valid}
 
 pub unchanged : (h : List Change) → IsValid h → IsValid (h ++ [])
 unchanged h v = subst IsValid (sym (append-nil h)) v
@@ -71,18 +74,12 @@ refused_valid h p number r v peer p_fits number_fits next_deal small =
 
 -- ---- the details of what is looked at fit their field
 
--- what a list has at an object is a part of what it has in all, and a row's units are among those used
+-- what a list has at an object is a part of what it has in all
 units_most : {E : Type 0} (key : E → Object) (size : E → ℕ) (l : List E) (o : Object) → units_at key size l o ≤ sum_by size l
 units_most key size [] o = omega arith
 units_most key size (e ∷ es) o =
     let rest = units_most key size es o in
     by_cases (object_eq (key e) o) (λ k. rw k (omega (arith, rest, sum_by-cons size e es))) (λ k. rw k (omega (arith, rest, sum_by-cons size e es)))
-
-row_most : (s : State) (rows : List (ℕ × Row)) (p : ℕ) → held_units (row_in rows p) ≤ sum_by (λ (x : ℕ × Row). held_units x.1 + coming s x.1.pending) rows
-row_most s [] p = omega arith
-row_most s (x ∷ xs) p =
-    let c = sum_by-cons (λ (y : ℕ × Row). held_units y.1 + coming s y.1.pending) x xs in
-    by_cases (x.0 == p) (λ k. rw k (omega (arith, c))) (λ k. rw k (omega (arith, c, row_most s xs p)))
 
 -- the numbers of a valid history that a detail may be
 record DetailsFit (s : State) (p : ℕ) : Type 0 where
@@ -91,17 +88,25 @@ record DetailsFit (s : State) (p : ℕ) : Type 0 where
   debt : is_u64 (debt_units (row s p)) ≡ true
   chunk : (name : List ℕ) → is_u64 (chunk_units s p name) ≡ true
 
+-- no more is used than the capacity, which a settings text bounds
+used_small : (h : List Change) → IsValid h → used (state h) ≤ 2147483648
+used_small h v = by_settings (state h).settings refl (plain_state h v.lawful v.built).used
+  where
+    by_settings : (o : Option Settings) → (state h).settings ≡ o → used (state h) ≤ capacity o → used (state h) ≤ 2147483648
+    by_settings None is le = omega (arith, le)
+    by_settings (Some st) is le = omega (arith, le, (settings_read h st v.built is).capacity)
+
 numbers_fit : (h : List Change) (p : ℕ) → IsValid h → DetailsFit (state h) p
 numbers_fit h p v =
     let s = state h in
     let most = drawn h v in
-    let in_all = used_most s (plain_state h v.lawful v.built) in
+    let in_all = used_small h v in
     let none : debt_units (row s p) ≡ 0 = ap (sum_by debt_size) (plain_row h p v.lawful v.built).debts in
     record {
       issued = lt-ltb s.issued (2 ^ 64) (omega (arith, most));
-      in_use = lt-ltb (used s) (2 ^ 64) (omega (arith, most, in_all));
+      in_use = lt-ltb (used s) (2 ^ 64) (omega (arith, in_all));
       debt = ap is_u64 none;
-      chunk = λ name. lt-ltb (chunk_units s p name) (2 ^ 64) (omega (arith, most, in_all, units_most in_key in_size (row s p).ins (Chunk name), row_most s s.rows p));
+      chunk = λ name. lt-ltb (chunk_units s p name) (2 ^ 64) (omega (arith, in_all, units_most in_key in_size (row s p).ins (Chunk name), use_within s s.rows p));
     }
 
 details_fit : (settings : Settings) (s : State) (p number : ℕ) (deal : Deal) (clash : Bool) → DetailsFit s p → DealFits p number deal → list_all detail_fits (reasons_at settings s p deal clash) ≡ true
@@ -151,8 +156,12 @@ frame_valid : (settings : Settings) (n : Situation) (p number : ℕ) (key : List
     → FrameFits p number frame → IsValid (n.history ++ changes_of (on_frame settings n p number key frame))
 frame_valid settings n p number key frame v present peer f = got (got_of frame)
   where
-    either : (o : Option Deal) → deal_of frame ≡ o → IsValid (n.history ++ changes_of (elim o [ None ↦ quiet n.volatile | Some d ↦ on_deal settings n p number key d ]))
-    either None is = unchanged n.history v
+    rest : (o : Option Reply) → replied_by frame ≡ o → IsValid (n.history ++ changes_of (elim o [ None ↦ quiet n.volatile | Some r ↦ on_reply n p number r ]))
+    rest None is = unchanged n.history v
+    rest (Some r) is = reply_valid n p number r v peer f.peer f.number_fits (reply_fits p number frame r f is)
+
+    either : (o : Option Deal) → deal_of frame ≡ o → IsValid (n.history ++ changes_of (elim o [ None ↦ on_rest n p number frame | Some d ↦ on_deal settings n p number key d ]))
+    either None is = rest (replied_by frame) refl
     either (Some d) is =
         deal_valid settings n p number key d v
         (λ next_deal. judged_deal_valid settings n.history p number d (clashes n.history d) v present peer (deal_fits p number frame d f is) next_deal)

@@ -15,7 +15,8 @@ use Rattle.wire_codec.proofs.FrameLaws.{takes}
 use Rattle.psb_machine.specs.Deals.{standing, Deal, deal_of, judged_at}
 use Rattle.psb_machine.specs.Gets.{got_of, has_chunk}
 use Rattle.psb_machine.specs.Replies.{reply}
-use Rattle.psb_machine.specs.Machine.{Situation, Volatile, Input, Datagram, Tick, Keep, Snap, Forget, Reaction, quiet, grows, kept_with, snapped_with, has_snapshot, tells_again, settled, ticked, react, keys_of, by_standing, on_deal, here, on_get, on_other, on_frame, on_keyed, on_read, on_datagram}
+use Rattle.psb_machine.specs.Settling.{Reply, replied_by, settle}
+use Rattle.psb_machine.specs.Machine.{Situation, Volatile, Input, Datagram, Tick, Keep, Snap, Forget, Reaction, quiet, grows, kept_with, snapped_with, has_snapshot, tells_again, settled, ticked, react, keys_of, by_standing, on_deal, here, on_get, by_settled, on_reply, on_rest, on_other, on_frame, on_keyed, on_read, on_datagram}
 use Rattle.psb_machine.specs.declared.deals.Standing.{Standing}
 use Rattle.psb_machine.specs.declared.deals.Standing.TheVariants.{Fresh, Repeat, Stale, Gap}
 use Rattle.psb_machine.specs.Laws.{KeepsValid, AllTellLittle}
@@ -56,6 +57,10 @@ quiet_little n v = record { most = omega arith; letters = λ is. refl; same = λ
 grows_little : (n : Situation) (c : Change) (v : Volatile) → Little n (grows c v)
 grows_little n c v = record { most = omega arith; letters = λ is. refl; same = λ is. absurd (cc) }
 
+settled_little : (n : Situation) (o : Option Change) → Little n (by_settled o n.volatile)
+settled_little n None = quiet_little n n.volatile
+settled_little n (Some c) = grows_little n c n.volatile
+
 again_little : (n : Situation) (o : Option (ℕ × List ℕ)) → Little n (tells_again o n.volatile)
 again_little n None = record { most = omega arith; letters = λ is. refl; same = λ is. absurd (cc) }
 again_little n (Some letter) = record { most = omega arith; letters = λ is. absurd (cc); same = λ is. absurd (cc) }
@@ -76,8 +81,12 @@ get_little settings n p number key name = chosen (has_chunk (state n.history) p 
 frame_little : (settings : Settings) (n : Situation) (p number : ℕ) (key : List ℕ) (frame : Frame) → Little n (on_frame settings n p number key frame)
 frame_little settings n p number key frame = got (got_of frame)
   where
-    either : (o : Option Deal) → Little n (elim o [ None ↦ quiet n.volatile | Some d ↦ on_deal settings n p number key d ])
-    either None = quiet_little n n.volatile
+    rest : (o : Option Reply) → Little n (elim o [ None ↦ quiet n.volatile | Some r ↦ on_reply n p number r ])
+    rest None = quiet_little n n.volatile
+    rest (Some r) = settled_little n (settle (state n.history) p number r)
+
+    either : (o : Option Deal) → Little n (elim o [ None ↦ on_rest n p number frame | Some d ↦ on_deal settings n p number key d ])
+    either None = rest (replied_by frame)
     either (Some d) = deal_little (standing (row (state n.history) p).last.number number) settings n p number key (judged_at settings n.history p number d)
 
     got : (o : Option (List ℕ)) → Little n (elim o [ None ↦ on_other settings n p number key frame | Some name ↦ on_get settings n p number key name ])

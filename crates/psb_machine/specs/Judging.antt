@@ -10,6 +10,7 @@ use Rattle.psb_model.specs.declared.change.Change.{Change}
 use Rattle.wire_codec.specs.Fields.{is_claim}
 use Rattle.wire_codec.specs.declared.limits.TheConstants.{MOST_SLOTS}
 use Rattle.psb_machine.specs.Deals.{Deal, StoreFresh, StoreSwap, Cancel, PutBack, slots_of, is_new, reasons, takes, judge, facts_at}
+use Rattle.psb_machine.specs.Settling.{Reply, Accepts, Refuses}
 use Rattle.psb_machine.specs.declared.deals.Refusal.{Refusal}
 
 -- ---- what a deal that was read has: its parts are within their bounds
@@ -55,6 +56,11 @@ DealFits p number (StoreFresh name bytes) = StoreFits p number name bytes
 DealFits p number (StoreSwap name numbers bytes) = SwapFits p number name numbers bytes
 DealFits p number (Cancel name numbers) = CancelFits p number name numbers
 DealFits p number (PutBack name claims) = PutBackFits p number name claims
+
+-- and what a reply has: claims of 512 bytes in slots that ascend, or a reason's number with a detail
+abbrev pub ReplyFits : Reply → Type 0
+ReplyFits (Accepts claims) = SlotsFit (slots_of claims) × (list_all is_claim claims ≡ true)
+ReplyFits (Refuses why detail) = (is_u8 why ≡ true) × (is_u64 detail ≡ true)
 
 -- the chunk that it brings, if it brings one, is no longer than a chunk may be
 abbrev pub IsShort : Deal → Type 0

@@ -9,7 +9,7 @@ use Rattle.psb_model.specs.State.{State, row, own_has, is_held, snaps_made}
 use Rattle.psb_model.specs.Needed.{last_brought}
 use Rattle.psb_model.specs.History.{state}
 use Rattle.psb_model.specs.declared.change.Change.{Change}
-use Rattle.psb_model.specs.declared.change.Change.TheVariants.{Kept, Snapped, Forgot}
+use Rattle.psb_model.specs.declared.change.Change.TheVariants.{Kept, Snapped, Forgot, Turned}
 use Rattle.wire_codec.specs.Frames.{Incoming, read_frame, key_in, datagram}
 use Rattle.wire_codec.specs.declared.frame.Dropped.{Dropped}
 use Rattle.wire_codec.specs.declared.frame.Frame.{Frame}
@@ -17,19 +17,21 @@ use Rattle.wire_codec.specs.declared.frame.Frame.TheVariants.{Here}
 use Rattle.psb_machine.specs.Deals.{standing, Deal, deal_of, judged_at, meets_others}
 use Rattle.psb_machine.specs.Gets.{has_chunk, got_of}
 use Rattle.psb_machine.specs.Replies.{reply}
+use Rattle.psb_machine.specs.Settling.{Reply, replied_by, settle, waits_after}
 use Rattle.psb_machine.specs.declared.deals.Standing.{Standing}
 use Rattle.psb_machine.specs.declared.deals.Standing.TheVariants.{Fresh, Repeat, Stale, Gap}
 use Rattle.psb_machine.specs.declared.snap_note.SnapNote.{SnapNote}
 
 -- What a restart forgets. So far these are the clocks of the peers, each the ticks of that peer that
--- were absorbed, and of which peers a sample is kept.
+-- were absorbed, of which peers a sample is kept, and for how many ticks of a peer no proposal is made.
 pub record Volatile : Type 0 where
   pub clocks : List (ℕ × ℕ)
   pub samples : List ℕ
+  pub waits : List (ℕ × ℕ)
 
 -- what a node that was just opened has
 abbrev pub empty : Volatile
-empty = record { clocks = []; samples = [] }
+empty = record { clocks = []; samples = []; waits = [] }
 
 -- a peer's clock, 0 before its first tick
 abbrev pub clock_in : List (ℕ × ℕ) → ℕ → ℕ
@@ -51,6 +53,7 @@ ticked p v = record v { clocks = ticked_in v.clocks p }
 abbrev pub by_change : State → Change → Volatile → Volatile
 by_change s (Snapped number ticket files folders bytes left names) v = record v { samples = [] }
 by_change s (Forgot number) v = record v { samples = [] }
+by_change s (Turned p deal why detail) v = record v { waits = waits_after s.settings p v.waits }
 by_change s _ v = v
 
 abbrev pub by_changes : State → Option Change → Volatile → Volatile
@@ -138,9 +141,23 @@ on_get settings n p number key name =
     if has_chunk (state n.history) p name then tells_again (option_map (here settings key p number name) (last_brought name n.history)) n.volatile
     else quiet n.volatile
 
--- A frame of a peer that is no Get. So far nothing comes of one that asks for no deal of a kind that is served.
+-- A reply of a peer to the deal of this number: the change that it makes, of which no letter tells, or
+-- nothing where it does not fit the pending deal.
+abbrev pub by_settled : Option Change → Volatile → Reaction
+by_settled None v = quiet v
+by_settled (Some c) v = grows c v
+
+abbrev pub on_reply : Situation → ℕ → ℕ → Reply → Reaction
+on_reply n p number reply = by_settled (settle (state n.history) p number reply) n.volatile
+
+-- A frame of a peer that is no Get and no deal of a kind that is served. So far nothing comes of one that is
+-- no reply.
+abbrev pub on_rest : Situation → ℕ → ℕ → Frame → Reaction
+on_rest n p number frame = elim (replied_by frame) [ None ↦ quiet n.volatile | Some r ↦ on_reply n p number r ]
+
+-- A frame of a peer that is no Get.
 abbrev pub on_other : Settings → Situation → ℕ → ℕ → List ℕ → Frame → Reaction
-on_other settings n p number key frame = elim (deal_of frame) [ None ↦ quiet n.volatile | Some d ↦ on_deal settings n p number key d ]
+on_other settings n p number key frame = elim (deal_of frame) [ None ↦ on_rest n p number frame | Some d ↦ on_deal settings n p number key d ]
 
 -- A frame of a peer.
 abbrev pub on_frame : Settings → Situation → ℕ → ℕ → List ℕ → Frame → Reaction

@@ -7,7 +7,10 @@ use Rattle.psb_model.specs.declared.deals.DealWhat.{DealWhat}
 use Rattle.psb_model.specs.declared.deals.DealWhat.TheVariants as own
 use Rattle.psb_model.specs.declared.entries.OutState.TheVariants as on
 use Rattle.psb_model.specs.declared.change.Change.{Change}
-use Rattle.psb_model.specs.declared.change.Change.TheVariants.{TookFresh, LetGo, LetGoBack, Refused}
+use Rattle.psb_model.specs.declared.change.Change.TheVariants.{TookFresh, LetGo, LetGoBack, Refused, Settled, Turned}
+use Rattle.psb_bytes.specs.declared.lists.SlotClaim.{SlotClaim}
+use Rattle.psb_model.specs.declared.entries.InEntry.{InEntry}
+use Rattle.psb_machine.specs.Settling.{Accepts, Refuses, settle, ticks_to_wait}
 use Rattle.psb_machine.specs.Deals.{Facts, Deal, StoreFresh, StoreSwap, Cancel, PutBack, judge}
 
 -- a chunk of right bytes that nobody holds, where so many claims were issued and so much may be held
@@ -81,12 +84,39 @@ pub record DebtWorked (name bytes : List ℕ) : Type 0 where
   pub swap : length bytes ≡ 512 → made_with debt_row true false 9 (StoreSwap name (9 ∷ []) bytes) ≡ Refused 2 1 7 2
   pub unequal_first : length bytes ≡ 513 → made_with debt_row true false 9 (StoreSwap name (9 ∷ []) bytes) ≡ Refused 2 1 6 2
 
+-- The node has an own chunk of one unit, and slot 5 of peer 2 is in use here or not; its deal of number 1 with
+-- that peer is pending.
+abbrev pub pending_row : List InEntry → DealWhat → Row
+pending_row ins what = record blank { ins = ins; outs = own_slot 0 ∷ []; mine = 1; pending = Some (record { number = 1; what = what }) }
+
+abbrev pub pending_state : List ℕ → List InEntry → DealWhat → State
+pending_state name ins what = record (with_row (pending_row ins what)) { own = record { name = name; len = 512; marked = false } ∷ [] }
+
+abbrev pub one_claim : List ℕ → List SlotClaim
+one_claim claim = record { slot = 5; bytes = claim } ∷ []
+
+-- A chunk that is stored fresh wants one claim, in a slot that is not in use, and a swap none. A reply to
+-- another number, with too few claims or too many, or with a slot in use, makes nothing.
+pub record RepliesWorked (name claim : List ℕ) : Type 0 where
+  pub settled : settle (pending_state name [] (own.Fresh name)) 2 1 (Accepts (one_claim claim)) ≡ Some (Settled 2 1 (5 ∷ []) (Some claim))
+  pub turned : settle (pending_state name [] (own.Fresh name)) 2 1 (Refuses 8 3) ≡ Some (Turned 2 1 8 3)
+  pub other_number : settle (pending_state name [] (own.Fresh name)) 2 2 (Refuses 8 3) ≡ None
+  pub other_accepted : settle (pending_state name [] (own.Fresh name)) 2 2 (Accepts (one_claim claim)) ≡ None
+  pub too_few : settle (pending_state name [] (own.Fresh name)) 2 1 (Accepts []) ≡ None
+  pub in_use : settle (pending_state name (direct_slot 5 ∷ []) (own.Fresh name)) 2 1 (Accepts (one_claim claim)) ≡ None
+  pub swapped : settle (pending_state name [] (own.Swap name (0 ∷ []))) 2 1 (Accepts []) ≡ Some (Settled 2 1 [] (Some []))
+  pub too_many : settle (pending_state name [] (own.Swap name (0 ∷ []))) 2 1 (Accepts (one_claim claim)) ≡ None
+  pub none_pending : settle (with_row blank) 2 1 (Refuses 8 3) ≡ None
+  pub lesser_waits : ticks_to_wait 1 2 ≡ 2
+  pub greater_waits : ticks_to_wait 2 1 ≡ 4
+
 -- all of them, for any names and bytes
 pub record DealsWorked (name other bytes claim : List ℕ) : Type 0 where
   pub spent : SpentWorked name bytes
   pub release : ReleaseWorked name bytes claim
   pub busy : BusyWorked name other bytes
   pub debt : DebtWorked name bytes
+  pub replies : RepliesWorked name claim
 
 abbrev pub WorkedDeals : Type 0
 WorkedDeals = (name other bytes claim : List ℕ) → DealsWorked name other bytes claim

@@ -1,12 +1,12 @@
 -- The worked histories, from what their settings text says.
-use Rattle.std.proofs.Common.{◌≡◌, ℕ, true, List, Some, length, refl, ◌∙◌, arith}
+use Rattle.std.proofs.Common.{◌≡◌, ℕ, true, List, Some, length, refl, arith}
 use Rattle.std.specs.List.{list_all}
 use Rattle.psb_settings.specs.Settings.{settings_of}
 use Rattle.psb_digest.specs.Hashes.{sha}
-use Rattle.psb_model.specs.Grammar.{is_u8, is_digest, in_grammar}
+use Rattle.psb_model.specs.Grammar.{is_u8, is_digest}
 use Rattle.psb_model.specs.History.{state, is_lawful, is_built}
 use Rattle.psb_model.specs.Worked.{one_peer, two_peers, first_deals, shared_deals, FirstWorked, SharedWorked, Worked, WorkedRows}
-use Rattle.psb_model.proofs.Built.{all_right}
+use Rattle.psb_model.proofs.Bodies.{all_right}
 use Rattle.psb_model.proofs.Own.{name_refl}
 
 first_worked : (text chunk : List ℕ) → settings_of text ≡ Some one_peer → list_all is_u8 text ≡ true → length chunk ≡ 512 → list_all is_u8 chunk ≡ true → is_digest (sha chunk) ≡ true → FirstWorked text chunk

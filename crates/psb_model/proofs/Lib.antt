@@ -10,5 +10,9 @@ pub mod Balance
 pub mod Prefixes
 pub mod Explained
 pub mod Built
+pub mod Held
+pub mod Leaving
+pub mod Directs
+pub mod Bodies
 pub mod Sums
 pub mod Histories

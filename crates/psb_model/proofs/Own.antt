@@ -117,7 +117,7 @@ wanted_more (x ∷ xs) k n h =
     (λ j. inl (rw j refl))
     (λ j. ⊎_elim (λ (a : kept_lists xs n ≡ true). inl (rw j a)) (λ (b : name_listed k.names n ≡ true). inr b) (wanted_more xs k n (rw j at h)))
 
-wanted_less : (number : ℕ) (kept : List Snapshot) (n : List ℕ) → kept_lists (kept_without number kept) n ≡ true → kept_lists kept n ≡ true
+pub wanted_less : (number : ℕ) (kept : List Snapshot) (n : List ℕ) → kept_lists (kept_without number kept) n ≡ true → kept_lists kept n ≡ true
 wanted_less number [] n h = h
 wanted_less number (x ∷ xs) n h =
     by_cases (name_listed x.names n)

@@ -1,13 +1,16 @@
 -- What a history gives, which histories obey the table, and what is proved of all of them.
 use Rattle.std.specs.Prelude.{◌≡◌, ◌≤◌, ℕ, ◌+◌, Bool, true, false, not, ◌&&◌, ◌==◌, List, [], ◌∷◌, ◌++◌, length}
+use Rattle.std.specs.List.{list_all}
 use Rattle.psb_bytes.specs.declared.ids.Object.{Object}
 use Rattle.psb_model.specs.declared.entries.DebtEntry.{DebtEntry}
 use Rattle.psb_model.specs.declared.change.Change.{Change}
-use Rattle.psb_model.specs.declared.change.Change.TheVariants.{Begun, Kept, Snapped, Forgot, TookFresh, TookSwap, LetGo, LetGoBack, Refused, Passed, Failed, Declined}
+use Rattle.psb_model.specs.declared.change.Change.TheVariants.{Begun, Kept, Snapped, Forgot, TookFresh, TookSwap, LetGo, LetGoBack, Refused, Proposed, Settled, Turned, Passed, Failed, Declined, Chose}
+use Rattle.psb_model.specs.declared.deals.DealWhat.{DealWhat}
+use Rattle.psb_model.specs.declared.deals.DealWhat.TheVariants.{Fresh, Swap, Cancel, PutBack, Forward, Return}
 use Rattle.psb_model.specs.Words.{listed, has, units_at, has_so, occurs, In}
-use Rattle.psb_model.specs.State.{State, nothing_yet, row, held_units, back_units, debt_units, out_key, out_size, debt_key}
+use Rattle.psb_model.specs.State.{State, nothing_yet, row, used, held_units, back_units, debt_units, out_key, out_size, debt_key}
 use Rattle.psb_model.specs.Grammar.{in_grammar}
-use Rattle.psb_model.specs.Conditions.{allowed, declined_objects}
+use Rattle.psb_model.specs.Conditions.{allowed, capacity, declined_objects}
 use Rattle.psb_model.specs.Effects.{after, is_whole_listed}
 
 -- the state after some changes more
@@ -27,8 +30,17 @@ state h = state_from nothing_yet h
 abbrev pub is_lawful : List Change → Bool
 is_lawful h = lawful_from nothing_yet h
 
--- the program has this kind so far: the beginning, what is kept of the node's own, and what the deals of
--- a peer make, but for a replaced claim
+-- the program has own deals of these kinds so far: all but those that move a claim
+abbrev pub is_built_deal : DealWhat → Bool
+is_built_deal (Fresh name) = true
+is_built_deal (Swap name numbers) = true
+is_built_deal (Cancel name numbers) = true
+is_built_deal (PutBack name first) = true
+is_built_deal (Forward slot entry) = false
+is_built_deal (Return slot) = false
+
+-- the program has this kind so far: the beginning, what is kept of the node's own, what the deals of a peer
+-- make but for a replaced claim, the own deals with their replies, and a choice of buddies
 abbrev pub is_built : Change → Bool
 is_built (Begun body) = true
 is_built (Kept name len new body) = true
@@ -39,6 +51,10 @@ is_built (TookSwap p deal name numbers len new body) = true
 is_built (LetGo p deal name numbers) = true
 is_built (LetGoBack p deal name numbers body) = true
 is_built (Refused p deal why detail) = true
+is_built (Proposed p deal what) = is_built_deal what
+is_built (Settled p deal numbers body) = true
+is_built (Turned p deal why detail) = true
+is_built (Chose candidates) = true
 is_built _ = false
 
 -- the three numbers of a peer
@@ -54,6 +70,10 @@ debt h p = debt_units (row (state h) p)
 -- what the node answers for to a peer is what it is owed back, plus debt
 abbrev pub Balances : Type 0
 Balances = (h : List Change) (p : ℕ) → is_lawful h ≡ true → held h p ≡ back h p + debt h p
+
+-- What the node answers for, with what its pending deals will bring, stays within the capacity of its settings.
+abbrev pub StaysWithin : Type 0
+StaysWithin = (h : List Change) → is_lawful h ≡ true → list_all is_built h ≡ true → used (state h) ≤ capacity (state h).settings
 
 -- the row is a loss of one of these objects: it stood in out(q) with the row's units.
 pub record IsLoss (s : State) (q : ℕ) (declined : Bool) (objects : List Object) (d : DebtEntry) : Type 0 where

@@ -1,4 +1,4 @@
-ghost use Rattle.psb_model.specs.History.{AllExplained, Balances};
+ghost use Rattle.psb_model.specs.History.{AllExplained, Balances, StaysWithin};
 ghost use Rattle.psb_model.specs.Moved.{AllAreSums};
 ghost use Rattle.psb_model.specs.Worked.{WorkedRows};
 
@@ -6,6 +6,12 @@ ghost use Rattle.psb_model.specs.Worked.{WorkedRows};
 /// is owed back, plus the peer's debt.
 pub fn balance_law()
     ensures { Balances }
+{}
+
+/// After every lawful history of the kinds that are built: what the node answers for to all peers, with
+/// the units of each chunk that a pending deal stores fresh, is within the capacity of its settings.
+pub fn capacity_law()
+    ensures { StaysWithin }
 {}
 
 /// After every lawful history and for every peer: each row of debt stands for an object that one

@@ -12,4 +12,4 @@ pub use entries::{
     Candidate, CandidateList, DebtEntry, InEntry, InState, OutEntry, OutState, OwnEntry, SnapMark,
     Snapshot,
 };
-pub use laws::{balance_law, explanation_law, sums_law, worked_rows};
+pub use laws::{balance_law, capacity_law, explanation_law, sums_law, worked_rows};

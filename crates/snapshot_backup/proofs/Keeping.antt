@@ -15,7 +15,9 @@ use Rattle.psb_model.specs.declared.change.Change.TheVariants.{Kept}
 use Rattle.psb_model.specs.declared.entries.OwnEntry.{OwnEntry}
 use Rattle.psb_model.proofs.Own.{name_same, name_refl}
 use Rattle.psb_model.proofs.Prefixes.{state_snoc}
-use Rattle.psb_model.proofs.Built.{own_is, own_with_is, plain_state}
+use Rattle.psb_model.proofs.Built.{plain_state}
+use Rattle.psb_model.proofs.Held.{own_with_is}
+use Rattle.psb_model.proofs.Leaving.{own_kept}
 use Rattle.psb_machine.specs.Deals.{are_others, meets_others}
 use Rattle.psb_machine.specs.Machine.{Situation, Keep, kept_with, quiet, grows, changes_of, settled, next}
 use Rattle.psb_machine.specs.Course.{after_all}
@@ -56,7 +58,7 @@ own_after : (h : List Change) (name bytes q : List ℕ) → IsValid h → own_ha
 own_after h name bytes q v =
     let s = state h in
     ap (λ (t : State). own_has t.own q) (state_snoc h (kept_with s name bytes))
-    ∙ ap (λ (l : List OwnEntry). own_has l q) (own_is s (kept_with s name bytes) (plain_state h v.lawful v.built) refl)
+    ∙ ap (λ (l : List OwnEntry). own_has l q) (own_kept s name (length bytes) (not (is_held s name)) (Some (cond (not (is_held s name)) bytes [])) (plain_state h v.lawful v.built))
     ∙ own_with_is (record { name = name; len = length bytes; marked = false }) s.own q
 
 or_true : (a : Bool) → (a || true) ≡ true

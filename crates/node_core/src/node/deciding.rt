@@ -7,12 +7,13 @@ ghost use Rattle.psb_station.specs.Span.{Tells_bytes, Looked};
 ghost use Rattle.psb_machine.specs.Machine.{Situation, Datagram, Forget, react};
 ghost use Rattle.psb_machine.specs.Deals.{is_compared, judge};
 ghost use Rattle.psb_machine.specs.Judging.{IsShort};
+ghost use Rattle.psb_machine.specs.Settling.{settle};
 
 use super::Node;
 use crate::decision::Decision;
 use crate::facts::facts_of;
-use crate::offer::{Offer, Reading, Request};
-use crate::reaction::{Reaction, one_letter, quiet};
+use crate::offer::{Offer, Reading, Reply, Request};
+use crate::reaction::{Reaction, one_letter, quiet, untold};
 use crate::replies::{here_to, letter_with, reply_again, reply_to};
 use crate::{Fault, Input};
 use chunk_store::Owner;
@@ -24,7 +25,7 @@ use wire_codec::MOST_BYTES;
 impl<L: Log> Node<L> {
     ghost use Rattle.node_core.specs.Letters.{letters_of, input_of, is_own};
     ghost use Rattle.node_core.specs.Offers.{IsGet};
-    ghost use Rattle.deals.specs.Views.{deal_in, facts_in};
+    ghost use Rattle.deals.specs.Views.{answer_in, deal_in, facts_in};
     ghost use Rattle.node_core.specs.Making.{CanMake, CanTell, IsNextOffer, made_of, made_in, why_refused};
     ghost use Rattle.node_core.specs.Stored.{Knows, Stored, IsCounted};
     ghost use Rattle.node_core.specs.Unread.{IsUnread, IsCertain};
@@ -95,6 +96,7 @@ impl<L: Log> Node<L> {
             Decision::Pass => Ok(quiet(self.alloc, None)),
             Decision::Make(offer) => self.judge(disk, &offer),
             Decision::Again(offer, change) => self.tell_again(disk, &offer, change),
+            Decision::Settle(reply) => self.settle(&reply),
             Decision::Give(request) => self.give(disk, &request),
         }
     }
@@ -110,6 +112,7 @@ impl<L: Log> Node<L> {
             Reading::Fails(why) => return Decision::Drop(why),
             Reading::Other => return Decision::Pass,
             Reading::Get(request) => return self.decide_get(request),
+            Reading::Reply(reply) => return Decision::Settle(reply),
             Reading::Offer(offer) => offer,
         };
         let last = self.ledger.last(offer.peer);
@@ -130,6 +133,19 @@ impl<L: Log> Node<L> {
             Decision::Give(request)
         } else {
             Decision::Pass
+        }
+    }
+
+    /// Makes what a reply makes of the pending deal, of which no letter tells.
+    fn settle(&self, reply: &Reply<'_>) -> Result<Reaction, Fault>
+        ensures settles { IfOk result (λ r. r.change ≡ settle self.now.ledger.state reply.now.peer reply.now.reply.number (answer_in reply.now.reply.answer)) }
+        ensures dropped { IfOk result (λ r. r.dropped ≡ None) }
+        ensures untold { IfOk result (λ r. r.out ≡ []) }
+        ensures only { OnErr result (result ≡ Err Fault.Memory) }
+    {
+        match deals::settle(self.alloc, &self.ledger, reply.peer, &reply.reply)? {
+            None => Ok(quiet(self.alloc, None)),
+            Some(change) => Ok(untold(self.alloc, change)),
         }
     }
 

@@ -5,7 +5,7 @@ ghost use Rattle.std.specs.List.{list_any};
 ghost use Rattle.std.specs.Option.{option_copied};
 ghost use Rattle.psb_bytes.specs.declared.ids.Object.TheVariants.{Chunk};
 ghost use Rattle.psb_model.specs.Words.{has};
-ghost use Rattle.psb_model.specs.State.{in_key};
+ghost use Rattle.psb_model.specs.State.{in_key, ties_in};
 ghost use Rattle.psb_model.specs.Effects.{blank_rows, first_rows};
 ghost use Rattle.psb_ledger.specs.View.{named_row, AreInForm};
 
@@ -34,6 +34,13 @@ pub(super) fn holds(accounts: &[Account], name: &Digest) -> bool
 {
     let chunk = Object::Chunk(*name);
     accounts.iter().any(|a| a.has(&chunk))
+}
+
+/// Whether a pending deal ties the object in what the node answers for to the peer.
+pub(super) fn ties_in(accounts: &[Account], peer: PeerId, object: &Object) -> bool
+    ensures { result ≡ list_any (λ v. ties_in v.id v.row.pending peer object.now) accounts.now }
+{
+    accounts.iter().any(|a| a.ties_in(peer, object))
 }
 
 /// An empty account for each peer of the settings.

@@ -13,10 +13,10 @@ ghost use Rattle.psb_ledger.specs.Snapping.{change_of, count_of};
 
 use super::{Book, NotNow};
 use crate::codec::KeptFields;
-use crate::own::{Own, OwnChunk};
+use crate::own::Own;
 use crate::snapshots::{has_number, names_ascend};
 use psb_bytes::Memory;
-use psb_model::{SnapMark, Snapshot};
+use psb_model::{OwnEntry, SnapMark, Snapshot};
 
 /// How many snapshots were made so far.
 fn count_of(snapped: &Option<SnapMark>) -> u32
@@ -58,9 +58,10 @@ impl Book {
         if !self.may_keep(&x) {
             return Err(NotNow);
         }
-        self.own.insert(OwnChunk {
+        self.own.insert(OwnEntry {
             name: x.name,
             len: x.len,
+            marked: false,
         });
         self.changes += 1;
         Ok(())
@@ -97,6 +98,7 @@ impl Book {
             number: snapshot.number,
             change: self.changes,
         });
+        self.own.lift(snapshot.names.as_slice());
         self.kept.push(snapshot).unwrap();
         self.changes += 1;
         Ok(())
@@ -108,8 +110,9 @@ impl Book {
         self.changes != 0 && has_number(self.kept.as_slice(), number)
     }
 
-    /// Each own name is looked for in the lists that are left, by halves and in the newest first: of
-    /// `n` own names and `k` snapshots that takes at most some `n k log n` steps.
+    /// Each own name is looked for in the lists that are left, by halves and in the newest first, and
+    /// then at each peer: of `n` own names, `k` snapshots and `p` peers that takes at most some
+    /// `n (k + p) log n` steps.
     pub(super) fn forget(&mut self, number: u32) -> Result<(), NotNow>
         requires few { self.old.state.changes < 2 ^ 62 }
         ensures when { IsTrue (allowed self.old.state (Forgot number)) ↔ IsOk result }
@@ -121,7 +124,8 @@ impl Book {
             return Err(NotNow);
         }
         self.kept.retain(|k| k.number != number);
-        self.own.retain_listed(self.kept.as_slice());
+        self.own
+            .mark_unlisted(self.kept.as_slice(), self.accounts.as_slice());
         self.changes += 1;
         Ok(())
     }

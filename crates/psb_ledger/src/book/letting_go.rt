@@ -23,6 +23,7 @@ fn allows_let_go(account: &Account, x: &CancelFields, slots: &[u32]) -> bool
     is_next(account, x.deal)
         && account.has(&chunk)
         && account.are_free(slots)
+        && account.unties_out(slots)
         && slots.len() == account.units_held(&chunk) as usize
 }
 

@@ -1,21 +1,22 @@
 //! What a book says of its state.
 
-ghost use Rattle.std.specs.Prelude.{◌≡◌, ◌==◌, ◌+◌, IfSome};
+ghost use Rattle.std.specs.Prelude.{◌≡◌, ◌==◌, ◌+◌, not, IfSome};
 ghost use Rattle.std.specs.List.{list_any};
 ghost use Rattle.std.specs.Option.{option_copied, option_map};
 ghost use Rattle.psb_bytes.specs.declared.ids.Object.TheVariants.{Slot};
-ghost use Rattle.psb_model.specs.Words.{has_so};
-ghost use Rattle.psb_model.specs.State.{row, used, own_has, is_held, in_key, held_units, back_units, debt_units, tied_in, tied_out};
-ghost use Rattle.psb_model.specs.Conditions.{is_direct};
+ghost use Rattle.psb_model.specs.Words.{has, has_so, units_at};
+ghost use Rattle.psb_model.specs.State.{row, used, own_has, own_marked, is_held, in_key, out_key, out_size, held_units, back_units, debt_units, tied_in, tied_out};
+ghost use Rattle.psb_model.specs.Conditions.{each_slot, is_direct};
 ghost use Rattle.psb_ledger.specs.View.{row_of};
+ghost use Rattle.psb_ledger.specs.OwnDeals.{barring};
 ghost use Rattle.psb_ledger.specs.OwnList.{known_len, next_own};
 
-use super::accounts::{account_of, holds};
+use super::accounts::{account_of, holds, ties_in};
 use super::{Balance, Book};
 use crate::account::Account;
 use crate::snapshots::has_number;
 use psb_bytes::{Digest, Object, PeerId};
-use psb_model::{OwnEntry, SnapMark, Snapshot};
+use psb_model::{Deal, OwnEntry, SnapMark, Snapshot};
 use psb_settings::Settings;
 
 impl Book {
@@ -40,7 +41,7 @@ impl Book {
         self.issued
     }
 
-    /// What the node answers for to all peers, in units of 512 bytes.
+    /// What the node answers for to all peers and will answer for by pending Fresh deals.
     pub fn used(&self) -> u32
         ensures { result ≡ used self.now.state }
     {
@@ -87,21 +88,86 @@ impl Book {
         }
     }
 
-    /// Whether a pending deal of the node ties the object in what it answers for to the peer: there
-    /// is none yet.
+    /// Whether the node answers for none of these slots to the peer.
+    pub fn lacks_slots(&self, peer: PeerId, slots: &[u32]) -> bool
+        ensures { result ≡ each_slot (λ o. not (has in_key (row self.now.state peer).ins o)) slots.now }
+    {
+        match self.account(peer) {
+            None => true,
+            Some(account) => account.lacks_slots(slots),
+        }
+    }
+
+    /// The units of the object in what the node has on the peer.
+    pub fn units_out(&self, peer: PeerId, object: &Object) -> u32
+        ensures { result ≡ units_at out_key out_size (row self.now.state peer).outs object.now }
+    {
+        match self.account(peer) {
+            None => 0,
+            Some(account) => account.units_out(object),
+        }
+    }
+
+    /// The own deal with the peer that has no reply yet.
+    pub fn pending(&self, peer: PeerId) -> Option<&Deal>
+        ensures { option_copied result ≡ (row self.now.state peer).pending }
+    {
+        match self.account(peer) {
+            None => None,
+            Some(account) => account.pending(),
+        }
+    }
+
+    /// The number of the last own deal with the peer.
+    pub fn mine(&self, peer: PeerId) -> u64
+        ensures { result ≡ (row self.now.state peer).mine }
+    {
+        match self.account(peer) {
+            None => 0,
+            Some(account) => account.mine(),
+        }
+    }
+
+    /// The number of the first change by which the peer turned the name down for good.
+    pub fn barred(&self, peer: PeerId, name: &Digest) -> Option<u64>
+        ensures { result ≡ barring (row self.now.state peer) name.now }
+    {
+        match self.account(peer) {
+            None => None,
+            Some(account) => account.barred(name),
+        }
+    }
+
+    /// Whether a pending deal of the node ties the object in what it answers for to the peer.
     pub fn tied_in(&self, peer: PeerId, object: &Object) -> bool
         ensures { result ≡ tied_in self.now.state peer object.now }
     {
         let _changes = self.changes;
-        false
+        ties_in(self.accounts.as_slice(), peer, object)
     }
 
-    /// Whether the pending deal with the peer ties the object there: there is none yet.
+    /// Whether none of these slots is tied there.
+    pub fn unties_in(&self, peer: PeerId, slots: &[u32]) -> bool
+        ensures { result ≡ each_slot (λ o. not (tied_in self.now.state peer o)) slots.now }
+    {
+        slots.iter().all(|n| !self.tied_in(peer, &Object::Slot(*n)))
+    }
+
+    /// Whether the pending deal with the peer ties the object there.
     pub fn tied_out(&self, peer: PeerId, object: &Object) -> bool
         ensures { result ≡ tied_out self.now.state peer object.now }
     {
-        let _changes = self.changes;
-        false
+        match self.account(peer) {
+            None => false,
+            Some(account) => account.ties_out(object),
+        }
+    }
+
+    /// The buddies of the last choice.
+    pub fn chosen(&self) -> &[PeerId]
+        ensures { result.now ≡ self.now.state.chosen }
+    {
+        self.chosen.as_slice()
     }
 
     /// Whether a body is held under the name.
@@ -116,6 +182,13 @@ impl Book {
         ensures { result ≡ own_has self.now.state.own name.now }
     {
         self.own.has(name)
+    }
+
+    /// Whether the own chunk of this name is marked.
+    pub fn is_marked(&self, name: &Digest) -> bool
+        ensures { result ≡ own_marked self.now.state.own name.now }
+    {
+        self.own.is_marked(name)
     }
 
     /// The length of the own chunk of this name.

@@ -15,13 +15,20 @@ use crate::account::Account;
 use crate::codec::SwapFields;
 use psb_bytes::{Object, units_of};
 
-fn allows_swap(account: &Account, x: &SwapFields, slots: &[u32], is_held: bool) -> bool
-    ensures { result ≡ all_of (swap_tests account.now.row x.now.deal x.now.name slots.now x.now.new is_held (units x.now.len)) }
+fn allows_swap(
+    account: &Account,
+    x: &SwapFields,
+    slots: &[u32],
+    is_held: bool,
+    is_untied: bool,
+) -> bool
+    ensures { result ≡ all_of (swap_tests account.now.row x.now.deal x.now.name slots.now x.now.new is_held is_untied (units x.now.len)) }
 {
     is_next(account, x.deal)
         && !account.has(&Object::Chunk(x.name))
         && x.new != is_held
         && account.has_slots(slots)
+        && is_untied
         && slots.len() == units_of(x.len) as usize
         && account.debt() == 0
 }
@@ -37,7 +44,8 @@ impl Book {
         }
         let at = place_of(self.accounts.as_slice(), x.peer)?;
         let is_held = self.is_held(&x.name);
-        allows_swap(&self.accounts[at], x, slots, is_held).then_some(at)
+        let is_untied = self.unties_in(x.peer, slots);
+        allows_swap(&self.accounts[at], x, slots, is_held, is_untied).then_some(at)
     }
 
     pub(super) fn take_swap(&mut self, x: SwapFields, slots: &[u32]) -> Result<(), NotNow>

@@ -16,7 +16,7 @@ use crate::codec::FreshFields;
 use psb_bytes::{Object, units_of};
 use psb_settings::Settings;
 
-fn capacity_of(settings: &Option<Settings>) -> u32
+pub(super) fn capacity_of(settings: &Option<Settings>) -> u32
     ensures { result ≡ capacity settings.now }
 {
     match settings {

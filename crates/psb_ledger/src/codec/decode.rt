@@ -9,6 +9,7 @@ ghost use Rattle.psb_ledger.specs.declared.codec.decode.ChangeError.TheVariants.
 ghost use Rattle.psb_ledger.specs.Records.{IsRead, HasNoChange, HasNoNames, NoneIsRead};
 ghost use Rattle.psb_ledger.specs.Fronts.{snapped_front, front_fits, HasNoFront};
 
+use super::decode_deals::{decode_chose, decode_proposed, decode_settled, decode_turned};
 use super::decode_slots::{decode_let_go, decode_put_back, decode_swap};
 use super::fields::{FreshFields, KeptFields, RefusedFields, SnappedFields};
 use super::parts::{copy_body, copy_of, ended, is_chunk_len, read_flag, stored_len};
@@ -66,6 +67,10 @@ pub fn decode_change(alloc: Global, head: &[u8], body: Option<&[u8]>) -> Result<
         7 => decode_let_go(alloc, fields, body),
         8 => decode_put_back(alloc, fields, body),
         10 => decode_refused(fields, body),
+        11 => decode_proposed(alloc, fields, body),
+        12 => decode_settled(alloc, fields, body),
+        13 => decode_turned(fields, body),
+        19 => decode_chose(alloc, fields, body),
         _ => Err(ChangeError::BadHead),
     }
 }
@@ -294,7 +299,8 @@ fn read_store(fields: &[u8]) -> Result<FreshFields, ChangeError>
     Ok(x)
 }
 
-fn read_refusal(fields: &[u8]) -> Result<RefusedFields, ChangeError>
+/// The fields of a Refused, which are those of a Turned.
+pub(super) fn read_refusal(fields: &[u8]) -> Result<RefusedFields, ChangeError>
     ensures head { IfOk result (λ x. 10 ∷ fields.now ≡ head_of (Refused x.peer x.deal x.why x.detail)) }
     ensures widths { IfOk result (λ x. fits_widths (Refused x.peer x.deal x.why x.detail) ≡ true) }
     ensures error { IfErr result (λ e. e ≡ BadHead) }

@@ -21,7 +21,7 @@ use std::alloc::Global;
 const DEAL_FRONT: usize = 44;
 
 /// How many bytes the claim of a slot has.
-const CLAIM: usize = 512;
+pub(super) const CLAIM: usize = 512;
 
 /// A chunk that a peer took back, with the slots of its change.
 #[derive(Drop)]
@@ -167,7 +167,7 @@ fn deal_of(front: &[u8]) -> CancelFields
 }
 
 /// The count of the slots, and the slots, which ascend.
-fn read_slots(alloc: Global, rest: &mut Cursor<'_>) -> Result<SlotList, ChangeError>
+pub(super) fn read_slots(alloc: Global, rest: &mut Cursor<'_>) -> Result<SlotList, ChangeError>
     ensures ok { IfOk result (λ l. rest.old ≡ counted u32_bytes l ++ rest.new) }
     ensures widths { IfOk result (λ l. list_all is_u32 l ≡ true) }
     ensures listed { IfOk result (λ l. numbers_listed l ≡ true) }

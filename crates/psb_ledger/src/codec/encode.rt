@@ -1,16 +1,18 @@
-ghost use Rattle.std.specs.Prelude.{◌≡◌, ◌+◌, ◌*◌, ◌<◌, ◌≤◌, ◌^◌, ◌++◌, ◌∷◌, length, flat_map, IfOk, IsTrue, None};
+ghost use Rattle.std.specs.Prelude.{◌≡◌, ◌+◌, ◌*◌, ◌<◌, ◌≤◌, ◌^◌, ◌++◌, ◌∷◌, true, length, flat_map, IfOk, IsTrue, None};
 ghost use Rattle.psb_bytes.specs.Numbers.{u32_bytes};
-ghost use Rattle.psb_model.specs.Heads.{head_of, counted};
-ghost use Rattle.psb_model.specs.Grammar.{in_grammar};
-ghost use Rattle.psb_model.specs.declared.change.Change.TheVariants.{Begun, Kept, Snapped, Forgot, TookFresh, Refused};
-ghost use Rattle.psb_model.specs.History.{is_built};
+ghost use Rattle.psb_model.specs.Heads.{head_of, counted, candidate};
+ghost use Rattle.psb_model.specs.Grammar.{in_grammar, what_in_grammar};
+ghost use Rattle.psb_model.specs.declared.change.Change.TheVariants.{Begun, Kept, Snapped, Forgot, TookFresh};
+ghost use Rattle.psb_model.specs.History.{is_built, is_built_deal};
 ghost use Rattle.psb_ledger.specs.SlotHeads.{cancel_bytes, swap_bytes};
+ghost use Rattle.psb_ledger.specs.DealHeads.{proposed_front, proposed_bytes, settled_bytes, refused_bytes};
 
 use super::fields::{
-    CancelFields, FreshFields, KeptFields, RefusedFields, SnappedFields, SwapFields,
+    CancelFields, FreshFields, KeptFields, ProposedFront, RefusedFields, ReplyFields,
+    SnappedFields, SwapFields,
 };
-use psb_bytes::{Digest, Memory, Page};
-use psb_model::Change;
+use psb_bytes::{Digest, Memory, Page, PeerId};
+use psb_model::{Candidate, Change, DealWhat};
 use std::alloc::Global;
 
 /// The head of a change: its kind, and its fields in order, numbers high byte first.
@@ -131,6 +133,7 @@ pub fn encode_change(alloc: Global, c: &Change) -> Result<Vec<u8>, Memory>
             detail,
         } => refused(
             alloc,
+            10,
             RefusedFields {
                 peer: *peer,
                 deal: *deal,
@@ -138,6 +141,36 @@ pub fn encode_change(alloc: Global, c: &Change) -> Result<Vec<u8>, Memory>
                 detail: *detail,
             },
         ),
+        Change::Proposed { peer, deal, what } => proposed(alloc, *peer, *deal, what),
+        Change::Settled {
+            peer,
+            deal,
+            slots,
+            body: _,
+        } => settled(
+            alloc,
+            ReplyFields {
+                peer: *peer,
+                deal: *deal,
+            },
+            slots.as_slice(),
+        ),
+        Change::Turned {
+            peer,
+            deal,
+            why,
+            detail,
+        } => refused(
+            alloc,
+            13,
+            RefusedFields {
+                peer: *peer,
+                deal: *deal,
+                why: *why,
+                detail: *detail,
+            },
+        ),
+        Change::Chose { candidates } => chose(alloc, candidates.as_slice()),
         _ => unreachable!(),
     }
 }
@@ -253,14 +286,150 @@ fn put_slots(page: &mut Page, slots: &[u32])
     }
 }
 
-fn refused(alloc: Global, x: RefusedFields) -> Result<Vec<u8>, Memory>
-    ensures { IfOk result (λ v. v.items ≡ head_of (Refused x.peer x.deal x.why x.detail)) }
+/// The head of a Refused or a Turned, by its kind.
+fn refused(alloc: Global, kind: u8, x: RefusedFields) -> Result<Vec<u8>, Memory>
+    ensures { IfOk result (λ v. v.items ≡ kind ∷ refused_bytes x) }
 {
     let mut page = Page::with_room(alloc, 22)?;
-    page.put_u8(10);
+    page.put_u8(kind);
     page.put_u32(x.peer.0);
     page.put_u64(x.deal);
     page.put_u8(x.why);
     page.put_u64(x.detail);
     Ok(page.done())
+}
+
+fn proposed(alloc: Global, peer: PeerId, deal: u64, what: &DealWhat) -> Result<Vec<u8>, Memory>
+    requires kind { is_built_deal what.now ≡ true }
+    requires grammar { what_in_grammar what.now ≡ true }
+    ensures { IfOk result (λ v. v.items ≡ 11 ∷ proposed_bytes peer deal what.now) }
+{
+    match what {
+        DealWhat::Fresh { name } => placed(
+            alloc,
+            ProposedFront {
+                peer,
+                deal,
+                what: 1,
+                name: *name,
+            },
+        ),
+        DealWhat::Swap { name, slots } => listing(
+            alloc,
+            ProposedFront {
+                peer,
+                deal,
+                what: 2,
+                name: *name,
+            },
+            slots.as_slice(),
+        ),
+        DealWhat::Cancel { name, slots } => listing(
+            alloc,
+            ProposedFront {
+                peer,
+                deal,
+                what: 3,
+                name: *name,
+            },
+            slots.as_slice(),
+        ),
+        DealWhat::PutBack { name, first } => numbered(
+            alloc,
+            ProposedFront {
+                peer,
+                deal,
+                what: 4,
+                name: *name,
+            },
+            *first,
+        ),
+        _ => unreachable!(),
+    }
+}
+
+/// The head of a Proposed that ends with its name.
+fn placed(alloc: Global, x: ProposedFront) -> Result<Vec<u8>, Memory>
+    ensures { IfOk result (λ v. v.items ≡ 11 ∷ proposed_front x) }
+{
+    let mut page = Page::with_room(alloc, 46)?;
+    page.put_u8(11);
+    page.put_u32(x.peer.0);
+    page.put_u64(x.deal);
+    page.put_u8(x.what);
+    page.put_slice(&x.name.0);
+    Ok(page.done())
+}
+
+/// The head of a Proposed that ends with slots.
+fn listing(alloc: Global, x: ProposedFront, slots: &[u32]) -> Result<Vec<u8>, Memory>
+    requires { length slots.now < 2 ^ 32 }
+    ensures { IfOk result (λ v. v.items ≡ 11 ∷ (proposed_front x ++ counted u32_bytes slots.now)) }
+{
+    let mut page = Page::with_room(alloc, 50 + 4 * slots.len())?;
+    page.put_u8(11);
+    page.put_u32(x.peer.0);
+    page.put_u64(x.deal);
+    page.put_u8(x.what);
+    page.put_slice(&x.name.0);
+    put_slots(&mut page, slots);
+    Ok(page.done())
+}
+
+/// The head of a Proposed that ends with a number.
+fn numbered(alloc: Global, x: ProposedFront, first: u32) -> Result<Vec<u8>, Memory>
+    ensures { IfOk result (λ v. v.items ≡ 11 ∷ (proposed_front x ++ u32_bytes first)) }
+{
+    let mut page = Page::with_room(alloc, 50)?;
+    page.put_u8(11);
+    page.put_u32(x.peer.0);
+    page.put_u64(x.deal);
+    page.put_u8(x.what);
+    page.put_slice(&x.name.0);
+    page.put_u32(first);
+    Ok(page.done())
+}
+
+fn settled(alloc: Global, x: ReplyFields, slots: &[u32]) -> Result<Vec<u8>, Memory>
+    requires { length slots.now < 2 ^ 32 }
+    ensures { IfOk result (λ v. v.items ≡ 12 ∷ settled_bytes x slots.now) }
+{
+    let mut page = Page::with_room(alloc, 17 + 4 * slots.len())?;
+    page.put_u8(12);
+    page.put_u32(x.peer.0);
+    page.put_u64(x.deal);
+    put_slots(&mut page, slots);
+    Ok(page.done())
+}
+
+fn chose(alloc: Global, candidates: &[Candidate]) -> Result<Vec<u8>, Memory>
+    requires { length candidates.now < 2 ^ 32 }
+    ensures { IfOk result (λ v. v.items ≡ 19 ∷ counted candidate candidates.now) }
+{
+    let mut page = Page::with_room(alloc, 5 + 16 * candidates.len())?;
+    page.put_u8(19);
+    page.put_u32(candidates.len() as u32);
+    put_candidates(&mut page, candidates);
+    Ok(page.done())
+}
+
+fn put_candidates(page: &mut Page, candidates: &[Candidate])
+    requires { length page.old.bytes + 16 * length candidates.now ≤ page.old.room }
+    ensures { page.new.bytes ≡ page.old.bytes ++ flat_map candidate candidates.now }
+{
+    for x in candidates {
+        put_candidate(page, *x);
+    }
+}
+
+fn put_candidate(page: &mut Page, x: Candidate)
+    requires { length page.old.bytes + 16 ≤ page.old.room }
+    ensures bytes { page.new.bytes ≡ page.old.bytes ++ candidate x }
+    ensures len { length page.new.bytes ≡ length page.old.bytes + 16 }
+    ensures room { page.new.room ≡ page.old.room }
+{
+    page.put_u32(x.peer.0);
+    page.put_u32(x.got);
+    page.put_u32(x.of);
+    page.put_u32(x.hops);
 }

@@ -29,7 +29,7 @@ pub struct CancelFields {
     pub name: Digest,
 }
 
-/// A deal that was refused, as its change has it.
+/// A deal that was refused, or turned down, as its change has it.
 #[derive(Clone, Copy)]
 pub struct RefusedFields {
     pub peer: PeerId,
@@ -55,4 +55,20 @@ pub struct SnappedFields {
     pub folders: u32,
     pub bytes: u64,
     pub left: u32,
+}
+
+/// What each own deal that is built has in front: which kind of deal it is, and the chunk it names.
+#[derive(Clone, Copy)]
+pub struct ProposedFront {
+    pub peer: PeerId,
+    pub deal: u64,
+    pub what: u8,
+    pub name: Digest,
+}
+
+/// The own deal that a peer replied to.
+#[derive(Clone, Copy)]
+pub struct ReplyFields {
+    pub peer: PeerId,
+    pub deal: u64,
 }

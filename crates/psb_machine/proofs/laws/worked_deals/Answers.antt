@@ -2,6 +2,7 @@ use Rattle.std.proofs.Common.{refl}
 use Rattle.std.proofs.lemmas.List.{append-nil}
 use Rattle.psb_bytes.specs.declared.ids.Object.TheVariants.{Chunk}
 use Rattle.psb_model.proofs.ByObject.{object_eq-refl}
+use Rattle.psb_model.proofs.Own.{name_refl}
 use Rattle.psb_machine.proofs.laws.worked_deals.Goals as goal
 
 pub returns : goal.returns
@@ -24,5 +25,18 @@ returns c = λ name other bytes claim. record {
     full_later = λ is. refl;
     swap = λ is. rw is refl;
     unequal_first = λ is. rw is refl;
+  };
+  replies = record {
+    settled = rw (name_refl name, append-nil claim) refl;
+    turned = refl;
+    other_number = refl;
+    other_accepted = refl;
+    too_few = rw (name_refl name) refl;
+    in_use = rw (name_refl name) refl;
+    swapped = refl;
+    too_many = refl;
+    none_pending = refl;
+    lesser_waits = refl;
+    greater_waits = refl;
   };
 }

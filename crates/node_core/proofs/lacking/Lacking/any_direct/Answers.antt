@@ -3,7 +3,7 @@ use Rattle.std.specs.List.{list_any}
 use Rattle.std.proofs.lemmas.Iterator.Consumers.{YieldsList-from_rest}
 use Rattle.std.proofs.lemmas.Iterator.Search.{any_from_yields_List}
 use Rattle.psb_model.specs.State.{row}
-use Rattle.psb_model.proofs.Built.{has_direct}
+use Rattle.psb_model.proofs.Directs.{has_direct}
 use Rattle.node_core.specs.declared.lacking.SlotAt.{SlotAt}
 use Rattle.node_core.specs.contracts.lacking.SlotAtOrd.TheImpl.{cmp-value as slot_cmp}
 use Rattle.node_core.proofs.Lacks.{one_passes, none_passes}

@@ -3,7 +3,7 @@ use Rattle.std.proofs.lemmas.Bool.{and_parts}
 use Rattle.psb_model.specs.State.{State}
 use Rattle.psb_model.specs.Conditions.{allowed}
 use Rattle.node_core.specs.Names.{Enters}
-use Rattle.node_core.proofs.Entered.{names_same, is_new, enters_of, there_same, there_grown}
+use Rattle.node_core.proofs.Entered.{names_same, is_new, enters_after, there_same, there_grown}
 use Rattle.node_core.proofs.Ordering.{IsOrdered, ordered_state}
 use Rattle.psb_station.proofs.Spans.{shows_wider}
 use Rattle.psb_model.specs.Effects.{after}
@@ -63,7 +63,7 @@ pub returns-clause-step : goal.returns-clause-step
 returns-clause-step g c = λ n m k step.
     let grown : c.apply.new.self.state ≡ after c.args.self.now.ledger.state c.args.change = search rules in
     let issued : c.apply.new.self.state.issued ≤ c.issue_to.new.claims.issued = omega (arith, c.issued.ensures, c.issue_to.ensures.issued) in
-    let entered = enters_of c.args.self.now.ledger.state c.make_room-2.new.self c.enter.new.names c.args.change c.in_ok-entering.entering c.in_ok-number.number c.requires.may.read c.in_ok-entering.ensures c.enter.ensures in
+    let entered = enters_after c.args.self.now.ledger.state c.apply.new.self.state n.history c.make_room-2.new.self c.enter.new.names c.args.change c.in_ok-entering.entering c.in_ok-number.number k.ledger k.valid.lawful k.valid.built c.requires.may.read grown c.in_ok-entering.ensures c.enter.ensures in
     step_knows c.args.self.now _ n m c.args.change c.make_room-2.new.self c.in_ok-number.number c.requires.may k step grown (record { owners = c.make_room-2.ensures.owners; records = c.make_room-2.ensures.records }) entered
     (c.requires.counted.changes ∙ sym c.in_ok-make_room-3.ensures.size ∙ sym c.in_ok-number.ensures.number) (record { peers = refl; seed = c.issue_to.ensures.seed; issued = c.issue_to.ensures.stay }) issued
 
@@ -73,7 +73,9 @@ returns-clause-counted g c =
     let grown : c.apply.new.self.state ≡ after node.ledger.state c.args.change = search rules in
     let long : g.L.Log.size c.append.new.self ≡ g.L.Log.size node.log + 1 = c.in_ok-number.ensures.size ∙ ap (λ (i : ℕ). i + 1) c.in_ok-make_room-3.ensures.size in
     let here : c.in_ok-number.number ≡ g.L.Log.size node.log = c.in_ok-number.ensures.number ∙ c.in_ok-make_room-3.ensures.size in
-    let entered = enters_of node.ledger.state c.make_room-2.new.self c.enter.new.names c.args.change c.in_ok-entering.entering c.in_ok-number.number c.requires.may.read c.in_ok-entering.ensures c.enter.ensures in
+    let n = c.requires.known.0 in
+    let k = c.requires.known.1 in
+    let entered = enters_after node.ledger.state c.apply.new.self.state n.history c.make_room-2.new.self c.enter.new.names c.args.change c.in_ok-entering.entering c.in_ok-number.number k.ledger k.valid.lawful k.valid.built c.requires.may.read grown c.in_ok-entering.ensures c.enter.ensures in
     record {
       changes = omega (arith, ap (λ (s : State). s.changes) grown, c.requires.counted.changes, long);
       bodies = there_grown node.ledger.state c.make_room-2.new.self c.enter.new.names c.args.change (g.L.Log.size node.log) (g.L.Log.size c.append.new.self) (g.L.Log.keeps_body node.log) (g.L.Log.keeps_body c.append.new.self) c.requires.may.read long

@@ -1,7 +1,8 @@
 use Rattle.std.proofs.Common.{rules}
 use Rattle.psb_machine.specs.Machine.{Datagram}
-use Rattle.node_core.proofs.Presence.{ok_map, ok_map2}
+use Rattle.node_core.proofs.Presence.{ok_map, ok_map2, ok_map3}
 use Rattle.node_core.proofs.Reacting.{reacts_made, reacts_made_so, made_may_come, makes_few, unread_unheld, reacts_again, reacts_again_so, never_unread, reacts_given, reacts_given_so, never_unread_get}
+use Rattle.node_core.proofs.Settles.{reacts_settled, reacts_settled_so, settled_may_come}
 use Rattle.node_core.proofs.node.Node.on_datagram.Goals as goal
 
 pub returns-in-Make-clause-exact : goal.returns-in-Make-clause-exact
@@ -67,3 +68,27 @@ returns-in-Give-clause-so g c =
     ok_map c.give.result _ _ (λ r none n k.
     reacts_given_so r n (Datagram c.args.datagram.now) _ c.in-Give.request (search rules) (c.in-Give.ensures.decides n k) none)
     c.give.ensures.none
+
+pub returns-in-Settle-clause-exact : goal.returns-in-Settle-clause-exact
+returns-in-Settle-clause-exact g c =
+    ok_map3 c.settle.result _ _ _ _ (λ r change dropped out tells n k s.
+    reacts_settled c.args.self.now r n (Datagram c.args.datagram.now) _ c.in-Settle.reply k (search rules) (c.in-Settle.ensures.decides n k) change dropped out)
+    c.settle.ensures.settles c.settle.ensures.dropped c.settle.ensures.untold
+
+pub returns-in-Settle-clause-unread : goal.returns-in-Settle-clause-unread
+returns-in-Settle-clause-unread g c =
+    ok_map3 c.settle.result _ _ _ _ (λ r change dropped out n k u.
+    reacts_settled c.args.self.now r n (Datagram c.args.datagram.now) _ c.in-Settle.reply k (search rules) (c.in-Settle.ensures.decides n k) change dropped out)
+    c.settle.ensures.settles c.settle.ensures.dropped c.settle.ensures.untold
+
+pub returns-in-Settle-clause-so : goal.returns-in-Settle-clause-so
+returns-in-Settle-clause-so g c =
+    ok_map3 c.settle.result _ _ _ _ (λ r change dropped out n k.
+    reacts_settled_so c.args.self.now r n (Datagram c.args.datagram.now) _ c.in-Settle.reply k (search rules) (c.in-Settle.ensures.decides n k) change dropped out)
+    c.settle.ensures.settles c.settle.ensures.dropped c.settle.ensures.untold
+
+pub returns-in-Settle-clause-may : goal.returns-in-Settle-clause-may
+returns-in-Settle-clause-may g c =
+    ok_map c.settle.result _ _ (λ r change.
+    settled_may_come c.args.self.now r _ c.in-Settle.reply c.in-Settle.ensures.decides c.in-Settle.ensures.can change)
+    c.settle.ensures.settles

@@ -30,5 +30,5 @@ invariant_of-self c =
 pub returns-clause-row : goal.returns-clause-row
 returns-clause-row c =
     let x = c.args.x.now in
-    (λ j. plain_row (c.remove.ensures.items j) (c.remove_slots.ensures.items j) c.self.inside.debts.items (record { number = x.deal; change = c.args.change }))
+    (λ j. plain_row (c.remove.ensures.items j) (c.remove_slots.ensures.items j) c.self.inside.debts.items (record { number = x.deal; change = c.args.change }) c.self.inside.deals)
     ∙ ap (λ (v : AccountView). let_go_row x.name c.args.slots.now x.deal c.args.change v.row) c.self.view_is

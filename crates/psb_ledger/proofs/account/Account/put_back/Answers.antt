@@ -41,5 +41,5 @@ returns-clause-row c =
     let x = c.args.x.now in
     let ns = c.args.slots.now in
     let ins = c.insert_direct_slots.ensures.items ∙ ap (with_all in_key (direct_slots ns)) c.remove.ensures.items in
-    (λ j. plain_row (ins j) (out_items c.self.inside.outs) c.self.inside.debts.items (record { number = x.deal; change = c.args.change }))
+    (λ j. plain_row (ins j) (out_items c.self.inside.outs) c.self.inside.debts.items (record { number = x.deal; change = c.args.change }) c.self.inside.deals)
     ∙ ap (λ (v : AccountView). put_back_row x.name ns x.deal c.args.change v.row) c.self.view_is

@@ -32,5 +32,5 @@ pub returns-clause-row : goal.returns-clause-row
 returns-clause-row c =
     let x = c.args.x.now in
     let ins = c.insert.ensures.items ∙ ap (λ e. with_one in_key e (in_items c.self.inside.ins)) c.chunk_of.ensures in
-    taken_row (in_items c.self.inside.ins) (in_items c.insert.new.self) (out_items c.self.inside.outs) (out_items c.insert_own_slots.new.self) c.self.inside.debts.items c.self.inside.last x.name c.args.u x.first x.deal c.args.change ins c.insert_own_slots.ensures.items
+    taken_row (in_items c.self.inside.ins) (in_items c.insert.new.self) (out_items c.self.inside.outs) (out_items c.insert_own_slots.new.self) c.self.inside.debts.items c.self.inside.last c.self.inside.deals x.name c.args.u x.first x.deal c.args.change ins c.insert_own_slots.ensures.items
     ∙ ap (λ (v : AccountView). fresh_row x.name c.args.u x.first x.deal c.args.change v.row) c.self.view_is

@@ -40,5 +40,5 @@ returns-clause-row c =
     let x = c.args.x.now in
     let ns = c.args.slots.now in
     let ins = c.insert.ensures.items ∙ (λ j. with_one in_key (c.chunk_of.ensures j) (c.remove_slots.ensures.items j)) in
-    (λ j. plain_row (ins j) (out_items c.self.inside.outs) c.self.inside.debts.items (record { number = x.deal; change = c.args.change }))
+    (λ j. plain_row (ins j) (out_items c.self.inside.outs) c.self.inside.debts.items (record { number = x.deal; change = c.args.change }) c.self.inside.deals)
     ∙ ap (λ (v : AccountView). swap_row x.name c.args.u ns x.deal c.args.change v.row) c.self.view_is

@@ -14,7 +14,7 @@ invariant_of-self c =
     let next = ap (λ (v : LedgerView). v.next) c.self.view_is ∙ c.requires.settings in
     let some : is_some (settings_of_body c.args.body.now) ≡ true = ap is_some (sym next) ∙ search rules in
     record {
-      sound = (begun_sound (mine_of l.own l.kept.items l.snapped) l.changes l.settings l.accounts.items l.issued l.used c.args.body.now c.take.result c.swap.new.x.items c.if-self-ne0.false c.self.invariant.sound (c.take.ensures.value ∙ next) some (ap (λ v. map named_row v.items) c.swap.ensures.x_after ∙ ap (λ (v : LedgerView). map named_row v.next_accounts) c.self.view_is ∙ c.requires.accounts) (omega (arith, ap capacity (c.take.ensures.value ∙ next), text_capacity c.args.body.now))).1;
+      sound = (begun_sound (mine_of l.own l.kept.items l.snapped l.chosen.items) l.changes l.settings l.accounts.items l.issued l.used c.args.body.now c.take.result c.swap.new.x.items c.if-self-ne0.false c.self.invariant.sound (c.take.ensures.value ∙ next) some (ap (λ v. map named_row v.items) c.swap.ensures.x_after ∙ ap (λ (v : LedgerView). map named_row v.next_accounts) c.self.view_is ∙ c.requires.accounts) (omega (arith, ap capacity (c.take.ensures.value ∙ next), text_capacity c.args.body.now))).1;
       forms = subst (AreInForm l.in_blocks) (sym (ap (λ v. v.items) c.swap.ensures.x_after)) c.self.invariant.next_forms;
       own_part = c.self.invariant.own_part;
       next_forms = subst (AreInForm l.in_blocks) (sym (ap (λ v. v.items) c.swap.ensures.y_after)) c.self.invariant.forms;
@@ -25,5 +25,5 @@ returns-clause-ok c =
     let l = c.self.inside in
     let next = ap (λ (v : LedgerView). v.next) c.self.view_is ∙ c.requires.settings in
     let some : is_some (settings_of_body c.args.body.now) ≡ true = ap is_some (sym next) ∙ search rules in
-    (begun_sound (mine_of l.own l.kept.items l.snapped) l.changes l.settings l.accounts.items l.issued l.used c.args.body.now c.take.result c.swap.new.x.items c.if-self-ne0.false c.self.invariant.sound (c.take.ensures.value ∙ next) some (ap (λ v. map named_row v.items) c.swap.ensures.x_after ∙ ap (λ (v : LedgerView). map named_row v.next_accounts) c.self.view_is ∙ c.requires.accounts) (omega (arith, ap capacity (c.take.ensures.value ∙ next), text_capacity c.args.body.now))).0
+    (begun_sound (mine_of l.own l.kept.items l.snapped l.chosen.items) l.changes l.settings l.accounts.items l.issued l.used c.args.body.now c.take.result c.swap.new.x.items c.if-self-ne0.false c.self.invariant.sound (c.take.ensures.value ∙ next) some (ap (λ v. map named_row v.items) c.swap.ensures.x_after ∙ ap (λ (v : LedgerView). map named_row v.next_accounts) c.self.view_is ∙ c.requires.accounts) (omega (arith, ap capacity (c.take.ensures.value ∙ next), text_capacity c.args.body.now))).0
     ∙ ap (λ (v : LedgerView). after v.state (Begun c.args.body.now)) c.self.view_is

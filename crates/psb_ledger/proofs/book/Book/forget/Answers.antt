@@ -1,29 +1,30 @@
-use Rattle.std.proofs.Common.{◌≡◌, not, filter, ◌∙◌, sym, ap, rules}
+use Rattle.std.proofs.Common.{◌≡◌, not, map, ◌∙◌, sym, ap, rules}
 use Rattle.std.specs.Prelude.{◌==◌}
 use Rattle.std.specs.List.{list_all}
 use Rattle.std.proofs.lemmas.Fn.{filter_same}
-use Rattle.psb_model.specs.declared.entries.OwnEntry.{OwnEntry}
 use Rattle.psb_model.specs.declared.entries.Snapshot.{Snapshot}
 use Rattle.psb_model.specs.Conditions.{names_ascend}
-use Rattle.psb_model.specs.Effects.{kept_lists, kept_without}
+use Rattle.psb_model.specs.Effects.{given_up, set_marks, kept_without}
+use Rattle.psb_ledger.specs.View.{named_row}
+use Rattle.psb_ledger.specs.OwnList.{marks}
 use Rattle.psb_ledger.specs.OwnTree.{own_items}
 use Rattle.psb_ledger.proofs.Keeping.{less_ordered, forgot_one}
 use Rattle.psb_ledger.proofs.book.Book.forget.Goals as goal
 
-pub retain_listed-requires-clause-names : goal.retain_listed-requires-clause-names
-retain_listed-requires-clause-names c =
+pub mark_unlisted-requires-clause-names : goal.mark_unlisted-requires-clause-names
+mark_unlisted-requires-clause-names c =
     let less : c.retain.new.self.items ≡ kept_without c.args.number c.self.inside.kept.items = filter_same _ (λ (k : Snapshot). not (k.number == c.args.number)) _ (λ x b f' k. search rules) c.self.inside.kept.items c.retain.new.self.items c.retain.ensures.filtered in
     ap (list_all (λ (k : Snapshot). names_ascend k.names)) c.as_slice.ensures.value ∙ less_ordered c.self.inside c.args.number c.retain.new.self.items c.self.invariant.own_part less
 
 pub invariant_of-self : goal.invariant_of-self
 invariant_of-self c =
     let less : c.retain.new.self.items ≡ kept_without c.args.number c.self.inside.kept.items = filter_same _ (λ (k : Snapshot). not (k.number == c.args.number)) _ (λ x b f' k. search rules) c.self.inside.kept.items c.retain.new.self.items c.retain.ensures.filtered in
-    let left = c.retain_listed.ensures ∙ ap (λ ks. filter (λ (e : OwnEntry). kept_lists ks e.name) (own_items c.self.inside.own)) c.as_slice.ensures.value in
-    let made = forgot_one c.self.inside c.args.self.now c.args.number c.retain.new.self.items (own_items c.retain_listed.new.self) c.self.view_is c.self.invariant.sound c.self.invariant.own_part (sym c.may_forget.ensures ∙ c.if-not-may_forget.false) less left in
+    let left = c.mark_unlisted.ensures ∙ (λ i. given_up (map named_row (c.as_slice-2.ensures.value i)) (set_marks (marks (c.as_slice.ensures.value i)) (own_items c.self.inside.own))) in
+    let made = forgot_one c.self.inside c.args.self.now c.args.number c.retain.new.self.items (own_items c.mark_unlisted.new.self) c.self.view_is c.self.invariant.sound c.self.invariant.own_part (sym c.may_forget.ensures ∙ c.if-not-may_forget.false) less left in
     record { sound = made.sound; own_part = made.own_part; forms = c.self.invariant.forms; next_forms = c.self.invariant.next_forms }
 
 pub returns-clause-ok : goal.returns-clause-ok
 returns-clause-ok c =
     let less : c.retain.new.self.items ≡ kept_without c.args.number c.self.inside.kept.items = filter_same _ (λ (k : Snapshot). not (k.number == c.args.number)) _ (λ x b f' k. search rules) c.self.inside.kept.items c.retain.new.self.items c.retain.ensures.filtered in
-    let left = c.retain_listed.ensures ∙ ap (λ ks. filter (λ (e : OwnEntry). kept_lists ks e.name) (own_items c.self.inside.own)) c.as_slice.ensures.value in
-    (forgot_one c.self.inside c.args.self.now c.args.number c.retain.new.self.items (own_items c.retain_listed.new.self) c.self.view_is c.self.invariant.sound c.self.invariant.own_part (sym c.may_forget.ensures ∙ c.if-not-may_forget.false) less left).after_is
+    let left = c.mark_unlisted.ensures ∙ (λ i. given_up (map named_row (c.as_slice-2.ensures.value i)) (set_marks (marks (c.as_slice.ensures.value i)) (own_items c.self.inside.own))) in
+    (forgot_one c.self.inside c.args.self.now c.args.number c.retain.new.self.items (own_items c.mark_unlisted.new.self) c.self.view_is c.self.invariant.sound c.self.invariant.own_part (sym c.may_forget.ensures ∙ c.if-not-may_forget.false) less left).after_is

@@ -22,7 +22,7 @@ returns-clause-when c =
     let x = c.args.x.now in
     let at = c.in_ok-at.ensures ∙ ap (position (λ (v : AccountView). v.id == x.peer)) c.as_slice.ensures.value in
     let same = allowed_there c.self.inside c.args.self.now (let_go_of x c.args.slots.now) x.peer c.in_ok-at.at c.index.result.now c.allows_let_go.result c.self.view_is c.if-self-eq0.false refl at c.index.ensures
-    (λ q. let_go_tests_are (state_of c.self.inside) x c.args.slots.now c.index.result.now.row c.self.invariant.sound.reached q ∙ sym c.allows_let_go.ensures) in
+    (λ q. let_go_tests_are (state_of c.self.inside) x c.args.slots.now c.index.result.now.row q ∙ sym c.allows_let_go.ensures) in
     subst (λ r. IsTrue (allowed c.args.self.now.state (let_go_of x c.args.slots.now)) ↔ IsSome r) (sym c.then_some.ensures) (when_then _ _ _ same)
 
 pub returns-clause-place : goal.returns-clause-place

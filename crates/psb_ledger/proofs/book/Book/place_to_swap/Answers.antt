@@ -1,9 +1,9 @@
 -- The place is that of the peer, and the tests are those of the condition.
-use Rattle.std.proofs.Common.{◌≡◌, Some, refl, sym, ap, ◌∙◌, subst}
+use Rattle.std.proofs.Common.{◌≡◌, not, Some, refl, sym, ap, ◌∙◌, subst}
 use Rattle.std.specs.Prelude.{◌==◌, position, ◌↔◌, IsTrue, IsSome, IfSome}
 use Rattle.std.proofs.lemmas.Bool.{false≢true}
-use Rattle.psb_model.specs.State.{is_held}
-use Rattle.psb_model.specs.Conditions.{allowed}
+use Rattle.psb_model.specs.State.{is_held, tied_in}
+use Rattle.psb_model.specs.Conditions.{allowed, each_slot}
 use Rattle.psb_ledger.specs.View.{AccountView, LedgerView}
 use Rattle.psb_ledger.proofs.Places.{when_then, place_then}
 use Rattle.psb_ledger.proofs.Sound.{state_of}
@@ -23,7 +23,7 @@ returns-clause-when c =
     let x = c.args.x.now in
     let at = c.in_ok-at.ensures ∙ ap (position (λ (v : AccountView). v.id == x.peer)) c.as_slice.ensures.value in
     let same = allowed_there c.self.inside c.args.self.now (swap_of x c.args.slots.now) x.peer c.in_ok-at.at c.index.result.now c.allows_swap.result c.self.view_is c.if-self-eq0.false refl at c.index.ensures
-    (λ q. swap_tests_are (state_of c.self.inside) x c.args.slots.now c.index.result.now.row c.is_held-is_held.result c.self.invariant.sound.reached q (c.is_held-is_held.ensures ∙ ap (λ (v : LedgerView). is_held v.state x.name) (sym c.self.view_is)) ∙ sym c.allows_swap.ensures) in
+    (λ q. swap_tests_are (state_of c.self.inside) x c.args.slots.now c.index.result.now.row c.is_held-is_held.result c.unties_in-is_untied.result q (c.is_held-is_held.ensures ∙ ap (λ (v : LedgerView). is_held v.state x.name) (sym c.self.view_is)) (c.unties_in-is_untied.ensures ∙ ap (λ (v : LedgerView). each_slot (λ o. not (tied_in v.state x.peer o)) c.args.slots.now) (sym c.self.view_is)) ∙ sym c.allows_swap.ensures) in
     subst (λ r. IsTrue (allowed c.args.self.now.state (swap_of x c.args.slots.now)) ↔ IsSome r) (sym c.then_some.ensures) (when_then _ _ _ same)
 
 pub returns-clause-place : goal.returns-clause-place

@@ -37,6 +37,11 @@ take_fresh-requires-clause-absent_slots c =
     let here = can_take c.self.inside c.args.self.now c.args.x c.in-Some.at c.units_of-u.result c.index_mut-account.result.now (at_place c.self.inside c.args.self.now (change_of c.args.x) c.args.x.peer c.in-Some.at c.index_mut-account.result.now c.self.view_is c.self.invariant.sound c.in-Some.ensures.place c.index_mut-account.ensures.value (c.in-Some.ensures.when.1 refl) c.requires.grammar) c.requires.room c.units_of-u.ensures in
     here.free
 
+pub overflow_add-self : goal.overflow_add-self
+overflow_add-self c =
+    let here = can_take c.self.inside c.args.self.now c.args.x c.in-Some.at c.units_of-u.result c.index_mut-account.result.now (at_place c.self.inside c.args.self.now (change_of c.args.x) c.args.x.peer c.in-Some.at c.index_mut-account.result.now c.self.view_is c.self.invariant.sound c.in-Some.ensures.place c.index_mut-account.ensures.value (c.in-Some.ensures.when.1 refl) c.requires.grammar) c.requires.room c.units_of-u.ensures in
+    omega (arith, here.drawn)
+
 pub overflow_add-self-2 : goal.overflow_add-self-2
 overflow_add-self-2 c =
     let here = can_take c.self.inside c.args.self.now c.args.x c.in-Some.at c.units_of-u.result c.index_mut-account.result.now (at_place c.self.inside c.args.self.now (change_of c.args.x) c.args.x.peer c.in-Some.at c.index_mut-account.result.now c.self.view_is c.self.invariant.sound c.in-Some.ensures.place c.index_mut-account.ensures.value (c.in-Some.ensures.when.1 refl) c.requires.grammar) c.requires.room c.units_of-u.ensures in

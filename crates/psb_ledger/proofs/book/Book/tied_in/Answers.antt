@@ -1,10 +1,16 @@
--- No row has a pending deal.
-use Rattle.std.proofs.Common.{◌∙◌, ap, sym}
-use Rattle.psb_model.specs.State.{tied_in}
-use Rattle.psb_ledger.specs.View.{LedgerView}
-use Rattle.psb_ledger.proofs.Sound.{state_of}
-use Rattle.psb_ledger.proofs.Peers.{untied_in}
+-- Some account's pending deal ties it.
+use Rattle.std.proofs.Common.{◌∙◌, ap}
+use Rattle.std.specs.List.{list_any}
+use Rattle.psb_model.specs.State.{ties_in, tied_in}
+use Rattle.psb_ledger.specs.View.{AccountView, LedgerView}
+use Rattle.psb_ledger.proofs.Peers.{tied_names}
 use Rattle.psb_ledger.proofs.book.Book.tied_in.Goals as goal
 
 pub returns : goal.returns
-returns c = sym (untied_in (state_of c.self.inside) c.args.peer c.args.object.now c.self.invariant.sound.reached) ∙ ap (λ (v : LedgerView). tied_in v.state c.args.peer c.args.object.now) c.self.view_is
+returns c =
+    let p = c.args.peer in
+    let o = c.args.object.now in
+    c.ties_in.ensures
+    ∙ ap (list_any (λ (v : AccountView). ties_in v.id v.row.pending p o)) c.as_slice.ensures.value
+    ∙ tied_names c.self.inside.accounts.items p o
+    ∙ ap (λ (v : LedgerView). tied_in v.state p o) c.self.view_is

@@ -1,0 +1,34 @@
+-- The place is that of the peer, and the tests are those of the condition.
+use Rattle.std.proofs.Common.{◌≡◌, [], ◌∷◌, Some, refl, sym, ap, ◌∙◌, subst}
+use Rattle.std.specs.Prelude.{◌==◌, position, ◌↔◌, IsTrue, IsSome, IfSome}
+use Rattle.std.proofs.lemmas.Bool.{false≢true}
+use Rattle.psb_model.specs.State.{Row}
+use Rattle.psb_model.specs.Words.{all_of}
+use Rattle.psb_model.specs.Conditions.{is_pending}
+use Rattle.psb_model.specs.Conditions.{allowed}
+use Rattle.psb_ledger.specs.View.{AccountView, LedgerView}
+use Rattle.psb_ledger.proofs.Places.{when_then, place_then}
+use Rattle.psb_ledger.proofs.Peers.{allowed_there, allowed_nowhere}
+use Rattle.psb_ledger.proofs.Replies.{turning, and_true}
+use Rattle.psb_ledger.proofs.book.Book.place_to_turn.Goals as goal
+
+pub returns-in_err-at-clause-when : goal.returns-in_err-at-clause-when
+returns-in_err-at-clause-when c =
+    let x = c.args.x.now in
+    let at = c.in_err-at.ensures ∙ ap (position (λ (v : AccountView). v.id == x.peer)) c.as_slice.ensures.value in
+    let no = allowed_nowhere c.self.inside c.args.self.now (turning x) x.peer c.self.view_is refl at in
+    rw c.from_residual.ensures ((λ h. sym no ∙ h), (λ h. absurd (false≢true h)))
+
+pub returns-clause-when : goal.returns-clause-when
+returns-clause-when c =
+    let x = c.args.x.now in
+    let at = c.in_ok-at.ensures ∙ ap (position (λ (v : AccountView). v.id == x.peer)) c.as_slice.ensures.value in
+    let same = allowed_there c.self.inside c.args.self.now (turning x) x.peer c.in_ok-at.at c.index.result.now c.is_pending.result c.self.view_is c.if-self-eq0.false refl at c.index.ensures
+    (λ q. ap (λ (y : Row). all_of (is_pending y.pending x.deal ∷ [])) q ∙ and_true (is_pending c.index.result.now.row.pending x.deal) ∙ sym c.is_pending.ensures) in
+    subst (λ r. IsTrue (allowed c.args.self.now.state (turning x)) ↔ IsSome r) (sym c.then_some.ensures) (when_then _ _ _ same)
+
+pub returns-clause-place : goal.returns-clause-place
+returns-clause-place c =
+    let x = c.args.x.now in
+    let at = c.in_ok-at.ensures ∙ ap (position (λ (v : AccountView). v.id == x.peer)) c.as_slice.ensures.value ∙ ap (λ (v : LedgerView). position (λ (y : AccountView). y.id == x.peer) v.accounts) c.self.view_is in
+    subst (λ r. IfSome r (λ i. Some i ≡ position (λ (v : AccountView). v.id == x.peer) c.args.self.now.accounts)) (sym c.then_some.ensures) (place_then c.is_pending.result c.in_ok-at.at (λ i. Some i ≡ position (λ (v : AccountView). v.id == x.peer) c.args.self.now.accounts) at)

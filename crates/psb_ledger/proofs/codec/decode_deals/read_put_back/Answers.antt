@@ -1,0 +1,12 @@
+use Rattle.std.proofs.Common.{◌≡◌, ◌++◌}
+use Rattle.psb_ledger.specs.declared.codec.decode.ChangeError.TheVariants.{BadHead}
+use Rattle.psb_ledger.specs.DealHeads.{proposed_front, HasNoProposed}
+use Rattle.psb_ledger.proofs.Decoded.{if_err}
+use Rattle.psb_ledger.proofs.DealHeads.{no_put_back_number}
+use Rattle.psb_ledger.proofs.codec.decode_deals.read_put_back.Goals as goal
+
+pub returns-in_err-first-clause-bad : goal.returns-in_err-first-clause-bad
+returns-in_err-first-clause-bad c = if_err _ (λ e. e ≡ BadHead → HasNoProposed (proposed_front c.args.x ++ c.args.behind.now)) (λ e is bad.
+    let same = rw is at c.from_residual.ensures.1 in
+    let why : c.in_err-first.field-0.0 ≡ BadHead = cc in
+    no_put_back_number c.args.x c.args.behind.now c.requires.what c.requires.fits c.in_err-first.ensures.bad)

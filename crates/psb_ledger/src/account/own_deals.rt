@@ -1,0 +1,319 @@
+//! What an account keeps of the node's own deals with its peer.
+
+ghost use Rattle.std.specs.Prelude.{◌≡◌, ◌≤◌, ◌++◌, ◌∷◌, ◌-◌, vec_len, vec_capacity, [], true, OnOk, IfSome, None, Some, map, option_to_list};
+ghost use Rattle.std.specs.Option.{option_copied};
+ghost use Rattle.psb_bytes.specs.declared.ids.Object.TheVariants.{Chunk, Slot};
+ghost use Rattle.psb_model.specs.Words.{listed};
+ghost use Rattle.psb_model.specs.Grammar.{what_in_grammar};
+ghost use Rattle.psb_model.specs.State.{out_ties, in_ties, ties_in, ties_out};
+ghost use Rattle.psb_model.specs.Conditions.{is_pending};
+ghost use Rattle.psb_model.specs.Effects.{deal_name, cancel_name, pending_name};
+ghost use Rattle.psb_ledger.specs.OwnDeals.{number_of, barred_after, placed_name, put_back_name, coming_name};
+
+use super::barred::Barred;
+use crate::entries::is_slot_of;
+use psb_bytes::{Digest, Memory, Object, PeerId};
+use psb_model::{Deal, DealWhat};
+use std::alloc::Global;
+use std::marker::Model;
+
+/// The deal that has no reply yet, the number of the last one, the names that the peer turned down
+/// for good, and those of the Cancels that it turned down.
+#[derive(Drop)]
+pub struct OwnDeals {
+    pending: Option<Deal>,
+    mine: u64,
+    barred: Barred,
+    turned_cancels: Vec<Digest>,
+}
+
+impl Model for OwnDeals {
+    ghost use Rattle.std.specs.Prelude.{◌≡◌, ◌-◌, true, vec_len, vec_capacity};
+    ghost use Rattle.psb_ledger.specs.View.{OwnDealsView};
+    ghost use Rattle.psb_ledger.specs.OwnDeals.{pending_listed};
+
+    ghost Value = { OwnDealsView };
+
+    ghost view = { λ o. record { pending = o.pending; mine = o.mine; barred = o.barred.items; turned_cancels = o.turned_cancels.items; barred_room = o.barred.room; cancel_room = vec_capacity o.turned_cancels - vec_len o.turned_cancels } };
+
+    ghost invariant = { λ o. pending_listed o.pending ≡ true };
+}
+
+/// The chunk that the deal names.
+fn name_of(what: &DealWhat) -> Option<Digest>
+    ensures { option_to_list result ≡ deal_name what.now }
+{
+    match what {
+        DealWhat::Fresh { name }
+        | DealWhat::Swap { name, .. }
+        | DealWhat::Cancel { name, .. }
+        | DealWhat::PutBack { name, .. } => Some(*name),
+        _ => None,
+    }
+}
+
+/// The chunk that the deal names, where it is a Cancel.
+fn cancelled(what: &DealWhat) -> Option<Digest>
+    ensures { option_to_list result ≡ cancel_name what.now }
+{
+    match what {
+        DealWhat::Cancel { name, .. } => Some(*name),
+        _ => None,
+    }
+}
+
+/// Whether the object is the chunk of this name, and whether it is this slot.
+fn is_chunk(object: &Object, name: &Digest) -> bool
+    ensures { result ≡ listed (Chunk name.now ∷ []) object.now }
+{
+    match object {
+        Object::Chunk(n) => name == n,
+        Object::Slot(_) => false,
+    }
+}
+
+fn is_slot(object: &Object, slot: u32) -> bool
+    ensures { result ≡ listed (Slot slot ∷ []) object.now }
+{
+    match object {
+        Object::Chunk(_) => false,
+        Object::Slot(n) => slot == *n,
+    }
+}
+
+/// Whether the deal ties the object in what the node has on its peer.
+fn ties_there(what: &DealWhat, object: &Object) -> bool
+    requires { what_in_grammar what.now ≡ true }
+    ensures { result ≡ listed (out_ties what.now) object.now }
+{
+    match what {
+        DealWhat::Fresh { .. } => false,
+        DealWhat::Swap { slots, .. } => is_slot_of(slots.as_slice(), object),
+        DealWhat::Cancel { name, .. } | DealWhat::PutBack { name, .. } => is_chunk(object, name),
+        DealWhat::Forward { slot, .. } | DealWhat::Return { slot } => is_slot(object, *slot),
+    }
+}
+
+/// Whether the deal with `peer` ties the object in what the node answers for to `holder`.
+fn ties_here(peer: PeerId, what: &DealWhat, holder: PeerId, object: &Object) -> bool
+    requires { what_in_grammar what.now ≡ true }
+    ensures { result ≡ listed (in_ties peer what.now holder) object.now }
+{
+    match what {
+        DealWhat::Cancel { slots, .. } => { peer == holder && is_slot_of(slots.as_slice(), object) }
+        DealWhat::Forward { entry, .. } => entry.peer == holder && is_slot(object, entry.slot),
+        _ => false,
+    }
+}
+
+/// Bars a name, if there is one.
+fn bar(barred: &mut Barred, name: Option<Digest>, change: u64)
+    requires { 1 ≤ barred.old.room }
+    ensures { barred.new.items ≡ barred.old.items ++ map (λ n. (n, change)) (option_to_list name) }
+{
+    if let Some(n) = name {
+        barred.push(n, change);
+    }
+}
+
+/// Puts a name behind the others, if there is one.
+fn push_name(names: &mut Vec<Digest>, name: Option<Digest>)
+    requires { 1 ≤ vec_capacity names.old - vec_len names.old }
+    ensures { names.new.items ≡ names.old.items ++ option_to_list name }
+{
+    if let Some(n) = name {
+        names.push(n).unwrap();
+    }
+}
+
+impl OwnDeals {
+    /// Takes no memory.
+    pub fn new(alloc: Global) -> OwnDeals
+        ensures pending { result.pending ≡ None }
+        ensures mine { result.mine ≡ 0 }
+        ensures barred { result.barred ≡ [] }
+        ensures cancels { result.turned_cancels ≡ [] }
+    {
+        OwnDeals {
+            pending: None,
+            mine: 0,
+            barred: Barred::new(alloc),
+            turned_cancels: Vec::new(alloc),
+        }
+    }
+
+    pub fn pending(&self) -> Option<&Deal>
+        ensures { option_copied result ≡ self.now.pending }
+    {
+        let _mine = self.mine;
+        self.pending.as_ref()
+    }
+
+    pub fn mine(&self) -> u64
+        ensures { result ≡ self.now.mine }
+    {
+        self.mine
+    }
+
+    /// Whether the pending deal has this number.
+    pub fn is_pending(&self, deal: u64) -> bool
+        ensures { result ≡ is_pending self.now.pending deal }
+    {
+        let _mine = self.mine;
+        match &self.pending {
+            None => false,
+            Some(d) => d.number == deal,
+        }
+    }
+
+    /// The number of the first change by which the peer turned the name down for good.
+    pub fn barred(&self, name: &Digest) -> Option<u64>
+        ensures { result ≡ number_of self.now.barred name.now }
+    {
+        let _mine = self.mine;
+        self.barred.number_of(name)
+    }
+
+    /// The chunk that the pending deal names.
+    pub fn named(&self) -> Option<Digest>
+        ensures { option_to_list result ≡ pending_name deal_name self.now.pending }
+    {
+        let _mine = self.mine;
+        match &self.pending {
+            None => None,
+            Some(d) => name_of(&d.what),
+        }
+    }
+
+    /// The chunk that a pending Fresh or Swap places.
+    pub fn placed(&self) -> Option<Digest>
+        ensures { result ≡ placed_name self.now.pending }
+    {
+        let _mine = self.mine;
+        match &self.pending {
+            None => None,
+            Some(d) => match &d.what {
+                DealWhat::Fresh { name } | DealWhat::Swap { name, .. } => Some(*name),
+                _ => None,
+            },
+        }
+    }
+
+    /// The chunk of a pending PutBack.
+    pub fn put_back(&self) -> Option<Digest>
+        ensures { result ≡ put_back_name self.now.pending }
+    {
+        let _mine = self.mine;
+        match &self.pending {
+            None => None,
+            Some(d) => match &d.what {
+                DealWhat::PutBack { name, .. } => Some(*name),
+                _ => None,
+            },
+        }
+    }
+
+    /// The chunk of a pending Fresh.
+    pub fn coming(&self) -> Option<Digest>
+        ensures { result ≡ coming_name self.now.pending }
+    {
+        let _mine = self.mine;
+        match &self.pending {
+            None => None,
+            Some(d) => match &d.what {
+                DealWhat::Fresh { name } => Some(*name),
+                _ => None,
+            },
+        }
+    }
+
+    /// Whether the pending deal ties the object in what the node has on the peer.
+    pub fn ties_out(&self, object: &Object) -> bool
+        ensures { result ≡ ties_out self.now.pending object.now }
+    {
+        let _mine = self.mine;
+        match &self.pending {
+            None => false,
+            Some(d) => ties_there(&d.what, object),
+        }
+    }
+
+    /// Whether the pending deal with `peer` ties the object in what the node answers for to `holder`.
+    pub fn ties_in(&self, peer: PeerId, holder: PeerId, object: &Object) -> bool
+        ensures { result ≡ ties_in peer self.now.pending holder object.now }
+    {
+        let _mine = self.mine;
+        match &self.pending {
+            None => false,
+            Some(d) => ties_here(peer, &d.what, holder, object),
+        }
+    }
+
+    /// Makes room for a reply that turns a deal down.
+    pub fn reserve(&mut self) -> Result<(), Memory>
+        ensures pending { self.new.pending ≡ self.old.pending }
+        ensures mine { self.new.mine ≡ self.old.mine }
+        ensures barred { self.new.barred ≡ self.old.barred }
+        ensures cancels { self.new.turned_cancels ≡ self.old.turned_cancels }
+        ensures barred_room { OnOk result (1 ≤ self.new.barred_room) }
+        ensures cancel_room { OnOk result (1 ≤ self.new.cancel_room) }
+    {
+        self.barred.reserve()?;
+        self.turned_cancels.try_reserve(1)?;
+        Ok(())
+    }
+
+    pub fn propose(&mut self, deal: Deal)
+        requires { what_in_grammar deal.what ≡ true }
+        ensures pending { self.new.pending ≡ Some deal }
+        ensures mine { self.new.mine ≡ deal.number }
+        ensures barred { self.new.barred ≡ self.old.barred }
+        ensures cancels { self.new.turned_cancels ≡ self.old.turned_cancels }
+    {
+        self.mine = deal.number;
+        self.pending = Some(deal);
+    }
+
+    /// The pending deal has its reply.
+    pub fn take(&mut self) -> Option<Deal>
+        ensures result { result ≡ self.old.pending }
+        ensures listed { IfSome result (λ d. what_in_grammar d.what ≡ true) }
+        ensures pending { self.new.pending ≡ None }
+        ensures mine { self.new.mine ≡ self.old.mine }
+        ensures barred { self.new.barred ≡ self.old.barred }
+        ensures cancels { self.new.turned_cancels ≡ self.old.turned_cancels }
+    {
+        let _mine = self.mine;
+        self.pending.take()
+    }
+
+    /// The pending deal was turned down for this reason, by the change of this number: for a bad
+    /// name, a chunk that is already there and a clash for good.
+    pub fn turn(&mut self, why: u8, change: u64)
+        requires barred_room { 1 ≤ self.old.barred_room }
+        requires cancel_room { 1 ≤ self.old.cancel_room }
+        ensures pending { self.new.pending ≡ None }
+        ensures mine { self.new.mine ≡ self.old.mine }
+        ensures barred { self.new.barred ≡ barred_after self.old.pending why change self.old.barred }
+        ensures cancels { self.new.turned_cancels ≡ self.old.turned_cancels ++ pending_name cancel_name self.old.pending }
+    {
+        let named = self.named();
+        let cancelled = self.cancelled();
+        if 2 <= why && why <= 4 {
+            bar(&mut self.barred, named, change);
+        }
+        push_name(&mut self.turned_cancels, cancelled);
+        self.pending = None;
+    }
+
+    /// The chunk that a pending Cancel names.
+    pub fn cancelled(&self) -> Option<Digest>
+        ensures { option_to_list result ≡ pending_name cancel_name self.now.pending }
+    {
+        let _mine = self.mine;
+        match &self.pending {
+            None => None,
+            Some(d) => cancelled(&d.what),
+        }
+    }
+}
