@@ -78,7 +78,7 @@ def made_tree():
 LINKS = {"notes/to a file": "../zeros", "to a folder": "notes", "to nothing": "nowhere"}
 
 
-def put(root, tree):
+def put(root, tree, links):
     """Makes the tree below a new folder, with the links."""
     os.mkdir(root)
     for path, text in tree.items():
@@ -86,7 +86,7 @@ def put(root, tree):
             os.mkdir(os.path.join(root, path))
         else:
             write(os.path.join(root, path), text)
-    for path, target in LINKS.items():
+    for path, target in links.items():
         os.symlink(target, os.path.join(root, path))
 
 
@@ -249,7 +249,7 @@ def new_folder(folder, name):
 def alone(folder, deadline, tree, first, second):
     """Node 1 backs the tree up and restores it by number, and asks nobody; answers the ticket."""
     home = os.path.join(folder, "home")
-    put(home, tree)
+    put(home, tree, LINKS)
     process = start(first.program, first.disk, "backup", home)
     try:
         line, _ = process.communicate(timeout=left(deadline))

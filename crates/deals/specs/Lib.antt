@@ -1,3 +1,4 @@
 pub mod Views
 pub mod Naming
 pub mod Sought
+pub mod Placing

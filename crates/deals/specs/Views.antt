@@ -6,6 +6,8 @@ use Rattle.psb_machine.specs.Settling.{Reply, Accepts, Refuses}
 use Rattle.deals.specs.declared.reply.AnswerView.{AnswerView}
 use Rattle.deals.specs.declared.reply.AnswerView.TheVariants as answer
 use Rattle.deals.specs.declared.facts.Facts.{Facts as FactsHere}
+use Rattle.psb_model.specs.Proposing.{ProposeFacts}
+use Rattle.deals.specs.declared.proposing.ProposeFacts.{ProposeFacts as ProposeFactsHere}
 
 -- the deal, without where it lies in memory
 abbrev pub deal_in : DealView → Deal
@@ -18,6 +20,10 @@ deal_in (view.PutBack name claims) = PutBack name claims
 abbrev pub answer_in : AnswerView → Reply
 answer_in (answer.Accepts claims) = Accepts claims
 answer_in (answer.Refuses why detail) = Refuses why detail
+
+-- what was looked up before a proposal
+abbrev pub propose_facts_in : ProposeFactsHere → ProposeFacts
+propose_facts_in f = record { issued = f.issued; capacity = f.capacity; forward = f.forward }
 
 -- what was looked up
 abbrev pub facts_in : FactsHere → Facts

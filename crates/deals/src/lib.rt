@@ -1,10 +1,11 @@
-//! Deals with a peer: how one stands by its number, the change that a fresh one makes, and the change that
-//! a reply to one of the node's own makes.
+//! Deals with a peer: how one stands by its number, the change that a fresh one makes, the change that a
+//! reply to one of the node's own makes, and the own deal that is proposed next.
 #![tactic(auto)]
 
 mod deal;
 mod facts;
 mod judging;
+mod proposing;
 mod reasons;
 mod reply;
 mod settling;
@@ -15,6 +16,7 @@ mod taking;
 pub use deal::DealView;
 pub use facts::Facts;
 pub use judging::judge;
+pub use proposing::{ProposeFacts, look_ahead, propose};
 pub use psb_machine::{Reason, Refusal, Standing};
 pub use reasons::refusal;
 pub use reply::{AnswerView, ReplyView};

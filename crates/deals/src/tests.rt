@@ -5,6 +5,7 @@ ghost use Rattle.psb_model.specs.Grammar.{in_grammar};
 ghost use Rattle.psb_machine.specs.Judging.{IsShort};
 ghost use Rattle.deals.specs.Views.{deal_in};
 
+mod proposals;
 mod replies;
 
 use super::*;

@@ -1,7 +1,7 @@
 -- A change is made as the machine makes it.
 use Rattle.std.proofs.Common.{◌≡◌, ◌⊎◌, inl, inr, ⊎_elim, ℕ, ◌≤◌, ◌<◌, Bool, true, List, [], ◌∷◌, ◌++◌, length, option_to_list, Option, Some, None, refl, sym, ◌∙◌, ap, subst, arith}
 use Rattle.std.specs.Option.{unwrap_or}
-use Rattle.std.proofs.lemmas.Bool.{and_parts, eqb-true}
+use Rattle.std.proofs.lemmas.Bool.{and_parts, eqb-true, false≢true}
 use Rattle.std.proofs.lemmas.List.{append-nil}
 use Rattle.psb_station.specs.View.{View}
 use Rattle.psb_station.specs.Span.{Leaves, Shows, Keeps, Tells_bytes}
@@ -18,7 +18,18 @@ use Rattle.psb_model.specs.declared.change.Change.TheVariants.{Begun}
 use Rattle.psb_model.proofs.Steps.{parts}
 use Rattle.psb_model.proofs.Built.{allows}
 use Rattle.psb_model.proofs.Prefixes.{state_snoc, changes_counted}
-use Rattle.psb_machine.specs.Machine.{Situation, Reaction as MachineReaction, settled}
+use Rattle.claims.specs.Source.{Source}
+use Rattle.psb_model.specs.State.{own_has}
+use Rattle.psb_model.proofs.ByObject.{by_cases}
+use Rattle.psb_machine.specs.Machine.{Situation, Volatile, Input, Datagram, Tick, Keep, Snap, Forget, Reaction as MachineReaction, by_changes, react, settled, next}
+use Rattle.psb_machine.proofs.Unticked.{passed, clocks_pass, forget_rests}
+use Rattle.node_core.specs.declared.clocks.Clock.{Clock}
+use Rattle.node_core.specs.Peers.{PeersView}
+use Rattle.node_core.specs.Names.{KnowsNames}
+use Rattle.node_core.specs.Clocks.{KnowsClocks, clocks_after, clocks_changed}
+use Rattle.node_core.specs.Letters.{is_own}
+use Rattle.node_core.specs.Refusing.{when_taken}
+use Rattle.node_core.proofs.ClockTables.{clocks_grown, clocks_ticked}
 use Rattle.node_core.specs.declared.node.Node.{Node}
 use Rattle.chunk_store.specs.declared.store.Store.{Store}
 use Rattle.chunk_store.specs.Store.{record_of, is_owner}
@@ -26,7 +37,7 @@ use Rattle.node_core.specs.Names.{SameNames, Enters}
 use Rattle.node_core.specs.Less.{IsLess}
 use Rattle.node_core.specs.Making.{MayMake}
 use Rattle.node_core.specs.declared.reaction.Reaction.{Reaction}
-use Rattle.node_core.specs.Reacting.{IsStep, Reacts, SameOwner, IsSame}
+use Rattle.node_core.specs.Reacting.{IsStep, Reacts, SameOwner, IsSame, IsTicked, steady}
 use Rattle.node_core.specs.Stands.{HoldsHistory, ReopensTo}
 use Rattle.node_core.specs.Stored.{Knows, KnowsSettings, Stored, IsCounted}
 use Rattle.node_core.proofs.Entered.{names_grown, names_same}
@@ -51,10 +62,22 @@ settings_stay s _ may some = refl
 
 -- ---- what a node knows after it
 
--- a node that made a change is where the machine is
+-- its clocks are as the change leaves them
+clocks_stepped : {L : Type 0} (old new : Node L) (n : Situation) (m : MachineReaction) (c : Change) → Knows old n → m.grown ≡ Some c → new.peers ≡ old.peers → new.clocks.items ≡ clocks_changed old.peers.own.id c old.clocks.items
+    → KnowsClocks new.clocks.items new.peers.keys (settled n (steady n m)).volatile
+clocks_stepped old new n m c k grown peers clocks =
+    let s = state n.history in
+    let own : old.peers.own.id ≡ k.settings.settings.id = ap (λ (v : PeersView). v.own.id) k.settings.peers in
+    let known = clocks_grown old.clocks.items old.peers.keys s k.settings.settings c n.volatile k.settings.present k.clocks in
+    let made = subst (λ (o : Option Change). KnowsClocks (clocks_changed k.settings.settings.id c old.clocks.items) old.peers.keys (by_changes s o n.volatile)) (sym grown) known in
+    let keyed = subst (λ (v : PeersView). KnowsClocks (clocks_changed k.settings.settings.id c old.clocks.items) v.keys (by_changes s m.grown n.volatile)) (sym peers) made in
+    subst (λ (l : List Clock). KnowsClocks l new.peers.keys (by_changes s m.grown n.volatile)) (sym (clocks ∙ ap (λ (i : ℕ). clocks_changed i c old.clocks.items) own)) keyed
+
+-- a node that made a change is where the machine is, but for a tick
 pub step_knows : {L : Type 0} (old new : Node L) (n : Situation) (m : MachineReaction) (c : Change) (mid : Store) (size : ℕ) → MayMake old.ledger.state c → Knows old n → IsStep n m c
-    → new.ledger.state ≡ after old.ledger.state c → SameNames old.names mid → Enters old.ledger.state mid new.names c size → old.ledger.state.changes ≡ size → SameOwner old new → new.ledger.state.issued ≤ new.claims.issued → Knows new (settled n m)
-step_knows old new n m c mid size may k step grown same enters counted rest issued =
+    → new.ledger.state ≡ after old.ledger.state c → SameNames old.names mid → Enters old.ledger.state mid new.names c size → old.ledger.state.changes ≡ size → SameOwner old new → new.ledger.state.issued ≤ new.claims.issued
+    → new.clocks.items ≡ clocks_changed old.peers.own.id c old.clocks.items → Knows new (settled n (steady n m))
+step_knows old new n m c mid size may k step grown same enters counted rest issued clocks =
     let h = n.history in
     let here : old.ledger.state.changes ≡ length h = ap (λ (s : State). s.changes) k.ledger ∙ changes_counted h in
     let after_is : after (state h) c ≡ state (h ++ c ∷ []) = sym (state_snoc h c) in
@@ -65,18 +88,19 @@ step_knows old new n m c mid size may k step grown same enters counted rest issu
       peers = rest.peers ∙ k.settings.peers;
       seed = rest.seed ∙ k.settings.seed;
     } in
-    let knows : Knows new (record { history = h ++ c ∷ []; volatile = (settled n m).volatile }) = record {
+    let knows : Knows new (record { history = h ++ c ∷ []; volatile = (settled n (steady n m)).volatile }) = record {
       valid = with_it n m c step;
       ledger = grown ∙ ap (λ (s : State). after s c) k.ledger ∙ after_is;
       settings = subst (λ (s : State). KnowsSettings new s) after_is settings;
       names = names_grown mid new.names h c k.valid.lawful k.valid.built may.read allowed_here (names_same old.names mid h same k.names) (subst (λ (s : State). Enters s mid new.names c (length h)) k.ledger (subst (λ (j : ℕ). Enters old.ledger.state mid new.names c j) (sym counted ∙ here) enters));
       issued = omega (arith, issued, ap (λ (s : State). s.issued) grown, ap (λ (s : State). (after s c).issued) k.ledger, ap (λ (s : State). s.issued) after_is);
+      clocks = clocks_stepped old new n m c k step.grown rest.peers clocks;
     } in
-    subst (λ (o : Situation). Knows new o) (sym (λ j. record { history = grown_to n m c step.grown j; volatile = (settled n m).volatile })) knows
+    subst (λ (o : Situation). Knows new o) (sym (λ j. record { history = grown_to n m c step.grown j; volatile = (settled n (steady n m)).volatile })) knows
 
--- a node whose ledger, settings and names stay knows what it knew
-pub knows_still : {L : Type 0} (old new : Node L) (n : Situation) → new.ledger.state ≡ old.ledger.state → SameNames old.names new.names → SameOwner old new → Knows old n → Knows new n
-knows_still old new n same names rest k = record {
+-- a node whose ledger, settings, names and clocks stay knows what it knew
+pub knows_still : {L : Type 0} (old new : Node L) (n : Situation) → new.ledger.state ≡ old.ledger.state → SameNames old.names new.names → SameOwner old new → new.clocks ≡ old.clocks → Knows old n → Knows new n
+knows_still old new n same names rest clocks k = record {
   valid = k.valid;
   ledger = same ∙ k.ledger;
   settings = record {
@@ -87,21 +111,77 @@ knows_still old new n same names rest k = record {
   };
   names = names_same old.names new.names n.history names k.names;
   issued = omega (arith, k.issued, rest.issued);
+  clocks = subst (λ (v : PeersView). KnowsClocks new.clocks.items v.keys n.volatile) (sym rest.peers) (subst (λ l. KnowsClocks l.items old.peers.keys n.volatile) (sym clocks) k.clocks);
 }
 
 -- a node that only looked, and made claims, knows what it knew
 pub same_knows : {L : Type 0} (old new : Node L) (n : Situation) → IsSame old new → Knows old n → Knows new n
-same_knows old new n same k = knows_still old new n (ap (λ ledger. ledger.state) same.ledger) (all_same old.names new.names same.names) same.rest k
+same_knows old new n same k = knows_still old new n (ap (λ ledger. ledger.state) same.ledger) (all_same old.names new.names same.names) same.rest same.clocks k
   where
     all_same : (a b : Store) → b ≡ a → SameNames a b
     all_same a b is = record { owners = λ o q. ap (λ (s : Store). is_owner s o q) is; records = λ q. ap (λ (s : Store). record_of s q) is }
 
--- where no change is made the history stays
-pub rests_here : {L : Type 0} (node : Node L) (n : Situation) (m : MachineReaction) → m.grown ≡ None → Knows node n → Knows node (settled n m)
+-- where no change is made the node stays where it is, but for a tick
+pub rests_here : {L : Type 0} (node : Node L) (n : Situation) (m : MachineReaction) → m.grown ≡ None → Knows node n → Knows node (settled n (steady n m))
 rests_here node n m none k =
     let same : n.history ++ option_to_list m.grown ≡ n.history = ap (λ (o : Option Change). n.history ++ option_to_list o) none ∙ append-nil n.history in
-    let here : Knows node (record { history = n.history; volatile = (settled n m).volatile }) = record { valid = k.valid; ledger = k.ledger; settings = k.settings; names = k.names; issued = k.issued } in
-    subst (λ (h : List Change). Knows node (record { history = h; volatile = (settled n m).volatile })) (sym same) here
+    let rests : by_changes (state n.history) m.grown n.volatile ≡ n.volatile = ap (λ (o : Option Change). by_changes (state n.history) o n.volatile) none in
+    subst (λ (o : Situation). Knows node o) (sym (λ j. record { history = same j; volatile = rests j })) k
+
+-- a tick that passes moves its clocks alone
+pub passes_knows : {L : Type 0} (old new : Node L) (n : Situation) (i : Input) → IsTicked i old new → Knows old n → Knows new (record n { volatile = passed i n.volatile })
+passes_knows old new n i t k = record {
+  valid = k.valid;
+  ledger = ap (λ ledger. ledger.state) t.ledger ∙ k.ledger;
+  settings = record {
+    settings = k.settings.settings;
+    present = k.settings.present;
+    peers = t.peers ∙ k.settings.peers;
+    seed = ap (λ (c : Source). c.seed) t.claims ∙ k.settings.seed;
+  };
+  names = subst (λ (s : Store). KnowsNames s n.history) (sym t.names) k.names;
+  issued = omega (arith, k.issued, ap (λ (c : Source). c.issued) t.claims);
+  clocks =
+      subst (λ (v : PeersView). KnowsClocks new.clocks.items v.keys (passed i n.volatile)) (sym t.peers)
+      (subst (λ (l : List Clock). KnowsClocks l old.peers.keys (passed i n.volatile)) (sym t.clocks) (clocks_passed i old.clocks.items old.peers.keys n.volatile k.clocks));
+}
+  where
+    clocks_passed : (i : Input) (l : List Clock) (keys : List (ℕ × List ℕ)) (v : Volatile) → KnowsClocks l keys v → KnowsClocks (clocks_after i l) keys (passed i v)
+    clocks_passed (Datagram x) l keys v k = k
+    clocks_passed (Tick p) l keys v k = clocks_ticked l keys v p k
+    clocks_passed (Keep name bytes) l keys v k = k
+    clocks_passed (Snap note) l keys v k = k
+    clocks_passed (Forget number) l keys v k = k
+
+-- to where the machine is
+pub ticked_knows : {L : Type 0} (old new : Node L) (n : Situation) (i : Input) → IsTicked i old new → Knows old (settled n (steady n (react n i))) → Knows new (next n i)
+ticked_knows old new n i t k =
+    subst (λ (v : Volatile). Knows new (record { history = (next n i).history; volatile = v })) (sym (clocks_pass n i)) (passes_knows old new (settled n (steady n (react n i))) i t k)
+
+-- its log is the same, and so is what it has
+pub ticked_counted : {L : Type 0} (size : L → ℕ) (keeps : L → ℕ → Bool) (old new : Node L) (i : Input) → IsTicked i old new → IsCounted size keeps old → IsCounted size keeps new
+ticked_counted size keeps old new i t c = record {
+  changes = ap (λ ledger. ledger.state.changes) t.ledger ∙ c.changes ∙ ap size (sym t.log);
+  bodies = λ q k here. subst (λ l. (k < size l) × (keeps l k ≡ true)) (sym t.log) (c.bodies q k (sym (ap (λ (s : Store). record_of s q) t.names) ∙ here));
+}
+
+pub ticked_stored : {L : Type 0} (holds : L → List Entry → List ℕ → Type 0) (old new : Node L) (i : Input) (h : List Change) (v : View) → IsTicked i old new → Stored holds old h v → Stored holds new h v
+ticked_stored holds old new i h v t s = record {
+  less = s.less;
+  is_less = s.is_less;
+  valid = s.valid;
+  records = s.records;
+  decoded = s.decoded;
+  shows = subst (λ l. Shows (holds l s.records) v) (sym t.log) s.shows;
+}
+
+-- what is taken of the node's own is no tick
+pub taken_steady : (n : Situation) (i : Input) → is_own i ≡ true → settled n (steady n (when_taken n i)) ≡ settled n (when_taken n i)
+taken_steady n (Datagram x) own = absurd (false≢true own)
+taken_steady n (Tick p) own = absurd (false≢true own)
+taken_steady n (Keep name bytes) own = by_cases (own_has (state n.history).own name) (λ k. rw k refl) (λ k. rw k refl)
+taken_steady n (Snap note) own = refl
+taken_steady n (Forget number) own = ap (λ (v : Volatile). settled n (record (react n (Forget number)) { volatile = v })) (sym (forget_rests n number))
 
 -- and its log has what it had
 pub same_counted : {L : Type 0} (size : L → ℕ) (keeps : L → ℕ → Bool) (old new : Node L) → IsSame old new → IsCounted size keeps old → IsCounted size keeps new
@@ -205,7 +285,7 @@ abbrev some_reaction : Situation → Change → MachineReaction
 some_reaction n c = record { grown = Some c; letters = []; volatile = n.volatile; dropped = None }
 
 -- after it, it is known where the node is
-pub some_step : {L : Type 0} (new : Node L) (n : Situation) (c : Change) → IsValid (n.history ++ c ∷ []) → ((m : MachineReaction) → IsStep n m c → Knows new (settled n m)) → (o : Situation) × Knows new o
+pub some_step : {L : Type 0} (new : Node L) (n : Situation) (c : Change) → IsValid (n.history ++ c ∷ []) → ((m : MachineReaction) → IsStep n m c → Knows new (settled n (steady n m))) → (o : Situation) × Knows new o
 some_step new n c valid step = (settled n (some_reaction n c), step (some_reaction n c) (is_step n (some_reaction n c) c refl valid))
 
 -- the moments of looking at the disk, and then of making the change that was found

@@ -88,37 +88,43 @@ chunk_held s p name h = or_later (own_has s.own name) (list_any (λ (x : ℕ × 
 
 -- ---- the bytes of a name are those of a chunk
 
-fits_short : (len : ℕ) (new : Bool) (body : Option (List ℕ)) (b : List ℕ) → chunk_fits len new body ≡ true → new ≡ true → body ≡ Some b → length b ≤ longest_chunk
-fits_short len false body b g is there = absurd (false≢true is)
-fits_short len true None b g is there = absurd (cc)
-fits_short len true (Some bytes) b g is there =
+-- bytes as a chunk has them: some, and no more than the longest has
+pub record IsChunk (bytes : List ℕ) : Type 0 where
+  pub some : 1 ≤ length bytes
+  pub short : length bytes ≤ longest_chunk
+
+fits_chunk : (len : ℕ) (new : Bool) (body : Option (List ℕ)) (b : List ℕ) → chunk_fits len new body ≡ true → new ≡ true → body ≡ Some b → IsChunk b
+fits_chunk len false body b g is there = absurd (false≢true is)
+fits_chunk len true None b g is there = absurd (cc)
+fits_chunk len true (Some bytes) b g is there =
     let parts = and_parts (is_chunk_len len) (length bytes == len) g in
     let len_fits = and_parts (nat_le 1 len) (nat_le len longest_chunk) parts.0 in
-    omega (arith, leb-true len 32768 len_fits.1, eqb-true (length bytes) len parts.1, ap (λ (l : List ℕ). length l) (same_some (Some bytes) bytes b refl there))
+    let long : length b ≡ len = ap (λ (l : List ℕ). length l) (sym (same_some (Some bytes) bytes b refl there)) ∙ eqb-true (length bytes) len parts.1 in
+    record { some = omega (arith, leb-true 1 len len_fits.0, long); short = omega (arith, leb-true len 32768 len_fits.1, long) }
 
 new_of : (name : List ℕ) (new : Bool) (P : List ℕ → Bool) → elim (cond new (Some name) None) [ None ↦ false | Some n ↦ P n ] ≡ true → new ≡ true
 new_of name true P h = refl
 new_of name false P h = absurd (false≢true h)
 
-change_short : (name : List ℕ) (c : Change) (b : List ℕ) → in_grammar c ≡ true → brings_name name c ≡ true → body_of c ≡ Some b → length b ≤ longest_chunk
-change_short name (Kept n len new body) b g is there = fits_short len new body b g (new_of n new _ is) there
-change_short name (TookFresh p deal n first len new body) b g is there = fits_short len new body b g (new_of n new _ is) there
-change_short name (TookSwap p deal n numbers len new body) b g is there = fits_short len new body b (and_parts (chunk_fits len new body) (numbers_listed numbers) g).0 (new_of n new _ is) there
-change_short name _ b g is there = absurd (false≢true is)
+change_chunk : (name : List ℕ) (c : Change) (b : List ℕ) → in_grammar c ≡ true → brings_name name c ≡ true → body_of c ≡ Some b → IsChunk b
+change_chunk name (Kept n len new body) b g is there = fits_chunk len new body b g (new_of n new _ is) there
+change_chunk name (TookFresh p deal n first len new body) b g is there = fits_chunk len new body b g (new_of n new _ is) there
+change_chunk name (TookSwap p deal n numbers len new body) b g is there = fits_chunk len new body b (and_parts (chunk_fits len new body) (numbers_listed numbers) g).0 (new_of n new _ is) there
+change_chunk name _ b g is there = absurd (false≢true is)
 
-brought_short_from : (s : State) (h : List Change) (name b : List ℕ) → lawful_from s h ≡ true → last_brought name h ≡ Some b → length b ≤ longest_chunk
-brought_short_from s [] name b lawful there = absurd (cc)
-brought_short_from s (c ∷ cs) name b lawful there =
+brought_from : (s : State) (h : List Change) (name b : List ℕ) → lawful_from s h ≡ true → last_brought name h ≡ Some b → IsChunk b
+brought_from s [] name b lawful there = absurd (cc)
+brought_from s (c ∷ cs) name b lawful there =
     let parts = and_parts (in_grammar c && allowed s c) (lawful_from (after s c) cs) lawful in
-    at (last_bringing name cs) (brings_name name c) refl refl (λ found. brought_short_from (after s c) cs name b parts.1 found) (and_parts (in_grammar c) (allowed s c) parts.0).0 there
+    at (last_bringing name cs) (brings_name name c) refl refl (λ found. brought_from (after s c) cs name b parts.1 found) (and_parts (in_grammar c) (allowed s c) parts.0).0 there
   where
-    at : (o : Option Change) (t : Bool) → last_bringing name cs ≡ o → brings_name name c ≡ t → (last_brought name cs ≡ Some b → length b ≤ longest_chunk) → in_grammar c ≡ true → bytes_of (or_this o t c) ≡ Some b → length b ≤ longest_chunk
+    at : (o : Option Change) (t : Bool) → last_bringing name cs ≡ o → brings_name name c ≡ t → (last_brought name cs ≡ Some b → IsChunk b) → in_grammar c ≡ true → bytes_of (or_this o t c) ≡ Some b → IsChunk b
     at (Some d) t later is rest grammar found = rest (ap bytes_of later ∙ found)
-    at None true later is rest grammar found = change_short name c b grammar is found
+    at None true later is rest grammar found = change_chunk name c b grammar is found
     at None false later is rest grammar found = absurd (cc)
 
-pub brought_short : (h : List Change) (name b : List ℕ) → IsValid h → last_brought name h ≡ Some b → length b ≤ longest_chunk
-brought_short h name b v there = brought_short_from _ h name b v.lawful there
+pub brought_chunk : (h : List Change) (name b : List ℕ) → IsValid h → last_brought name h ≡ Some b → IsChunk b
+brought_chunk h name b v there = brought_from _ h name b v.lawful there
 
 -- ---- the letters
 
@@ -126,8 +132,8 @@ brought_short h name b v there = brought_short_from _ h name b v.lawful there
 pub digest_fits : (name : List ℕ) → length name ≡ 32 → ((k : ℕ) → get_or name k 0 < 256) → is_digest name ≡ true
 digest_fits name long each = rw (eq-eqb (length name) 32 long) (all_bytes name each)
 
-pub text_fits : (bytes : List ℕ) → length bytes ≤ longest_chunk → are_bytes bytes ≡ true → is_text 0 bytes ≡ true
-text_fits bytes short all = rw (le-leb 0 (length bytes) (omega arith), le-leb (length bytes) 32768 short) all
+pub text_fits : (least : ℕ) (bytes : List ℕ) → least ≤ length bytes → length bytes ≤ longest_chunk → are_bytes bytes ≡ true → is_text least bytes ≡ true
+text_fits least bytes some short all = rw (le-leb least (length bytes) some, le-leb (length bytes) 32768 short) all
 
 -- to each peer of the settings
 pub gets_are : {L : Type 0} (node : Node L) (n : Situation) (settings : Settings) (name : List ℕ) → Knows node n → (state n.history).settings ≡ Some settings → map (get_by node.peers.own.id name) node.peers.rows ≡ gets settings name
@@ -144,6 +150,6 @@ pub given_bytes : {L : Type 0} (node : Node L) (n : Situation) (r : Request) (by
     → (length bytes ≤ longest_chunk → letters ≡ (r.peer, datagram r.key node.peers.own.id r.peer r.number (Here r.name bytes)) ∷ []) → IsGiven n r letters
 given_bytes node n r bytes letters k brought tells = λ has_it settings present.
     let same : k.settings.settings ≡ settings = same_some (state n.history).settings k.settings.settings settings k.settings.present present in
-    tells (brought_short n.history r.name bytes k.valid brought)
+    tells (brought_chunk n.history r.name bytes k.valid brought).short
     ∙ ap (λ (own : ℕ). (r.peer, datagram r.key own r.peer r.number (Here r.name bytes)) ∷ []) (ap (λ (v : PeersView). v.own.id) k.settings.peers ∙ ap (λ (st : Settings). st.id) same)
     ∙ ap (λ (o : Option (List ℕ)). option_to_list (option_map (here settings r.key r.peer r.number r.name) o)) (sym brought)

@@ -13,7 +13,7 @@ use Rattle.psb_model.specs.Effects.{kept_lists, kept_without}
 use Rattle.psb_model.proofs.ByObject.{by_cases}
 use Rattle.psb_model.proofs.Own.{name_same, name_refl}
 use Rattle.psb_bytes.specs.declared.ids.Object.TheVariants.{Chunk}
-use Rattle.psb_ledger.proofs.Ordered.{comes_first}
+use Rattle.psb_model.proofs.ObjectOrder.{comes_first}
 use Rattle.psb_ledger.specs.View.{in_order, own_key}
 use Rattle.psb_ledger.specs.OwnList.{next_own}
 

@@ -13,6 +13,7 @@ use Rattle.psb_machine.specs.Settling.{settle}
 use Rattle.psb_machine.specs.Machine.{Situation, Input, Datagram, Reaction as MachineReaction, react, settled, quiet, drops, makes, tells_again, by_settled, here}
 use Rattle.psb_machine.specs.Gets.{has_chunk}
 use Rattle.node_core.specs.Letters.{letters_of}
+use Rattle.node_core.specs.Clocks.{clocks_after}
 use Rattle.deals.specs.Views.{answer_in, deal_in}
 use Rattle.node_core.specs.Making.{CanMake, MayMake, IsNextOffer, made_of, made_in, why_refused}
 use Rattle.node_core.specs.Unread.{IsUnread, IsCertain, NeedsRecord}
@@ -135,6 +136,10 @@ pub record IsStep (n : Situation) (m : MachineReaction) (c : Change) : Type 0 wh
   pub grown : m.grown ≡ Some c
   pub valid : IsValid (settled n m).history
 
+-- the reaction, but for the tick that it may be of
+abbrev pub steady : Situation → MachineReaction → MachineReaction
+steady n m = record m { volatile = n.volatile }
+
 -- what a node keeps of its settings stays, and no number of a claim is taken back
 pub record SameOwner {L : Type 0} (old new : Node L) : Type 0 where
   pub peers : new.peers ≡ old.peers
@@ -146,7 +151,17 @@ pub record IsSame {L : Type 0} (old new : Node L) : Type 0 where
   pub log : new.log ≡ old.log
   pub ledger : new.ledger ≡ old.ledger
   pub names : new.names ≡ old.names
+  pub clocks : new.clocks ≡ old.clocks
   pub rest : SameOwner old new
+
+-- the node is the same but for its clocks, which an input passes
+pub record IsTicked {L : Type 0} (i : Input) (old new : Node L) : Type 0 where
+  pub log : new.log ≡ old.log
+  pub ledger : new.ledger ≡ old.ledger
+  pub names : new.names ≡ old.names
+  pub peers : new.peers ≡ old.peers
+  pub claims : new.claims ≡ old.claims
+  pub clocks : new.clocks.items ≡ clocks_after i old.clocks.items
 
 -- the number of the change that grew, if one did, where it is the next one
 abbrev pub numbered : Option Change → ℕ → Option ℕ

@@ -43,6 +43,13 @@ pub(crate) fn untold(alloc: Global, change: Change) -> Reaction
     }
 }
 
+/// No letter. Takes no memory.
+pub(crate) fn no_letter(alloc: Global) -> Outbox
+    ensures { result ≡ [] }
+{
+    Items::from_vec(Vec::new(alloc))
+}
+
 /// One letter.
 pub(crate) fn one_letter(alloc: Global, letter: Letter) -> Result<Outbox, Memory>
     ensures { IfOk result (λ out. out ≡ letter ∷ []) }

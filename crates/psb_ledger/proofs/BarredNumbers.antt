@@ -8,11 +8,11 @@ use Rattle.std.specs.BTreeMap.{is_at, insert_entry}
 use Rattle.std.specs.declared.cmp.Ordering.{Ordering}
 use Rattle.std.specs.Ordering.{nat_cmp, is_eq}
 use Rattle.std.specs.Cmp.Lexicographic.{slice_cmp}
-use Rattle.psb_model.specs.Words.{name_eq}
+use Rattle.psb_model.specs.Words.{name_eq, name_listed}
 use Rattle.psb_model.proofs.Own.{name_same}
-use Rattle.psb_ledger.specs.OwnDeals.{number_of, latest_number, barred_room, KnowsNumbers}
+use Rattle.psb_model.proofs.ByObject.{by_cases}
+use Rattle.psb_ledger.specs.OwnDeals.{names_of, number_of, latest_number, barred_room, KnowsNumbers}
 use Rattle.psb_ledger.specs.declared.account.barred.Barring.{Barring}
-use Rattle.psb_ledger.proofs.Ordered.{by_cases}
 use Rattle.psb_ledger.proofs.Trees.{by_order}
 use Rattle.psb_ledger.proofs.OwnTrees.{same_name}
 
@@ -20,6 +20,10 @@ use Rattle.psb_ledger.proofs.OwnTrees.{same_name}
 pub is_there : (l : List (List ℕ × ℕ)) (n : List ℕ) → is_some (number_of l n) ≡ list_any (λ (b : List ℕ × ℕ). name_eq b.0 n) l
 is_there [] n = refl
 is_there (b ∷ bs) n = by_cases (name_eq b.0 n) (λ k. rw k refl) (λ k. rw k (is_there bs n))
+
+pub is_named : (l : List (List ℕ × ℕ)) (n : List ℕ) → is_some (number_of l n) ≡ name_listed (names_of l) n
+is_named [] n = refl
+is_named (b ∷ bs) n = by_cases (name_eq b.0 n) (λ k. rw k refl) (λ k. rw k (is_named bs n))
 
 -- what a tree finds is what its entries say first
 pub in_tree : (cmp : List ℕ → List ℕ → Ordering) → ((a b : List ℕ) → cmp a b ≡ slice_cmp nat_cmp a b) → (es : List (List ℕ × ℕ)) (n : List ℕ) → lookup (is_at (cmp n)) es ≡ number_of es n

@@ -1,8 +1,8 @@
 -- All accounts keep blocks, or all keep trees.
 use Rattle.std.proofs.Common.{◌≡◌, ℕ, zero, suc, Bool, List, [], ◌∷◌, ◌++◌, set, Some, ap, ◌∙◌, sym}
 use Rattle.std.specs.Prelude.{◌==◌, find, position, IfSome, get_or}
+use Rattle.psb_model.proofs.ByObject.{by_cases}
 use Rattle.psb_ledger.specs.View.{AccountView, AreInForm}
-use Rattle.psb_ledger.proofs.Ordered.{by_cases}
 use Rattle.psb_ledger.proofs.Places.{Found, found_here}
 
 -- the account that a search by id finds keeps what all keep

@@ -7,10 +7,10 @@ use Rattle.std.proofs.lemmas.Bool.{and_parts, false≢true}
 use Rattle.psb_bytes.specs.Objects.{object_eq, object_cmp}
 use Rattle.psb_bytes.specs.declared.ids.Object.{Object}
 use Rattle.psb_model.specs.Words.{has, has_so, units_at, with_one, with_all, without}
-use Rattle.psb_model.proofs.ByObject.{object_eq-same, object_eq-swap}
+use Rattle.psb_model.proofs.ByObject.{object_eq-same, object_eq-swap, by_cases}
 use Rattle.psb_ledger.specs.View.{in_order}
 use Rattle.psb_ledger.specs.Lists.{find_at}
-use Rattle.psb_ledger.proofs.Ordered.{by_cases, or_false, before_all, apart, in_order_but_all}
+use Rattle.psb_ledger.proofs.Ordered.{or_false, before_all, apart, in_order_but_all}
 
 pub find_has : {E : Type 0} (key : E → Object) (l : List E) (o : Object) → is_some (find_at key l o) ≡ has key l o
 find_has key [] o = refl

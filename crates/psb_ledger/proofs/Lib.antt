@@ -14,6 +14,8 @@ pub mod Places
 pub mod Forms
 pub mod BarredNumbers
 pub mod OwnStays
+pub mod Seeking
+pub mod PassedOn
 pub mod Sound
 pub mod Peers
 pub mod Accounts

@@ -8,9 +8,10 @@ use Rattle.std.proofs.lemmas.List.Sums.{prefix_len_is, prefix_len-le-length}
 use Rattle.psb_bytes.specs.Objects.{object_cmp, object_eq}
 use Rattle.psb_bytes.specs.declared.ids.Object.{Object}
 use Rattle.psb_model.specs.Words.{has, with_one, with_all}
-use Rattle.psb_model.proofs.ByObject.{object_eq-swap}
+use Rattle.psb_model.proofs.ByObject.{object_eq-swap, by_cases}
+use Rattle.psb_model.proofs.ObjectOrder.{comes_first, less_then}
 use Rattle.psb_ledger.specs.View.{in_order, lacks_all}
-use Rattle.psb_ledger.proofs.Ordered.{by_cases, comes_first, less_then, one_is_first, before_at, is_false}
+use Rattle.psb_ledger.proofs.Ordered.{one_is_first, before_at, is_false}
 use Rattle.psb_ledger.proofs.Trees.{with_more}
 
 abbrev pub is_below : {E : Type 0} → (E → Object) → Object → E → Bool

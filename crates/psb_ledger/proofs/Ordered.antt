@@ -1,88 +1,22 @@
--- The object order, and what a search in a list that is in this order finds.
-use Rattle.std.proofs.Common.{◌≡◌, ℕ, zero, suc, ◌+◌, ◌<◌, ◌≤◌, Bool, true, false, not, ◌&&◌, ◌||◌, cond, List, [], ◌∷◌, length, filter, get_or, Result, Ok, Err, IfOk, IfErr, refl, sym, ap, ◌∙◌, arith}
-use Rattle.std.specs.Prelude.{◌==◌, nat_lt, is_ok, insert}
+-- Lists in object order: what a search in one finds, and what goes in or is kept.
+use Rattle.std.proofs.Common.{◌≡◌, ℕ, zero, suc, ◌+◌, ◌<◌, ◌≤◌, Bool, true, false, not, ◌||◌, cond, List, [], ◌∷◌, length, filter, get_or, Result, Ok, Err, IfOk, IfErr, refl, sym, ap, ◌∙◌, arith}
+use Rattle.std.specs.Prelude.{nat_lt, is_ok, insert}
 use Rattle.std.specs.List.{list_any, list_all, position_or_len, prefix_len}
 use Rattle.std.specs.List.Sorted.{IsSearchInRange, IsBinarySearchResult}
 use Rattle.std.specs.declared.cmp.Ordering.{Ordering}
 use Rattle.std.specs.declared.cmp.Ordering.TheVariants.{Less, Equal, Greater}
-use Rattle.std.specs.Ordering.{nat_cmp, is_lt, is_eq, ordering_reverse, ordering_then}
-use Rattle.std.specs.Cmp.{IsTotalOrder}
-use Rattle.std.specs.Cmp.Lexicographic.{slice_cmp}
-use Rattle.std.proofs.lemmas.Cmp.{nat_cmp_total, nat_list_cmp_total}
+use Rattle.std.specs.Ordering.{is_lt, is_eq, ordering_reverse}
 use Rattle.std.proofs.lemmas.Bool.{and_parts, ltb-true, ltb-false, true≢false}
-use Rattle.std.proofs.lemmas.Bool.Decides.{nat_tests}
 use Rattle.std.proofs.lemmas.List.Sums.{position_or_len_is, prefix_len-le-length}
 use Rattle.std.proofs.lemmas.List.Folds.{list_any_at}
 use Rattle.std.proofs.lemmas.List.Sorted.{searchable_from_sorted}
-use Rattle.psb_bytes.specs.Objects.{object_eq, object_cmp, name_eq}
+use Rattle.psb_bytes.specs.Objects.{object_eq, object_cmp}
 use Rattle.psb_bytes.specs.declared.ids.Object.{Object}
-use Rattle.psb_bytes.specs.declared.ids.Object.TheVariants.{Chunk, Slot}
 use Rattle.psb_model.specs.Words.{has, with_one, with_all}
+use Rattle.psb_model.proofs.ByObject.{by_cases, all_with_one, all_kept}
+use Rattle.psb_model.proofs.ObjectOrder.{object_total, same_object, comes_first, less_then}
+use Rattle.psb_model.proofs.Built.{neither}
 use Rattle.psb_ledger.specs.View.{in_order, lacks_all}
-
-pub by_cases : {P : Type 0} → (b : Bool) → (b ≡ true → P) → (b ≡ false → P) → P
-by_cases true f g = f refl
-by_cases false f g = g refl
-
--- THE ORDER
-
-pub object_total : IsTotalOrder object_cmp
-object_total = record { antisymm = antisymm; trans = trans; congr = congr }
-  where
-    antisymm : (x y : Object) → object_cmp x y ≡ ordering_reverse (object_cmp y x)
-    antisymm (Chunk a) (Chunk b) = nat_list_cmp_total.antisymm a b
-    antisymm (Chunk a) (Slot b) = refl
-    antisymm (Slot a) (Chunk b) = refl
-    antisymm (Slot a) (Slot b) = nat_cmp_total.antisymm a b
-
-    trans : (x y z : Object) → object_cmp x y ≡ Less → object_cmp y z ≡ Less → object_cmp x z ≡ Less
-    trans (Chunk a) (Chunk b) (Chunk c) h k = nat_list_cmp_total.trans a b c h k
-    trans (Chunk a) (Chunk b) (Slot c) h k = refl
-    trans (Chunk a) (Slot b) (Chunk c) h k = cc
-    trans (Chunk a) (Slot b) (Slot c) h k = refl
-    trans (Slot a) (Chunk b) z h k = cc
-    trans (Slot a) (Slot b) (Chunk c) h k = cc
-    trans (Slot a) (Slot b) (Slot c) h k = nat_cmp_total.trans a b c h k
-
-    congr : (x y z : Object) → object_cmp x y ≡ Equal → object_cmp x z ≡ object_cmp y z
-    congr (Chunk a) (Chunk b) (Chunk c) h = nat_list_cmp_total.congr a b c h
-    congr (Chunk a) (Chunk b) (Slot c) h = refl
-    congr (Chunk a) (Slot b) z h = cc
-    congr (Slot a) (Chunk b) z h = cc
-    congr (Slot a) (Slot b) (Chunk c) h = refl
-    congr (Slot a) (Slot b) (Slot c) h = nat_cmp_total.congr a b c h
-
-number_eq : (a b : ℕ) → (a == b) ≡ is_eq (nat_cmp a b)
-number_eq a b = grind (arith, nat_tests)
-
-then_eq : (o p : Ordering) → (is_eq o && is_eq p) ≡ is_eq (ordering_then o p)
-then_eq Less p = refl
-then_eq Equal p = refl
-then_eq Greater p = refl
-
-bytes_same : (a b : List ℕ) → name_eq a b ≡ is_eq (slice_cmp nat_cmp a b)
-bytes_same [] [] = refl
-bytes_same [] (y ∷ ys) = refl
-bytes_same (x ∷ xs) [] = refl
-bytes_same (x ∷ xs) (y ∷ ys) = (λ i. number_eq x y i && bytes_same xs ys i) ∙ then_eq (nat_cmp x y) (slice_cmp nat_cmp xs ys)
-
--- two objects are one exactly where they compare as equal
-pub same_object : (a b : Object) → object_eq a b ≡ is_eq (object_cmp a b)
-same_object (Chunk a) (Chunk b) = bytes_same a b
-same_object (Chunk a) (Slot b) = refl
-same_object (Slot a) (Chunk b) = refl
-same_object (Slot a) (Slot b) = number_eq a b
-
-pub is_less : (o : Ordering) → is_lt o ≡ true → o ≡ Less
-is_less Less h = refl
-is_less Equal h = cc
-is_less Greater h = cc
-
-pub comes_first : (a b : Object) → is_lt (object_cmp a b) ≡ true → is_lt (object_cmp b a) ≡ false
-comes_first a b h = ap is_lt (object_total.antisymm b a ∙ ap ordering_reverse (is_less (object_cmp a b) h))
-
-pub less_then : (a b c : Object) → is_lt (object_cmp a b) ≡ true → is_lt (object_cmp b c) ≡ true → is_lt (object_cmp a c) ≡ true
-less_then a b c h k = ap is_lt (object_total.trans a b c (is_less (object_cmp a b) h) (is_less (object_cmp b c) k))
 
 -- A SEARCH
 
@@ -158,15 +92,6 @@ below_rest key e x (y ∷ ys) h k =
     let a = and_parts (is_lt (object_cmp (key x) (key y))) (list_all (λ y. is_lt (object_cmp (key x) (key y))) ys) k in
     rw (less_then (key e) (key x) (key y) h a.0) (below_rest key e x ys h a.1)
 
-below_with : {E : Type 0} (key : E → Object) (x e : E) (xs : List E) → is_lt (object_cmp (key x) (key e)) ≡ true → list_all (λ y. is_lt (object_cmp (key x) (key y))) xs ≡ true → list_all (λ y. is_lt (object_cmp (key x) (key y))) (with_one key e xs) ≡ true
-below_with key x e [] h k = rw h refl
-below_with key x e (y ∷ ys) h k =
-    by_cases (is_lt (object_cmp (key e) (key y)))
-    (λ b. rw (b, h) k)
-    (λ b.
-    let a = and_parts (is_lt (object_cmp (key x) (key y))) (list_all (λ y. is_lt (object_cmp (key x) (key y))) ys) k in
-    rw (b, a.0) (below_with key x e ys h a.1))
-
 -- of two that are not one, one comes before the other
 pub one_is_first : (a b : Object) → object_eq a b ≡ false → is_lt (object_cmp b a) ≡ false → is_lt (object_cmp a b) ≡ true
 one_is_first a b other h = by_order (object_cmp a b) (sym (same_object a b) ∙ other) (ap is_lt (sym (object_total.antisymm b a)) ∙ h)
@@ -176,10 +101,6 @@ one_is_first a b other h = by_order (object_cmp a b) (sym (same_object a b) ∙ 
     by_order Equal h k = cc
     by_order Greater h k = cc
 
-pub neither : (p q : Bool) → (p || q) ≡ false → (p ≡ false) × (q ≡ false)
-neither true q h = absurd (true≢false h)
-neither false q h = (refl, h)
-
 pub in_order_with : {E : Type 0} (key : E → Object) (e : E) (l : List E) → in_order key l ≡ true → has key l (key e) ≡ false → in_order key (with_one key e l) ≡ true
 in_order_with key e [] h absent = refl
 in_order_with key e (x ∷ xs) h absent =
@@ -187,7 +108,7 @@ in_order_with key e (x ∷ xs) h absent =
     let n = neither (object_eq (key x) (key e)) (has key xs (key e)) absent in
     by_cases (is_lt (object_cmp (key e) (key x)))
     (λ b. rw b (rw b (rw (below_rest key e x xs b a.0) h)))
-    (λ b. rw b (rw (below_with key x e xs (one_is_first (key x) (key e) n.0 b) a.0) (in_order_with key e xs a.1 n.1)))
+    (λ b. rw b (rw (all_with_one key (λ y. is_lt (object_cmp (key x) (key y))) e xs (one_is_first (key x) (key e) n.0 b) a.0) (in_order_with key e xs a.1 n.1)))
 
 -- ENTRIES THAT GO IN, one after another
 
@@ -307,12 +228,6 @@ in_order_with_all key (e ∷ es) l h k lacks =
     in_order_with_all key es (with_one key e l) a.1 (in_order_with key e l k (is_false (has key l (key e)) b.0)) (lacks_with key e es l a.0 b.1)
 
 -- WHAT IS KEPT
-
-all_kept : {E : Type 0} (p q : E → Bool) (l : List E) → list_all p l ≡ true → list_all p (filter q l) ≡ true
-all_kept p q [] h = refl
-all_kept p q (x ∷ xs) h =
-    let a = and_parts (p x) (list_all p xs) h in
-    by_cases (q x) (λ k. rw k (rw a.0 (all_kept p q xs a.1))) (λ k. rw k (all_kept p q xs a.1))
 
 pub in_order_kept : {E : Type 0} (key : E → Object) (q : E → Bool) (l : List E) → in_order key l ≡ true → in_order key (filter q l) ≡ true
 in_order_kept key q [] h = refl

@@ -13,10 +13,10 @@ use Rattle.psb_model.specs.Effects.{deal_name, pending_name, given_up, is_named}
 use Rattle.psb_model.proofs.Own.{name_same}
 use Rattle.psb_model.proofs.Held.{any_more, or_true}
 use Rattle.psb_model.proofs.Built.{is_kept}
+use Rattle.psb_model.proofs.ByObject.{by_cases}
 use Rattle.psb_ledger.specs.View.{AccountView, named_row, in_order, own_key}
 use Rattle.psb_ledger.specs.OwnList.{without_name, released}
 use Rattle.psb_ledger.specs.OwnDeals.{row_names}
-use Rattle.psb_ledger.proofs.Ordered.{by_cases}
 use Rattle.psb_ledger.proofs.Found.{none_behind, rest_ordered}
 
 -- what the rows name, others name too; but for one name, if there is one

@@ -23,10 +23,13 @@ use Rattle.psb_model.specs.State.{Row, own_has, own_len, own_marked}
 use Rattle.psb_model.specs.Effects.{own_with, set_marks, given_up, is_named}
 use Rattle.psb_model.proofs.Own.{name_same, name_refl, own_with_other}
 use Rattle.psb_model.proofs.Held.{own_with_is}
+use Rattle.psb_model.proofs.ByObject.{by_cases}
+use Rattle.psb_model.proofs.Built.{neither}
+use Rattle.psb_model.proofs.ObjectOrder.{less_then}
 use Rattle.psb_ledger.specs.declared.own.OwnChunk.{OwnChunk}
 use Rattle.psb_ledger.specs.View.{in_order, own_key}
 use Rattle.psb_ledger.specs.OwnList.{own_entry, with_newest, is_newest, newest_len, newest_marked, newest_other, newest_lifted, newest_left, lifts, marks, without_name, newest_behind, nearer, is_behind, known_len, next_own}
-use Rattle.psb_ledger.proofs.Ordered.{by_cases, neither, less_then, in_order_with, equal_is_one, or_false, apart, in_order_but, in_order_kept, kept_with}
+use Rattle.psb_ledger.proofs.Ordered.{in_order_with, equal_is_one, or_false, apart, in_order_but, in_order_kept, kept_with}
 use Rattle.psb_ledger.proofs.Trees.{by_order}
 use Rattle.psb_ledger.proofs.Found.{none_behind, rest_ordered}
 

@@ -6,7 +6,7 @@ use Rattle.std.specs.List.{position_from}
 use Rattle.std.proofs.lemmas.Bool.{eqb-true, false≢true}
 use Rattle.std.proofs.lemmas.Iterator.Adapters.{position_from-zero}
 use Rattle.psb_model.specs.State.{Row, blank, row_in, has_row, at_row}
-use Rattle.psb_ledger.proofs.Ordered.{by_cases}
+use Rattle.psb_model.proofs.ByObject.{by_cases}
 use Rattle.psb_settings.specs.declared.settings.PeerRow.{PeerRow}
 use Rattle.psb_model.specs.Effects.{blank_rows}
 use Rattle.psb_ledger.specs.View.{AccountView, named_row, account_in, row_of}

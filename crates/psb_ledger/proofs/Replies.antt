@@ -17,7 +17,7 @@ use Rattle.psb_model.specs.Conditions.{tests, is_pending, may_settle, propose_te
 use Rattle.psb_model.specs.Move.{still, after_move}
 use Rattle.psb_model.specs.Effects.{is_named, chunk_out, settle_move, own_slots, deal_name, pending_name, was_turned, issued_after}
 use Rattle.psb_model.specs.History.{is_built_deal}
-use Rattle.psb_model.proofs.ByObject.{has-occurs}
+use Rattle.psb_model.proofs.ByObject.{has-occurs, by_cases}
 use Rattle.psb_model.proofs.Held.{chunk_stays, has_less}
 use Rattle.psb_model.proofs.Own.{name_same, name_refl}
 use Rattle.psb_model.proofs.Parts.{ascend-distinct, sum-own_slots}
@@ -33,7 +33,6 @@ use Rattle.psb_ledger.specs.OwnTree.{own_items}
 use Rattle.psb_ledger.specs.OwnList.{released}
 use Rattle.psb_ledger.specs.OwnDeals.{row_names, placed_name, coming_name, own_units, drawn}
 use Rattle.psb_ledger.specs.Settling.{SettlesDeal, Settles}
-use Rattle.psb_ledger.proofs.Ordered.{by_cases}
 use Rattle.psb_ledger.proofs.Trees.{without_none}
 use Rattle.psb_ledger.proofs.OwnTrees.{ordered_kept}
 use Rattle.psb_ledger.proofs.OwnStays.{is_but, names_more, has_with_all}

@@ -15,10 +15,10 @@ use Rattle.psb_model.proofs.Balance.{Good, good_state}
 use Rattle.psb_model.proofs.Prefixes.{state_snoc, lawful_snoc, all_snoc, changes_counted}
 use Rattle.psb_model.proofs.Built.{IsPlain, plain_state as plain_history}
 use Rattle.psb_model.specs.History.{state, is_built}
+use Rattle.psb_model.proofs.ByObject.{by_cases}
 use Rattle.psb_ledger.specs.declared.book.Book.TheInside.{Inside}
 use Rattle.psb_ledger.specs.OwnTree.{own_room, mine_of}
 use Rattle.psb_ledger.specs.View.{AccountView, LedgerView, Mine, named_row, plain_state, IsReached, IsSound}
-use Rattle.psb_ledger.proofs.Ordered.{by_cases}
 use Rattle.psb_ledger.proofs.Places.{Found, found_set}
 
 -- what the parts of a book are for its view

@@ -11,7 +11,7 @@ use Rattle.psb_model.specs.State.{Row, State, row, is_held, in_key, in_size, out
 use Rattle.psb_model.specs.Conditions.{capacity, most_claims, tests, fresh_tests}
 use Rattle.psb_model.specs.Move.{still, after_move}
 use Rattle.psb_model.specs.Effects.{chunk_in, own_slots, took_deal}
-use Rattle.psb_model.proofs.ByObject.{sum_by-with_one, has-occurs}
+use Rattle.psb_model.proofs.ByObject.{sum_by-with_one, has-occurs, by_cases}
 use Rattle.psb_model.proofs.Held.{chunk_stays}
 use Rattle.psb_model.proofs.Built.{allows, row_use, changed}
 use Rattle.psb_model.proofs.Steps.{parts}
@@ -20,7 +20,7 @@ use Rattle.psb_ledger.specs.declared.codec.fields.FreshFields.{FreshFields}
 use Rattle.psb_ledger.specs.declared.codec.fields.RefusedFields.{RefusedFields}
 use Rattle.psb_ledger.specs.declared.book.Book.TheInside.{Inside}
 use Rattle.psb_ledger.specs.View.{AccountView, LedgerView, fresh_row, lacks_all, HasListRoom}
-use Rattle.psb_ledger.proofs.Ordered.{by_cases, is_false}
+use Rattle.psb_ledger.proofs.Ordered.{is_false}
 use Rattle.psb_ledger.proofs.Trees.{without_none}
 use Rattle.psb_ledger.proofs.Places.{found_here, found_peer, found_account}
 use Rattle.psb_ledger.proofs.OwnStays.{names_more, has_with_all}

@@ -14,10 +14,11 @@ use Rattle.psb_bytes.specs.declared.ids.Object.{Object}
 use Rattle.psb_bytes.specs.declared.ids.Object.TheVariants.{Chunk, Slot}
 use Rattle.psb_bytes.specs.contracts.ids.ObjectOrd.TheImpl.{cmp-value as derived_cmp}
 use Rattle.psb_model.specs.Words.{has, listed, slots, with_one, with_all, without}
-use Rattle.psb_model.proofs.ByObject.{object_eq-same, object_eq-swap}
+use Rattle.psb_model.proofs.ByObject.{object_eq-same, object_eq-swap, by_cases}
+use Rattle.psb_model.proofs.Built.{neither}
 use Rattle.psb_ledger.specs.View.{in_order}
 use Rattle.psb_ledger.specs.Lists.{find_at, items_of}
-use Rattle.psb_ledger.proofs.Ordered.{by_cases, neither, equal_is_one, apart, in_order_but_all, in_order_kept, kept_with_all}
+use Rattle.psb_ledger.proofs.Ordered.{equal_is_one, apart, in_order_but_all, in_order_kept, kept_with_all}
 use Rattle.psb_ledger.proofs.Found.{rest_ordered, without_first}
 
 -- the order by which a tree keeps its objects is theirs

@@ -5,6 +5,7 @@ pub mod Lists
 pub mod OwnDeals
 pub mod OwnList
 pub mod OwnTree
+pub mod Passed
 pub mod Records
 pub mod Settling
 pub mod SlotHeads

@@ -17,6 +17,10 @@ pub record BarredView : Type 0 where
   pub items : List (List ℕ × ℕ)
   pub room : ℕ
 
+-- the names alone
+abbrev pub names_of : List (List ℕ × ℕ) → List (List ℕ)
+names_of = map (λ (b : List ℕ × ℕ). b.0)
+
 -- the number that stands first with the name
 abbrev pub number_of : List (List ℕ × ℕ) → List ℕ → Option ℕ
 number_of [] n = None

@@ -9,14 +9,18 @@ ghost use Rattle.psb_model.specs.State.{blank, in_key, in_size, out_key, out_siz
 ghost use Rattle.psb_model.specs.Conditions.{carries_none, each_slot, is_direct, is_direct_or_home, is_own, is_pending};
 ghost use Rattle.psb_model.specs.Effects.{deal_name, pending_name, is_named};
 ghost use Rattle.psb_ledger.specs.Lists.{in_items, out_items, room, is_block};
+ghost use Rattle.psb_model.specs.Words.{name_listed};
+ghost use Rattle.psb_model.specs.Proposing.{is_absent};
+ghost use Rattle.psb_ledger.specs.Passed.{from_object, outs_past};
 ghost use Rattle.psb_ledger.specs.OwnDeals.{barring, placed_name, coming_name, row_names};
-ghost use Rattle.psb_ledger.specs.View.{AccountView, named_row, plain_row, outs_settled, IsAccount};
+ghost use Rattle.psb_ledger.specs.View.{in_order, AccountView, named_row, plain_row, outs_settled, IsAccount};
 
 mod barred;
 mod moves;
 mod own_deals;
 mod own_moves;
 
+use crate::entries::from_object;
 use crate::entry_list::{EntryList, InList, OutList};
 use own_deals::OwnDeals;
 use psb_bytes::{Digest, Memory, Object, PeerId};
@@ -390,6 +394,51 @@ impl Account {
             None => 0,
             Some(name) => self.units_out(&Object::Chunk(name)),
         }
+    }
+
+    /// The peer neither has the chunk nor lost it nor turned it down for good.
+    pub fn is_absent(&self, name: &Digest) -> bool
+        ensures { result ≡ is_absent self.now.row name.now }
+    {
+        let chunk = Object::Chunk(*name);
+        !self.has_out(&chunk) && !self.has_debt(&chunk) && !self.is_barred(name)
+    }
+
+    /// Whether the peer turned down a Cancel of the chunk before.
+    pub fn is_cancel_turned(&self, name: &Digest) -> bool
+        ensures { result ≡ name_listed self.now.row.turned_cancels name.now }
+    {
+        let _held = self.held;
+        self.deals.is_cancel_turned(name)
+    }
+
+    /// What the node has there from the place on.
+    pub fn outs_past(&self, place: &Option<Digest>) -> &[OutEntry]
+        requires { self.now.in_block ≡ true }
+        ensures past { result.now ≡ outs_past place.now self.now.row.outs }
+        ensures ordered { in_order out_key self.now.row.outs ≡ true }
+    {
+        let outs = self.outs.as_slice();
+        match place {
+            None => outs,
+            Some(name) => from_object(outs, &Object::Chunk(*name)),
+        }
+    }
+
+    /// The slots that the node answers for to the peer.
+    pub fn slots_here(&self) -> &[InEntry]
+        requires { self.now.in_block ≡ true }
+        ensures { result.now ≡ from_object in_key (Slot 0) self.now.row.ins }
+    {
+        from_object(self.ins.as_slice(), &Object::Slot(0))
+    }
+
+    /// The slots that the node has on the peer.
+    pub fn slots_there(&self) -> &[OutEntry]
+        requires { self.now.in_block ≡ true }
+        ensures { result.now ≡ from_object out_key (Slot 0) self.now.row.outs }
+    {
+        from_object(self.outs.as_slice(), &Object::Slot(0))
     }
 
     /// Makes room for a reply that turns the pending deal down.

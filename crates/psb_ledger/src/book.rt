@@ -15,6 +15,7 @@ mod deals;
 mod keeping;
 mod letting_go;
 mod looking;
+mod next_deals;
 mod proposing;
 mod settling;
 mod swapping;

@@ -10,6 +10,7 @@ ghost use Rattle.psb_model.specs.State.{in_key, out_key};
 ghost use Rattle.psb_model.specs.Effects.{own_slots, direct_slots};
 ghost use Rattle.psb_ledger.specs.View.{in_order, lacks_all};
 ghost use Rattle.psb_ledger.specs.Lists.{find_at};
+ghost use Rattle.psb_ledger.specs.Passed.{from_object};
 
 use crate::entry::Entry;
 use psb_bytes::Object;
@@ -132,6 +133,15 @@ fn count_before<E: Entry>(entries: &[E], object: &Object) -> usize
     ensures { result ≡ prefix_len (λ e. is_lt (object_cmp (E.key e) object.now)) entries.now }
 {
     entries.partition_point(|e| compare(e.object(), object).is_lt())
+}
+
+/// The entries from the object on.
+pub fn from_object<'a, E: Entry>(entries: &'a [E], object: &Object) -> &'a [E]
+    requires { in_order E.key entries.now ≡ true }
+    ensures { result.now ≡ from_object E.key object.now entries.now }
+{
+    let (_, rest) = entries.split_at(count_before(entries, object));
+    rest
 }
 
 /// Moves the entries from `tail` to `end` to `place`, before those that stand there.

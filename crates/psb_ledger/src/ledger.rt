@@ -1,21 +1,23 @@
 //! The ledger: the state that a history gives, and what it says of each peer.
 
-ghost use Rattle.std.specs.Prelude.{◌≡◌, ◌==◌, ◌+◌, ◌<◌, ◌^◌, ◌&&◌, ◌↔◌, not, IsTrue, OnOk, OnErr, IsOk, true};
+ghost use Rattle.std.specs.Prelude.{◌≡◌, ◌==◌, ◌+◌, ◌<◌, ◌^◌, ◌&&◌, ◌↔◌, nat_le, take, find, IfOk, not, IsTrue, OnOk, OnErr, IsOk, true};
 ghost use Rattle.std.specs.List.{list_any};
 ghost use Rattle.std.specs.Option.{option_copied, option_map};
 ghost use Rattle.psb_bytes.specs.declared.ids.Object.TheVariants.{Slot};
-ghost use Rattle.psb_model.specs.Words.{has, has_so, units_at};
+ghost use Rattle.psb_model.specs.Words.{units, name_listed, has, has_so, units_at};
 ghost use Rattle.psb_model.specs.State.{row, used, own_has, own_marked, is_held, in_key, in_size, out_key, out_size, held_units, back_units, debt_units, nothing_yet, tied_in, tied_out};
 ghost use Rattle.psb_model.specs.Grammar.{in_grammar};
 ghost use Rattle.psb_model.specs.Conditions.{allowed, carries_none, each_slot, is_direct};
 ghost use Rattle.psb_model.specs.Effects.{after};
+ghost use Rattle.psb_model.specs.Proposing.{may_release, is_missing, slots_to_give, slots_to_fill};
 ghost use Rattle.psb_model.specs.History.{is_built};
-ghost use Rattle.psb_ledger.specs.View.{HasRoom};
+ghost use Rattle.psb_ledger.specs.View.{HasRoom, IsReached};
 ghost use Rattle.psb_ledger.specs.OwnDeals.{barring};
 ghost use Rattle.psb_ledger.specs.OwnList.{known_len, next_own};
 
 use crate::book::{Balance, Book, NotNow};
-use psb_bytes::{Digest, Memory, Object, PeerId};
+use crate::passed::{Passed, add_rows, missing_from, passed_in, put_row, restart};
+use psb_bytes::{Digest, Memory, Object, PeerId, SlotList};
 use psb_model::{
     Change, Deal, DebtEntry, InEntry, LastDeal, OutEntry, OwnEntry, SnapMark, Snapshot,
 };
@@ -28,17 +30,18 @@ use std::marker::Model;
 #[derive(Drop)]
 pub struct Ledger {
     book: Book,
+    passed: Vec<Passed>,
 }
 
 impl Model for Ledger {
-    ghost use Rattle.std.specs.Prelude.{◌≡◌, true};
     ghost use Rattle.psb_ledger.specs.View.{LedgerView};
+    ghost use Rattle.psb_ledger.specs.Passed.{IsLedger};
 
     ghost Value = { LedgerView };
 
     ghost view = { λ l. l.book };
 
-    ghost invariant = { λ l. l.book.in_blocks ≡ true };
+    ghost invariant = { λ l. IsLedger l.book l.passed.items };
 }
 
 impl Ledger {
@@ -48,15 +51,25 @@ impl Ledger {
     {
         Ledger {
             book: Book::new(alloc, true),
+            passed: Vec::new(alloc),
         }
     }
 
     /// The ledger of a book whose accounts are in blocks.
-    pub(crate) fn of(book: Book) -> Ledger
+    pub(crate) fn of(book: Book) -> Result<Ledger, Memory>
         requires { book.in_blocks ≡ true }
-        ensures { result ≡ book }
+        ensures { IfOk result (λ l. l ≡ book) }
     {
-        Ledger { book }
+        let mut passed = Vec::new(book.alloc());
+        add_rows(&mut passed, book.settings())?;
+        Ok(Ledger { book, passed })
+    }
+
+    /// Some lawful history gives the state.
+    pub fn is_reached(&self)
+        ensures { IsReached self.now.state }
+    {
+        self.book.is_reached();
     }
 
     /// How many changes were applied.
@@ -320,7 +333,8 @@ impl Ledger {
         ensures state { self.new.state ≡ self.old.state }
         ensures room { OnOk result (HasRoom self.new c.now) }
     {
-        self.book.make_room(c)
+        self.book.make_room(c)?;
+        add_rows(&mut self.passed, self.book.settings())
     }
 
     /// Applies a change. NotNow comes exactly where its kind is not built or its condition does not
@@ -333,6 +347,71 @@ impl Ledger {
         ensures ok { OnOk result (self.new.state ≡ after self.old.state c) }
         ensures err { OnErr result (self.new ≡ self.old) }
     {
-        self.book.apply(c)
+        self.book.is_reached();
+        let restarts = self.book.restarts(&c);
+        self.book.apply(c)?;
+        restart(&mut self.passed, &restarts);
+        Ok(())
+    }
+
+    /// Looks on for the next own deal with the peer, where a chunk that is placed may have so many units
+    /// at most: so that `to_release` and `to_place` find it in few steps. Nothing that the ledger tells
+    /// changes. Each chunk is looked at once, until a change may have made another of it.
+    pub fn seek(&mut self, peer: PeerId, most: u32)
+        ensures { self.new ≡ self.old }
+    {
+        let x = passed_in(self.passed.as_slice(), peer);
+        let from = missing_from(&x, most);
+        let row = Passed {
+            peer,
+            marked: self.book.seek_marked(peer, &x.marked),
+            missing: self.book.seek_missing(peer, most, &from),
+            most,
+        };
+        put_row(&mut self.passed, &row);
+    }
+
+    /// The least marked chunk there that no deal ties and that is none of these.
+    pub fn to_release(&self, peer: PeerId, probed: &[Object]) -> Option<OutEntry>
+        ensures { result ≡ find (may_release self.now.state peer probed.now) (row self.now.state peer).outs }
+    {
+        let from = passed_in(self.passed.as_slice(), peer).marked;
+        self.book.to_release(peer, probed, &from)
+    }
+
+    /// The least own chunk of at most so many units that is missing there.
+    pub fn to_place(&self, peer: PeerId, most: u32) -> Option<OwnEntry>
+        ensures { result ≡ find (λ e. is_missing self.now.state peer e.name && nat_le (units e.len) most) self.now.state.own }
+    {
+        let x = passed_in(self.passed.as_slice(), peer);
+        let from = missing_from(&x, most);
+        self.book.to_place(peer, most, &from)
+    }
+
+    /// The first slots here that may be given for a chunk there, `most` of them at most.
+    pub fn slots_to_give(&self, peer: PeerId, most: usize) -> Result<SlotList, Memory>
+        ensures { IfOk result (λ l. l ≡ take most (slots_to_give self.now.state peer)) }
+    {
+        self.book.slots_to_give(peer, most)
+    }
+
+    /// The first own slots there in whose place a chunk may be stored, `most` of them at most: no deal
+    /// ties them, and they are none of these.
+    pub fn slots_to_fill(
+        &self,
+        peer: PeerId,
+        probed: &[Object],
+        most: usize,
+    ) -> Result<SlotList, Memory>
+        ensures { IfOk result (λ l. l ≡ take most (slots_to_fill self.now.state peer probed.now)) }
+    {
+        self.book.slots_to_fill(peer, probed, most)
+    }
+
+    /// Whether the peer turned down a Cancel of the chunk before.
+    pub fn is_cancel_turned(&self, peer: PeerId, name: &Digest) -> bool
+        ensures { result ≡ name_listed (row self.now.state peer).turned_cancels name.now }
+    {
+        self.book.is_cancel_turned(peer, name)
     }
 }

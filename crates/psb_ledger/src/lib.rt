@@ -12,6 +12,7 @@ mod laws;
 mod ledger;
 mod opening;
 mod own;
+mod passed;
 mod snapshots;
 
 pub use book::{Balance, NotNow};

@@ -110,6 +110,6 @@ impl Opening {
     pub fn finish(self) -> Result<Ledger, Memory>
         ensures { IfOk result (λ l. l.state ≡ self.state) }
     {
-        Ok(Ledger::of(self.book.into_blocks()?))
+        Ledger::of(self.book.into_blocks()?)
     }
 }

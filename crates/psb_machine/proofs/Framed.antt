@@ -21,7 +21,7 @@ pub record FrameFits (p number : ℕ) (frame : Frame) : Type 0 where
   pub frame_is : fits frame ≡ true
 
 -- slots ascend in a frame as they do in a record
-ascend_same : (l : List ℕ) → ascends l ≡ ascend l
+pub ascend_same : (l : List ℕ) → ascends l ≡ ascend l
 ascend_same [] = refl
 ascend_same (x ∷ []) = refl
 ascend_same (x ∷ y ∷ ys) = ap (λ b. nat_lt x y && b) (ascend_same (y ∷ ys))

@@ -15,7 +15,8 @@ use Rattle.psb_machine.specs.Settling.{Reply, Accepts, Refuses, replied_by, answ
 use Rattle.psb_model.specs.Words.{all_of}
 use Rattle.psb_model.specs.Conditions.{tests}
 use Rattle.psb_machine.specs.Judging.{reasons_at, taken_at}
-use Rattle.psb_machine.specs.Machine.{Situation, Input, Datagram, Tick, Keep, Snap, Forget, Reaction, changes_of, keys_of, quiet, tells_again, by_standing, on_deal, here, on_get, on_reply, on_rest, on_other, on_frame, on_keyed, on_read, on_datagram, react, next, has_snapshot}
+use Rattle.psb_machine.specs.Proposals.{Asking}
+use Rattle.psb_machine.specs.Machine.{Situation, by_asking, asking_at, by_key, on_tick, Input, Datagram, Tick, Keep, Snap, Forget, Reaction, changes_of, keys_of, quiet, tells_again, by_standing, on_deal, here, on_get, on_reply, on_rest, on_other, on_frame, on_keyed, on_read, on_datagram, react, next, has_snapshot}
 use Rattle.psb_model.proofs.ByObject.{by_cases}
 use Rattle.psb_machine.specs.declared.deals.Standing.{Standing}
 use Rattle.psb_machine.specs.declared.deals.Standing.TheVariants.{Fresh, Repeat, Stale, Gap}
@@ -78,9 +79,21 @@ datagram_stays : (o : Option Settings) (n : Situation) (x : List ℕ) → Stays 
 datagram_stays None n x = refl
 datagram_stays (Some settings) n x = read_stays settings n (read_frame settings.id (keys_of settings) x)
 
+asking_stays : (settings : Settings) (n : Situation) (p : ℕ) (key : List ℕ) (o : Option Asking) → Stays (state n.history) (by_asking settings n p key o)
+asking_stays settings n p key None = refl
+asking_stays settings n p key (Some a) = by_cases a.is_new (λ k. rw k refl) (λ k. rw k refl)
+
+key_stays : (settings : Settings) (n : Situation) (p : ℕ) (o : Option (List ℕ)) → Stays (state n.history) (by_key settings n p o)
+key_stays settings n p None = refl
+key_stays settings n p (Some key) = asking_stays settings n p key (asking_at settings n p)
+
+tick_stays : (o : Option Settings) (n : Situation) (p : ℕ) → Stays (state n.history) (on_tick o n p)
+tick_stays None n p = refl
+tick_stays (Some settings) n p = key_stays settings n p (key_in (keys_of settings) p)
+
 react_stays : (n : Situation) (i : Input) → Stays (state n.history) (react n i)
 react_stays n (Datagram x) = datagram_stays (state n.history).settings n x
-react_stays n (Tick p) = refl
+react_stays n (Tick p) = tick_stays (state n.history).settings n p
 react_stays n (Keep name bytes) = by_cases (own_has (state n.history).own name || meets_others n.history name bytes) (λ k. rw k refl) (λ k. rw k refl)
 react_stays n (Snap note) = refl
 react_stays n (Forget number) = by_cases (has_snapshot (state n.history) number) (λ k. rw k refl) (λ k. rw k refl)

@@ -1,5 +1,5 @@
 -- The laws of the machine.
-use Rattle.std.proofs.Common.{◌≡◌, ℕ, ◌≤◌, ◌^◌, ◌||◌, Bool, true, false, if◌then◌else◌, slice_get, option_map, is_some, List, [], length, Option, Some, None, Result, Ok, Err, refl, arith}
+use Rattle.std.proofs.Common.{◌≡◌, ℕ, ◌≤◌, ◌^◌, ◌||◌, Bool, true, false, if◌then◌else◌, slice_get, option_map, option_to_list, is_some, List, [], length, Option, Some, None, Result, Ok, Err, refl, arith}
 use Rattle.std.proofs.lemmas.Bool.{lt-ltb}
 use Rattle.std.proofs.lemmas.List.{append-nil}
 use Rattle.psb_bytes.specs.Numbers.{AreBytes}
@@ -16,14 +16,17 @@ use Rattle.psb_machine.specs.Deals.{standing, Deal, deal_of, judged_at}
 use Rattle.psb_machine.specs.Gets.{got_of, has_chunk}
 use Rattle.psb_machine.specs.Replies.{reply}
 use Rattle.psb_machine.specs.Settling.{Reply, replied_by, settle}
-use Rattle.psb_machine.specs.Machine.{Situation, Volatile, Input, Datagram, Tick, Keep, Snap, Forget, Reaction, quiet, grows, kept_with, snapped_with, has_snapshot, tells_again, settled, ticked, react, keys_of, by_standing, on_deal, here, on_get, by_settled, on_reply, on_rest, on_other, on_frame, on_keyed, on_read, on_datagram}
+use Rattle.psb_machine.specs.Machine.{Situation, Volatile, Input, Datagram, Tick, Keep, Snap, Forget, Reaction, quiet, grows, kept_with, snapped_with, has_snapshot, tells_again, settled, ticked, react, keys_of, by_standing, on_deal, here, on_get, grown_by, by_asking, asking_at, by_key, on_tick, by_settled, on_reply, on_rest, on_other, on_frame, on_keyed, on_read, on_datagram}
 use Rattle.psb_machine.specs.declared.deals.Standing.{Standing}
 use Rattle.psb_machine.specs.declared.deals.Standing.TheVariants.{Fresh, Repeat, Stale, Gap}
 use Rattle.psb_machine.specs.Laws.{KeepsValid, AllTellLittle}
 use Rattle.psb_machine.proofs.Framed.{FrameFits}
-use Rattle.psb_machine.proofs.Valid.{unchanged, datagram_valid, keep_valid, snap_valid, forget_valid}
+use Rattle.psb_machine.proofs.Valid.{datagram_valid, keep_valid, snap_valid, forget_valid}
 use Rattle.psb_model.proofs.ByObject.{by_cases}
 use Rattle.psb_machine.specs.Deals.{meets_others}
+use Rattle.psb_machine.specs.Proposals.{Asking, frame_of, letter_of}
+use Rattle.psb_machine.proofs.Ticking.{tick_valid}
+use Rattle.psb_model.specs.declared.deals.Deal.{Deal as OwnDeal}
 use Rattle.psb_model.specs.declared.change.Change.TheVariants.{Forgot}
 
 pub frame_read_fits : (own : ℕ) (keys : List (ℕ × List ℕ)) (x : List ℕ) (i : Incoming) → AreBytes x → read_frame own keys x ≡ Ok i → FrameFits i.from i.number i.frame
@@ -37,7 +40,7 @@ frame_read_fits own keys x i bytes read =
 
 pub keeps_valid : KeepsValid
 keeps_valid n (Datagram x) v bytes = datagram_valid n x (state n.history).settings refl v (λ own keys i read. frame_read_fits own keys x i bytes read)
-keeps_valid n (Tick p) v fit = unchanged n.history v
+keeps_valid n (Tick p) v fit = tick_valid n p (state n.history).settings refl v fit
 keeps_valid n (Keep name bytes) v fit = keep_valid n name bytes v fit
 keeps_valid n (Snap note) v fit = snap_valid n note v fit
 keeps_valid n (Forget number) v fit = forget_valid n number v fit
@@ -105,9 +108,28 @@ datagram_little : (o : Option Settings) (n : Situation) (x : List ℕ) → Littl
 datagram_little None n x = quiet_little n n.volatile
 datagram_little (Some settings) n x = read_little settings n (read_frame settings.id (keys_of settings) x)
 
+asks_little : (n : Situation) (grown : Option Change) (v : Volatile) (o : Option (ℕ × List ℕ)) → Little n (record { grown = grown; letters = option_to_list o; volatile = v; dropped = None })
+asks_little n grown v None = record { most = omega arith; letters = λ is. refl; same = λ is. absurd (cc) }
+asks_little n grown v (Some letter) = record { most = omega arith; letters = λ is. absurd (cc); same = λ is. absurd (cc) }
+
+abbrev asked_for : Settings → Situation → ℕ → List ℕ → OwnDeal → Option (ℕ × List ℕ)
+asked_for settings n p key d = option_map (letter_of settings p key d.number) (frame_of settings n.history p d.what)
+
+asking_little : (settings : Settings) (n : Situation) (p : ℕ) (key : List ℕ) (o : Option Asking) → Little n (by_asking settings n p key o)
+asking_little settings n p key None = quiet_little n (ticked p n.volatile)
+asking_little settings n p key (Some a) = asks_little n (grown_by p a) (ticked p n.volatile) (asked_for settings n p key a.deal)
+
+key_little : (settings : Settings) (n : Situation) (p : ℕ) (o : Option (List ℕ)) → Little n (by_key settings n p o)
+key_little settings n p None = quiet_little n (ticked p n.volatile)
+key_little settings n p (Some key) = asking_little settings n p key (asking_at settings n p)
+
+tick_little : (o : Option Settings) (n : Situation) (p : ℕ) → Little n (on_tick o n p)
+tick_little None n p = quiet_little n (ticked p n.volatile)
+tick_little (Some settings) n p = key_little settings n p (key_in (keys_of settings) p)
+
 little : (n : Situation) (x : Input) → Little n (react n x)
 little n (Datagram x) = datagram_little (state n.history).settings n x
-little n (Tick p) = quiet_little n (ticked p n.volatile)
+little n (Tick p) = tick_little (state n.history).settings n p
 little n (Keep name bytes) = by_cases (own_has (state n.history).own name || meets_others n.history name bytes)
     (λ k. rw k (quiet_little n n.volatile))
     (λ k. rw k (grows_little n (kept_with (state n.history) name bytes) n.volatile))

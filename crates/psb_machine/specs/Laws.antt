@@ -5,7 +5,7 @@ use Rattle.psb_bytes.specs.Numbers.{AreBytes}
 use Rattle.psb_bytes.specs.Objects.{name_eq}
 use Rattle.psb_bytes.specs.Units.{longest_chunk}
 use Rattle.psb_digest.specs.Hashes.{sha}
-use Rattle.psb_model.specs.State.{State, own_has, snaps_made}
+use Rattle.psb_model.specs.State.{State, row, own_has, snaps_made}
 use Rattle.psb_model.specs.Conditions.{names_ascend}
 use Rattle.psb_model.specs.Grammar.{is_u8, is_u32, is_u64, is_digest, is_ticket, ticket_fits}
 use Rattle.psb_model.specs.History.{state}
@@ -35,10 +35,15 @@ pub record SnapFits (s : State) (note : SnapNote) : Type 0 where
   pub more : snaps_made s < 4294967295
   pub widths : (ticket_fits note.ticket && is_u32 note.files && is_u32 note.folders && is_u64 note.bytes && is_u32 note.left && list_all is_digest note.names) ≡ true
 
+-- a tick of a peer, after which its next deal has a number
+pub record TickFits (s : State) (p : ℕ) : Type 0 where
+  pub peer : is_u32 p ≡ true
+  pub more : (row s p).mine < 18446744073709551615
+
 -- what an input has to be
 abbrev pub Fits : Situation → Input → Type 0
 Fits n (Datagram x) = AreBytes x
-Fits n (Tick p) = Unit {0}
+Fits n (Tick p) = TickFits (state n.history) p
 Fits n (Keep name bytes) = KeepFits name bytes
 Fits n (Snap note) = SnapFits (state n.history) note
 Fits n (Forget number) = is_u32 number ≡ true

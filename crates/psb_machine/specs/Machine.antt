@@ -1,6 +1,6 @@
 -- The machine: what a node makes of an input, by its history and by what a restart forgets.
 -- It is a function of the whole history; a node computes the same from the state that it keeps.
-use Rattle.std.specs.Prelude.{ℕ, ◌+◌, ◌^◌, Bool, not, ◌||◌, ◌==◌, if◌then◌else◌, min, List, [], ◌∷◌, ◌++◌, length, map, slice_get, option_map, option_to_list, Option, Some, None, Result, Ok, Err}
+use Rattle.std.specs.Prelude.{ℕ, ◌+◌, ◌^◌, Bool, false, not, ◌||◌, ◌==◌, if◌then◌else◌, min, List, [], ◌∷◌, ◌++◌, length, map, slice_get, option_map, option_to_list, Option, Some, None, Result, Ok, Err}
 use Rattle.std.specs.List.{list_any}
 use Rattle.psb_settings.specs.declared.settings.PeerRow.{PeerRow}
 use Rattle.psb_settings.specs.declared.settings.Settings.{Settings}
@@ -9,7 +9,8 @@ use Rattle.psb_model.specs.State.{State, row, own_has, is_held, snaps_made}
 use Rattle.psb_model.specs.Needed.{last_brought}
 use Rattle.psb_model.specs.History.{state}
 use Rattle.psb_model.specs.declared.change.Change.{Change}
-use Rattle.psb_model.specs.declared.change.Change.TheVariants.{Kept, Snapped, Forgot, Turned}
+use Rattle.psb_model.specs.declared.change.Change.TheVariants.{Kept, Snapped, Forgot, Proposed, Turned}
+use Rattle.psb_model.specs.declared.deals.Deal.{Deal as OwnDeal}
 use Rattle.wire_codec.specs.Frames.{Incoming, read_frame, key_in, datagram}
 use Rattle.wire_codec.specs.declared.frame.Dropped.{Dropped}
 use Rattle.wire_codec.specs.declared.frame.Frame.{Frame}
@@ -17,7 +18,8 @@ use Rattle.wire_codec.specs.declared.frame.Frame.TheVariants.{Here}
 use Rattle.psb_machine.specs.Deals.{standing, Deal, deal_of, judged_at, meets_others}
 use Rattle.psb_machine.specs.Gets.{has_chunk, got_of}
 use Rattle.psb_machine.specs.Replies.{reply}
-use Rattle.psb_machine.specs.Settling.{Reply, replied_by, settle, waits_after}
+use Rattle.psb_machine.specs.Settling.{Reply, replied_by, settle, wait_in, waited_in, waits_after}
+use Rattle.psb_machine.specs.Proposals.{Asking, proposed_at, asks, is_even}
 use Rattle.psb_machine.specs.declared.deals.Standing.{Standing}
 use Rattle.psb_machine.specs.declared.deals.Standing.TheVariants.{Fresh, Repeat, Stale, Gap}
 use Rattle.psb_machine.specs.declared.snap_note.SnapNote.{SnapNote}
@@ -46,8 +48,9 @@ abbrev pub ticked_in : List (ℕ × ℕ) → ℕ → List (ℕ × ℕ)
 ticked_in [] p = (p, 1) ∷ []
 ticked_in (x ∷ xs) p = if x.0 == p then (p, later x.1) ∷ xs else x ∷ ticked_in xs p
 
+-- a tick of a peer: its clock goes on, and there is one less to wait for
 abbrev pub ticked : ℕ → Volatile → Volatile
-ticked p v = record v { clocks = ticked_in v.clocks p }
+ticked p v = record v { clocks = ticked_in v.clocks p; waits = waited_in v.waits p }
 
 -- What a change does to it, whatever input made the change; the state is the one before it.
 abbrev pub by_change : State → Change → Volatile → Volatile
@@ -205,10 +208,37 @@ on_snap n note = grows (snapped_with (state n.history) note) n.volatile
 abbrev pub on_forget : Situation → ℕ → Reaction
 on_forget n number = if has_snapshot (state n.history) number then grows (Forgot number) n.volatile else quiet n.volatile
 
--- So far nothing comes of a tick but that the peer's clock goes on.
+-- ---- ticks
+
+-- what comes of a tick that asks for a deal: one that was not pending yet is proposed
+abbrev pub grown_by : ℕ → Asking → Option Change
+grown_by p a = if a.is_new then Some (Proposed p a.deal.number a.deal.what) else None
+
+abbrev pub by_asking : Settings → Situation → ℕ → List ℕ → Option Asking → Reaction
+by_asking settings n p key None = quiet (ticked p n.volatile)
+by_asking settings n p key (Some a) = record { grown = grown_by p a; letters = asks settings n.history p key a.deal; volatile = ticked p n.volatile; dropped = None }
+
+-- The deal that a tick asks for: one without a reply at each second tick of its peer; where none is pending and none
+-- is waited for, the one that is proposed next.
+abbrev pub asking_by : Settings → Situation → ℕ → Option OwnDeal → Option Asking
+asking_by settings n p None = if wait_in n.volatile.waits p == 0 then proposed_at settings (state n.history) p else None
+asking_by settings n p (Some d) = if is_even (later (clock_in n.volatile.clocks p)) then Some (record { deal = d; is_new = false }) else None
+
+abbrev pub asking_at : Settings → Situation → ℕ → Option Asking
+asking_at settings n p = asking_by settings n p (row (state n.history) p).pending
+
+-- a tick of one that is no peer does nothing but that a clock goes on
+abbrev pub by_key : Settings → Situation → ℕ → Option (List ℕ) → Reaction
+by_key settings n p None = quiet (ticked p n.volatile)
+by_key settings n p (Some key) = by_asking settings n p key (asking_at settings n p)
+
+abbrev pub on_tick : Option Settings → Situation → ℕ → Reaction
+on_tick None n p = quiet (ticked p n.volatile)
+on_tick (Some settings) n p = by_key settings n p (key_in (keys_of settings) p)
+
 abbrev pub react : Situation → Input → Reaction
 react n (Datagram x) = on_datagram (state n.history).settings n x
-react n (Tick p) = quiet (ticked p n.volatile)
+react n (Tick p) = on_tick (state n.history).settings n p
 react n (Keep name bytes) = on_keep n name bytes
 react n (Snap note) = on_snap n note
 react n (Forget number) = on_forget n number

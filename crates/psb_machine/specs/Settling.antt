@@ -1,5 +1,5 @@
 -- Replies of a peer to the node's own deals, and the change that one makes.
-use Rattle.std.specs.Prelude.{ℕ, nat_lt, ◌==◌, if◌then◌else◌, List, [], ◌∷◌, Option, Some, None}
+use Rattle.std.specs.Prelude.{ℕ, ◌-◌, nat_lt, ◌==◌, if◌then◌else◌, List, [], ◌∷◌, Option, Some, None}
 use Rattle.psb_bytes.specs.declared.lists.SlotClaim.{SlotClaim}
 use Rattle.psb_settings.specs.declared.settings.Settings.{Settings}
 use Rattle.psb_model.specs.Words.{all_of}
@@ -42,6 +42,11 @@ ticks_to_wait own p = if nat_lt own p then 2 else 4
 abbrev pub wait_in : List (ℕ × ℕ) → ℕ → ℕ
 wait_in [] p = 0
 wait_in (x ∷ xs) p = if x.0 == p then x.1 else wait_in xs p
+
+-- one less at a tick
+abbrev pub waited_in : List (ℕ × ℕ) → ℕ → List (ℕ × ℕ)
+waited_in [] p = []
+waited_in (x ∷ xs) p = if x.0 == p then (p, x.1 - 1) ∷ xs else x ∷ waited_in xs p
 
 abbrev pub with_wait : ℕ → ℕ → List (ℕ × ℕ) → List (ℕ × ℕ)
 with_wait p n [] = (p, n) ∷ []

@@ -21,14 +21,14 @@ use Rattle.psb_model.specs.declared.deals.DealWhat.{DealWhat}
 use Rattle.psb_model.specs.declared.deals.DealWhat.TheVariants.{Fresh, Swap, Cancel, PutBack, Forward, Return}
 use Rattle.psb_model.specs.declared.change.Change.{Change}
 use Rattle.psb_model.specs.declared.change.Change.TheVariants.{Begun, Kept, Snapped, Forgot, TookFresh, TookSwap, LetGo, LetGoBack, Refused, Proposed, Settled, Turned, Chose}
-use Rattle.psb_model.specs.Words.{units, name_eq, name_listed, object_cmp, all_of, listed, slots, has, only, without, with_one, with_all}
+use Rattle.psb_model.specs.Words.{units, name_eq, name_listed, all_of, listed, slots, has, only, without, with_one, with_all}
 use Rattle.psb_model.specs.State.{Row, State, blank, nothing_yet, row, row_in, has_row, is_peer, at_row, in_key, in_size, out_key, out_size, debt_key, debt_size, held_units, back_units, debt_units, own_has, own_len, coming, used}
 use Rattle.psb_model.specs.Grammar.{in_grammar}
 use Rattle.psb_model.specs.Conditions.{capacity, settings_of_body, peer_of, is_begun, of_a_peer, place_tests, each_slot, may_settle, propose_tests, tests, allowed}
 use Rattle.psb_model.specs.Move.{Move, after_move}
 use Rattle.psb_model.specs.Effects.{move_of, settle_move, settle_states, note_of, loosen, relabel_out, relabel_debt, disturbed, direct_slot, direct_slots, blank_rows, first_rows, all_rows_after, after, chunk_in, own_after, own_with, set_marks, kept_lists, kept_without, settings_after, deal_name, pending_name, is_named}
 use Rattle.psb_model.specs.History.{state_from, lawful_from, state, is_lawful, is_built, is_built_deal}
-use Rattle.psb_model.proofs.ByObject.{by_cases, sum_by-with_all, sum_by-without}
+use Rattle.psb_model.proofs.ByObject.{by_cases, sum_by-with_all, sum_by-without, all_with_one, all_kept}
 use Rattle.psb_model.proofs.Parts.{sum-direct_slots}
 use Rattle.psb_model.proofs.Steps.{parts, not_true}
 use Rattle.psb_model.proofs.Rows.{row_in-at_row, row_in-at_other}
@@ -205,13 +205,6 @@ at_row_twice p f g (x ∷ xs) = by_cases (x.0 == p) (λ k. rw (k, k) refl) (λ k
 abbrev pub changed : State → Change → Row → Row
 changed s c r = note_of s c (after_move (move_of s c) r)
 
--- what stands in a list that some entries left passed what all of it passed
-pub all_kept : {E : Type 0} (t q : E → Bool) (l : List E) → list_all t l ≡ true → list_all t (filter q l) ≡ true
-all_kept t q [] h = refl
-all_kept t q (e ∷ es) h =
-    let two = and_parts (t e) (list_all t es) h in
-    by_cases (q e) (λ k. rw (k, two.0) (all_kept t q es two.1)) (λ k. rw k (all_kept t q es two.1))
-
 -- nothing comes loose where no entry is forwarded
 loosen_none : (es : List InEntry) (rows : List (ℕ × Row)) → list_all is_here es ≡ true → loosen es rows ≡ rows
 loosen_none [] rows h = refl
@@ -281,25 +274,18 @@ row_then s c q p plain built peer here =
 
 -- THE ROW OF THE PEER STAYS PLAIN
 
--- what comes passes the test, and so does what was there
-all_with : (t : InEntry → Bool) (e : InEntry) (l : List InEntry) → t e ≡ true → list_all t l ≡ true → list_all t (with_one in_key e l) ≡ true
-all_with t e [] h k = rw h refl
-all_with t e (x ∷ xs) h k =
-    let two = and_parts (t x) (list_all t xs) k in
-    by_cases (is_lt (object_cmp e.object x.object)) (λ j. rw (j, h) k) (λ j. rw (j, two.0) (all_with t e xs h two.1))
-
 all_direct : (numbers : List ℕ) (l : List InEntry) → list_all is_here l ≡ true → list_all is_here (with_all in_key (direct_slots numbers) l) ≡ true
 all_direct [] l h = h
-all_direct (n ∷ ns) l h = all_direct ns (with_one in_key (direct_slot n) l) (all_with is_here (direct_slot n) l refl h)
+all_direct (n ∷ ns) l h = all_direct ns (with_one in_key (direct_slot n) l) (all_with_one in_key is_here (direct_slot n) l refl h)
 
 here_less : (objects : List Object) (l : List InEntry) → list_all is_here l ≡ true → list_all is_here (without in_key objects l) ≡ true
 here_less objects l h = all_kept is_here (λ e. not (listed objects (in_key e))) l h
 
 plain_fresh : (s : State) (p deal : ℕ) (name : List ℕ) (first len : ℕ) (new : Bool) (body : Option (List ℕ)) (r : Row) → IsPlainRow s.own r → IsPlainRow s.own (changed s (TookFresh p deal name first len new body) r)
-plain_fresh s p deal name first len new body r h = record { deal = h.deal; coming = h.coming; debts = rw h.debts refl; asked = h.asked; fails = h.fails; due = h.due; here = all_with is_here (chunk_in name (units len)) (without in_key [] r.ins) refl (here_less [] r.ins h.here) }
+plain_fresh s p deal name first len new body r h = record { deal = h.deal; coming = h.coming; debts = rw h.debts refl; asked = h.asked; fails = h.fails; due = h.due; here = all_with_one in_key is_here (chunk_in name (units len)) (without in_key [] r.ins) refl (here_less [] r.ins h.here) }
 
 plain_swap : (s : State) (p deal : ℕ) (name numbers : List ℕ) (len : ℕ) (new : Bool) (body : Option (List ℕ)) (r : Row) → IsPlainRow s.own r → IsPlainRow s.own (changed s (TookSwap p deal name numbers len new body) r)
-plain_swap s p deal name numbers len new body r h = record { deal = h.deal; coming = h.coming; debts = rw h.debts refl; asked = h.asked; fails = h.fails; due = h.due; here = all_with is_here (chunk_in name (units len)) (without in_key (slots numbers) r.ins) refl (here_less (slots numbers) r.ins h.here) }
+plain_swap s p deal name numbers len new body r h = record { deal = h.deal; coming = h.coming; debts = rw h.debts refl; asked = h.asked; fails = h.fails; due = h.due; here = all_with_one in_key is_here (chunk_in name (units len)) (without in_key (slots numbers) r.ins) refl (here_less (slots numbers) r.ins h.here) }
 
 plain_let_go : (s : State) (p deal : ℕ) (name numbers : List ℕ) (r : Row) → IsPlainRow s.own r → IsPlainRow s.own (changed s (LetGo p deal name numbers) r)
 plain_let_go s p deal name numbers r h = record { deal = h.deal; coming = h.coming; debts = rw h.debts refl; asked = h.asked; fails = h.fails; due = h.due; here = here_less (Chunk name ∷ []) r.ins h.here }

@@ -1,6 +1,7 @@
 -- Lists of entries by object: what they have at an object, and their sums.
 use Rattle.std.proofs.Common.{◌≡◌, ℕ, ◌+◌, ◌≤◌, Bool, true, false, not, cond, List, [], ◌∷◌, ◌++◌, length, map, filter, sum_by, refl, sym, ap, ◌∙◌, subst, arith}
-use Rattle.std.proofs.lemmas.Bool.{false≢true, eqb-true, eq-eqb, cases_Bool, false_from_ne_true}
+use Rattle.std.specs.List.{list_all}
+use Rattle.std.proofs.lemmas.Bool.{false≢true, eqb-true, eq-eqb, cases_Bool, false_from_ne_true, and_parts}
 use Rattle.std.proofs.lemmas.Slice.Eq.{bytes_eq-Decides}
 use Rattle.std.proofs.lemmas.List.Sums.{sum_by-cons}
 use Rattle.std.proofs.lemmas.List.Filters.{sum_by-filter_both}
@@ -194,3 +195,17 @@ sum_by-map size size' g same_size (e ∷ es) = omega (arith, sum_by-cons size' (
 pub Ones-map : {E F : Type 0} (key : E → Object) (size : E → ℕ) (key' : F → Object) (size' : F → ℕ) (g : E → F) → ((e : E) → key' (g e) ≡ key e) → ((e : E) → size' (g e) ≡ size e) → (l : List E) → Ones key size l → Ones key' size' (map g l)
 Ones-map key size key' size' g same_key same_size [] h = tt
 Ones-map key size key' size' g same_key same_size (e ∷ es) h = (subst (λ k. slot_size k (size' (g e))) (sym (same_key e)) (subst (λ u. slot_size (key e) u) (sym (same_size e)) h.0), Ones-map key size key' size' g same_key same_size es h.1)
+
+-- what holds of each entry and of one more
+pub all_with_one : {E : Type 0} (key : E → Object) (t : E → Bool) (e : E) (l : List E) → t e ≡ true → list_all t l ≡ true → list_all t (with_one key e l) ≡ true
+all_with_one key t e [] h k = rw h refl
+all_with_one key t e (x ∷ xs) h k =
+    let two = and_parts (t x) (list_all t xs) k in
+    by_cases (is_lt (object_cmp (key e) (key x))) (λ j. rw (j, h) k) (λ j. rw (j, two.0) (all_with_one key t e xs h two.1))
+
+-- what stands in a list that some entries left passed what all of it passed
+pub all_kept : {E : Type 0} (t q : E → Bool) (l : List E) → list_all t l ≡ true → list_all t (filter q l) ≡ true
+all_kept t q [] h = refl
+all_kept t q (e ∷ es) h =
+    let two = and_parts (t e) (list_all t es) h in
+    by_cases (q e) (λ k. rw (k, two.0) (all_kept t q es two.1)) (λ k. rw k (all_kept t q es two.1))

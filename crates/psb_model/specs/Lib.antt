@@ -5,6 +5,7 @@ pub mod Heads
 pub mod Candidates
 pub mod Discards
 pub mod Conditions
+pub mod Proposing
 pub mod Move
 pub mod Effects
 pub mod History

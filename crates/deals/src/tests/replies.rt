@@ -139,9 +139,9 @@ const NOTHING: [Row; 2] = [
 ];
 
 /// The own chunk of two units, whose name has the byte 5 32 times.
-const OWN: Digest = Digest([5; 32]);
+pub(super) const OWN: Digest = Digest([5; 32]);
 
-fn kept() -> Change
+pub(super) fn kept() -> Change
     ensures { IsTrue (in_grammar result) }
 {
     Change::Kept {
@@ -152,7 +152,7 @@ fn kept() -> Change
     }
 }
 
-fn snapped(alloc: Global) -> Result<Change, Memory>
+pub(super) fn snapped(alloc: Global) -> Result<Change, Memory>
     ensures { IfOk result (λ c. IsTrue (in_grammar c)) }
 {
     let reference = Ref {
@@ -174,7 +174,7 @@ fn snapped(alloc: Global) -> Result<Change, Memory>
     })
 }
 
-fn chose(alloc: Global) -> Result<Change, Memory>
+pub(super) fn chose(alloc: Global) -> Result<Change, Memory>
     ensures { IfOk result (λ c. IsTrue (in_grammar c)) }
 {
     let candidate = Candidate {
@@ -189,7 +189,7 @@ fn chose(alloc: Global) -> Result<Change, Memory>
 }
 
 /// Peer 2 is chosen, and has slots here as in `with_slots`; the own chunk is wanted.
-fn with_own(rt: &impl Abort, alloc: Global) -> Result<Ledger, Memory> {
+pub(super) fn with_own(rt: &impl Abort, alloc: Global) -> Result<Ledger, Memory> {
     let mut ledger = with_slots(rt, alloc)?;
     make(rt, &mut ledger, kept())?;
     make(rt, &mut ledger, snapped(alloc)?)?;
@@ -197,7 +197,7 @@ fn with_own(rt: &impl Abort, alloc: Global) -> Result<Ledger, Memory> {
     Ok(ledger)
 }
 
-fn proposed_fresh() -> Change
+pub(super) fn proposed_fresh() -> Change
     ensures { IsTrue (in_grammar result) }
 {
     Change::Proposed {
@@ -207,7 +207,7 @@ fn proposed_fresh() -> Change
     }
 }
 
-fn proposed_swap(alloc: Global) -> Result<Change, Memory>
+pub(super) fn proposed_swap(alloc: Global) -> Result<Change, Memory>
     ensures { IfOk result (λ c. IsTrue (in_grammar c)) }
 {
     Ok(Change::Proposed {
@@ -220,7 +220,7 @@ fn proposed_swap(alloc: Global) -> Result<Change, Memory>
     })
 }
 
-fn proposed_cancel(alloc: Global) -> Result<Change, Memory>
+pub(super) fn proposed_cancel(alloc: Global) -> Result<Change, Memory>
     ensures { IfOk result (λ c. IsTrue (in_grammar c)) }
 {
     Ok(Change::Proposed {
@@ -247,7 +247,7 @@ fn proposed_put_back() -> Change
 }
 
 /// The own chunk is stored against the slots 20 and 21.
-fn settled(alloc: Global) -> Result<Change, Memory>
+pub(super) fn settled(alloc: Global) -> Result<Change, Memory>
     ensures { IfOk result (λ c. IsTrue (in_grammar c)) }
 {
     Ok(Change::Settled {
@@ -258,14 +258,14 @@ fn settled(alloc: Global) -> Result<Change, Memory>
     })
 }
 
-fn forgot() -> Change
+pub(super) fn forgot() -> Change
     ensures { IsTrue (in_grammar result) }
 {
     Change::Forgot { number: 1 }
 }
 
 /// The own chunk stands with the peer, and is wanted no longer.
-fn with_placed(rt: &impl Abort, alloc: Global) -> Result<Ledger, Memory> {
+pub(super) fn with_placed(rt: &impl Abort, alloc: Global) -> Result<Ledger, Memory> {
     let mut ledger = with_own(rt, alloc)?;
     make(rt, &mut ledger, proposed_fresh())?;
     make(rt, &mut ledger, settled(alloc)?)?;

@@ -1,6 +1,6 @@
 //! What a node makes of an input. Nothing is written here.
 
-ghost use Rattle.std.specs.Prelude.{◌≡◌, ◌⊎◌, ◌≤◌, ◌<◌, ◌^◌, [], List, Bool, ℕ, true, false, length, Some, None, is_some, IfSome, IfOk, OnOk, OnErr};
+ghost use Rattle.std.specs.Prelude.{◌≡◌, ◌⊎◌, ◌≤◌, ◌<◌, ◌^◌, [], List, Bool, ℕ, true, false, length, Some, None, IfSome, IfOk, OnOk, OnErr};
 ghost use Rattle.psb_digest.specs.Clashes.{Pair};
 ghost use Rattle.psb_model.specs.History.{state};
 ghost use Rattle.psb_station.specs.Span.{Tells_bytes, Looked};
@@ -67,7 +67,7 @@ impl<L: Log> Node<L> {
     {
         match input {
             Input::Frame(datagram) => self.on_datagram(disk, datagram),
-            Input::Tick(_) => Ok(quiet(self.alloc, None)),
+            Input::Tick(peer) => self.on_tick(disk, *peer),
             Input::Keep(sealed) => self.on_keep(disk, &sealed.reference().name, sealed.body()),
             Input::Snap(note) => self.on_snap(note),
             Input::Forget(number) => self.on_forget(*number),

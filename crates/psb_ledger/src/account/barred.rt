@@ -1,4 +1,4 @@
-//! The names of own deals that a peer turned down for good.
+//! The names of own deals that a peer turned down.
 
 ghost use Rattle.std.specs.Prelude.{◌≡◌, ◌≤◌, ◌++◌, ◌∷◌, [], OnOk};
 ghost use Rattle.psb_ledger.specs.OwnDeals.{number_of, latest_number};
@@ -8,7 +8,7 @@ use std::alloc::Global;
 use std::collections::BTreeMap;
 use std::marker::Model;
 
-/// A name that was turned down for good, and the number of the change that says so.
+/// A name that was turned down, and the number of the change that says so.
 #[derive(Clone, Copy)]
 pub struct Barring {
     name: Digest,
@@ -48,7 +48,7 @@ impl Barred {
         }
     }
 
-    /// The number of the first change that barred the name.
+    /// The number of the first change that turned the name down.
     pub fn number_of(&self, name: &Digest) -> Option<u64>
         ensures { result ≡ number_of self.now.items name.now }
     {

@@ -1,9 +1,9 @@
 //! What an account keeps of the node's own deals with its peer.
 
-ghost use Rattle.std.specs.Prelude.{◌≡◌, ◌≤◌, ◌++◌, ◌∷◌, ◌-◌, vec_len, vec_capacity, [], true, OnOk, IfSome, None, Some, map, option_to_list};
+ghost use Rattle.std.specs.Prelude.{◌≡◌, ◌≤◌, ◌++◌, ◌∷◌, [], true, OnOk, IfSome, None, Some, map, option_to_list};
 ghost use Rattle.std.specs.Option.{option_copied};
 ghost use Rattle.psb_bytes.specs.declared.ids.Object.TheVariants.{Chunk, Slot};
-ghost use Rattle.psb_model.specs.Words.{listed};
+ghost use Rattle.psb_model.specs.Words.{listed, name_listed};
 ghost use Rattle.psb_model.specs.Grammar.{what_in_grammar};
 ghost use Rattle.psb_model.specs.State.{out_ties, in_ties, ties_in, ties_out};
 ghost use Rattle.psb_model.specs.Conditions.{is_pending};
@@ -24,17 +24,17 @@ pub struct OwnDeals {
     pending: Option<Deal>,
     mine: u64,
     barred: Barred,
-    turned_cancels: Vec<Digest>,
+    turned_cancels: Barred,
 }
 
 impl Model for OwnDeals {
-    ghost use Rattle.std.specs.Prelude.{◌≡◌, ◌-◌, true, vec_len, vec_capacity};
+    ghost use Rattle.std.specs.Prelude.{◌≡◌, true};
     ghost use Rattle.psb_ledger.specs.View.{OwnDealsView};
-    ghost use Rattle.psb_ledger.specs.OwnDeals.{pending_listed};
+    ghost use Rattle.psb_ledger.specs.OwnDeals.{pending_listed, names_of};
 
     ghost Value = { OwnDealsView };
 
-    ghost view = { λ o. record { pending = o.pending; mine = o.mine; barred = o.barred.items; turned_cancels = o.turned_cancels.items; barred_room = o.barred.room; cancel_room = vec_capacity o.turned_cancels - vec_len o.turned_cancels } };
+    ghost view = { λ o. record { pending = o.pending; mine = o.mine; barred = o.barred.items; turned_cancels = names_of o.turned_cancels.items; barred_room = o.barred.room; cancel_room = o.turned_cancels.room } };
 
     ghost invariant = { λ o. pending_listed o.pending ≡ true };
 }
@@ -106,23 +106,13 @@ fn ties_here(peer: PeerId, what: &DealWhat, holder: PeerId, object: &Object) -> 
     }
 }
 
-/// Bars a name, if there is one.
+/// Puts a name behind the others, if there is one.
 fn bar(barred: &mut Barred, name: Option<Digest>, change: u64)
     requires { 1 ≤ barred.old.room }
     ensures { barred.new.items ≡ barred.old.items ++ map (λ n. (n, change)) (option_to_list name) }
 {
     if let Some(n) = name {
         barred.push(n, change);
-    }
-}
-
-/// Puts a name behind the others, if there is one.
-fn push_name(names: &mut Vec<Digest>, name: Option<Digest>)
-    requires { 1 ≤ vec_capacity names.old - vec_len names.old }
-    ensures { names.new.items ≡ names.old.items ++ option_to_list name }
-{
-    if let Some(n) = name {
-        names.push(n).unwrap();
     }
 }
 
@@ -138,7 +128,7 @@ impl OwnDeals {
             pending: None,
             mine: 0,
             barred: Barred::new(alloc),
-            turned_cancels: Vec::new(alloc),
+            turned_cancels: Barred::new(alloc),
         }
     }
 
@@ -259,8 +249,7 @@ impl OwnDeals {
         ensures cancel_room { OnOk result (1 ≤ self.new.cancel_room) }
     {
         self.barred.reserve()?;
-        self.turned_cancels.try_reserve(1)?;
-        Ok(())
+        self.turned_cancels.reserve()
     }
 
     pub fn propose(&mut self, deal: Deal)
@@ -302,8 +291,16 @@ impl OwnDeals {
         if 2 <= why && why <= 4 {
             bar(&mut self.barred, named, change);
         }
-        push_name(&mut self.turned_cancels, cancelled);
+        bar(&mut self.turned_cancels, cancelled, change);
         self.pending = None;
+    }
+
+    /// Whether the peer turned down a Cancel of the chunk before.
+    pub fn is_cancel_turned(&self, name: &Digest) -> bool
+        ensures { result ≡ name_listed self.now.turned_cancels name.now }
+    {
+        let _mine = self.mine;
+        self.turned_cancels.number_of(name).is_some()
     }
 
     /// The chunk that a pending Cancel names.

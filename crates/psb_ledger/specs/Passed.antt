@@ -1,0 +1,108 @@
+-- How far the next own deal with each peer was looked for: there it is not looked for again.
+use Rattle.std.specs.Prelude.{◌≡◌, ℕ, nat_le, Bool, true, false, not, ◌&&◌, ◌==◌, if◌then◌else◌, List, [], ◌∷◌, map, filter, length, drop, Option, Some, None}
+use Rattle.std.specs.List.{prefix_len}
+use Rattle.std.specs.Ordering.{is_lt}
+use Rattle.psb_bytes.specs.Objects.{object_cmp}
+use Rattle.psb_bytes.specs.declared.ids.Object.{Object}
+use Rattle.psb_bytes.specs.declared.ids.Object.TheVariants.{Chunk, Slot}
+use Rattle.psb_model.specs.declared.entries.OutEntry.{OutEntry}
+use Rattle.psb_model.specs.declared.entries.OwnEntry.{OwnEntry}
+use Rattle.psb_model.specs.declared.deals.Deal.{Deal}
+use Rattle.psb_model.specs.declared.deals.DealWhat.TheVariants.{Fresh, Swap, Cancel, PutBack}
+use Rattle.psb_model.specs.declared.change.Change.{Change}
+use Rattle.psb_model.specs.declared.change.Change.TheVariants.{TookFresh, TookSwap, LetGo, LetGoBack, Refused, Proposed, Settled, Turned, Chose}
+use Rattle.psb_model.specs.Words.{units}
+use Rattle.psb_model.specs.State.{State, row, out_key, own_marked}
+use Rattle.psb_model.specs.Proposing.{none_marked, none_missing}
+use Rattle.psb_ledger.specs.OwnList.{is_behind}
+use Rattle.psb_ledger.specs.View.{LedgerView}
+use Rattle.psb_ledger.specs.declared.passed.Passed.{Passed}
+use Rattle.psb_ledger.specs.declared.passed.Restarts.{Restarts}
+use Rattle.psb_ledger.specs.declared.passed.Restarts.TheVariants.{Nothing, All, Marked, Missing}
+
+-- the name is not behind the place; and such an own chunk has no more than so many units
+abbrev pub is_past : Option (List ℕ) → List ℕ → Bool
+is_past place n = not (is_behind place n)
+
+abbrev pub is_past_own : Option (List ℕ) → ℕ → OwnEntry → Bool
+is_past_own place most e = is_past place e.name && nat_le (units e.len) most
+
+-- nothing was looked at yet
+abbrev pub at_start : ℕ → Passed
+at_start p = record { peer = p; marked = None; missing = None; most = 0 }
+
+-- where the search with a peer stands
+abbrev pub passed_in : List Passed → ℕ → Passed
+passed_in [] p = at_start p
+passed_in (x ∷ xs) p = if x.peer == p then x else passed_in xs p
+
+-- up to there nothing was found
+pub record IsPassed (s : State) (l : List Passed) : Type 0 where
+  pub marked : (q : ℕ) → none_marked (is_past (passed_in l q).marked) s.own (row s q).outs ≡ true
+  pub missing : (q : ℕ) → none_missing (is_past_own (passed_in l q).missing (passed_in l q).most) s q ≡ true
+
+-- what a ledger keeps: its accounts are in blocks
+pub record IsLedger (v : LedgerView) (l : List Passed) : Type 0 where
+  pub in_blocks : v.in_blocks ≡ true
+  pub passed : IsPassed v.state l
+
+-- What a change starts anew: a deal that is settled may place a marked chunk, or take one away that is wanted again;
+-- and what keeps, makes or forgets a snapshot may mark and want any.
+abbrev pub settled_restarts : State → ℕ → Option Deal → Restarts
+settled_restarts s p None = Nothing
+settled_restarts s p (Some d) = elim d.what [
+  | Fresh name ↦ if own_marked s.own name then Marked p else Nothing
+  | Swap name numbers ↦ if own_marked s.own name then Marked p else Nothing
+  | Cancel name numbers ↦ Missing p
+  | PutBack name first ↦ Missing p
+  | _ ↦ Nothing
+]
+
+abbrev pub restarts_of : State → Change → Restarts
+restarts_of s (TookFresh p deal name first len new body) = Nothing
+restarts_of s (TookSwap p deal name numbers len new body) = Nothing
+restarts_of s (LetGo p deal name numbers) = Nothing
+restarts_of s (LetGoBack p deal name numbers body) = Nothing
+restarts_of s (Refused p deal why detail) = Nothing
+restarts_of s (Proposed p deal what) = Nothing
+restarts_of s (Settled p deal numbers body) = settled_restarts s p (row s p).pending
+restarts_of s (Turned p deal why detail) = Nothing
+restarts_of s (Chose candidates) = Nothing
+restarts_of s _ = All
+
+abbrev pub restarted : Restarts → ℕ → Passed → Passed
+restarted Nothing q x = x
+restarted All q x = at_start q
+restarted (Marked p) q x = if p == q then record x { marked = None } else x
+restarted (Missing p) q x = if p == q then record x { missing = None } else x
+
+abbrev pub all_restarted : Restarts → List Passed → List Passed
+all_restarted what = map (λ (x : Passed). restarted what x.peer x)
+
+-- from where a missing chunk of at most so many units is looked for
+abbrev pub missing_from : Passed → ℕ → Option (List ℕ)
+missing_from x most = if nat_le most x.most then x.missing else None
+
+-- a row in the place of its peer's
+abbrev pub with_row : Passed → Passed → Passed
+with_row x y = if y.peer == x.peer then x else y
+
+-- the entries of a list from an object on, in object order; and those of out(p) that a place has not passed
+abbrev pub from_object : {E : Type 0} → (E → Object) → Object → List E → List E
+from_object key o l = drop (prefix_len (λ e. is_lt (object_cmp (key e) o)) l) l
+
+abbrev pub outs_past : Option (List ℕ) → List OutEntry → List OutEntry
+outs_past None l = l
+outs_past (Some m) l = from_object out_key (Chunk m) l
+
+-- the first chunk of out(p) behind the place, which stands in front of all slots
+abbrev pub next_out : Option (List ℕ) → List OutEntry → Option (List ℕ)
+next_out place [] = None
+next_out place (e ∷ es) = elim e.object [ Chunk n ↦ if is_behind place n then Some n else next_out place es | Slot n ↦ None ]
+
+-- how many chunks of out(p), and of the own ones, stand behind the place
+abbrev pub outs_behind : Option (List ℕ) → List OutEntry → ℕ
+outs_behind place outs = length (filter (λ (e : OutEntry). elim e.object [ Chunk n ↦ is_behind place n | Slot n ↦ false ]) outs)
+
+abbrev pub own_behind : Option (List ℕ) → List OwnEntry → ℕ
+own_behind place own = length (filter (λ (e : OwnEntry). is_behind place e.name) own)

@@ -1,0 +1,255 @@
+-- What was passed over while the next deal was looked for stays so through most changes.
+use Rattle.std.proofs.Common.{◌≡◌, ℕ, ◌+◌, Bool, true, false, not, ◌&&◌, ◌||◌, cond, List, [], ◌∷◌, ◌++◌, filter, Option, Some, None, refl, sym, ap, ◌∙◌, subst}
+use Rattle.std.specs.Prelude.{zero, suc, ◌==◌, nat_le, if◌then◌else◌}
+use Rattle.std.specs.List.{list_any, list_all}
+use Rattle.std.proofs.lemmas.Bool.{and_parts, false≢true, eqb-true}
+use Rattle.psb_bytes.specs.declared.ids.Object.{Object}
+use Rattle.psb_bytes.specs.declared.ids.Object.TheVariants.{Chunk, Slot}
+use Rattle.psb_model.specs.declared.entries.OutEntry.{OutEntry}
+use Rattle.psb_model.specs.declared.entries.OwnEntry.{OwnEntry}
+use Rattle.psb_model.specs.declared.deals.Deal.{Deal}
+use Rattle.psb_model.specs.declared.deals.DealWhat.{DealWhat}
+use Rattle.psb_model.specs.declared.deals.DealWhat.TheVariants.{Fresh, Swap, Cancel, PutBack, Forward, Return}
+use Rattle.psb_model.specs.declared.change.Change.{Change}
+use Rattle.psb_model.specs.declared.change.Change.TheVariants.{Begun, Kept, Snapped, Forgot, TookFresh, TookSwap, LetGo, LetGoBack, Refused, Proposed, Settled, Turned, Chose}
+use Rattle.psb_model.specs.Words.{units, units_at, name_eq, object_eq, listed, slots, has, with_one, with_all, without}
+use Rattle.psb_model.specs.State.{Row, State, row, row_in, is_peer, out_key, out_size, debt_key, own_has, own_len, own_marked, is_wanted, is_barred}
+use Rattle.psb_model.specs.Conditions.{peer_of}
+use Rattle.psb_model.specs.Move.{after_move}
+use Rattle.psb_model.specs.Effects.{chunk_out, own_slot, own_slots, own_after, kept_after, settle_move, all_rows_after, given_up, after}
+use Rattle.psb_model.specs.Proposing.{is_absent, is_missing, none_marked, none_missing}
+use Rattle.psb_model.specs.History.{is_built}
+use Rattle.psb_model.proofs.ByObject.{by_cases, all_with_one, all_kept}
+use Rattle.psb_model.proofs.Own.{name_same}
+use Rattle.psb_model.proofs.Held.{any_more, chunk_stays}
+use Rattle.psb_model.proofs.Built.{IsPlain, AllPlain, plain_row_in, names_apart, changed, row_then}
+
+-- ---- Bools
+
+less : (a m m' : Bool) → (m' ≡ true → m ≡ true) → not (a && m) ≡ true → not (a && m') ≡ true
+less false m m' f h = refl
+less true m false f h = refl
+less true m true f h = let h' = rw (f refl) at h in absurd (false≢true h')
+
+all_less : {E : Type 0} (t u : E → Bool) (l : List E) → ((e : E) → t e ≡ true → u e ≡ true) → list_all t l ≡ true → list_all u l ≡ true
+all_less t u [] f h = refl
+all_less t u (x ∷ xs) f h = let a = and_parts (t x) (list_all t xs) h in rw (f x a.0) (all_less t u xs f a.1)
+
+-- ---- own chunks that are left
+
+marked_left : (t : OwnEntry → Bool) (l : List OwnEntry) (n : List ℕ) → names_apart l ≡ true → own_marked (filter t l) n ≡ true → own_marked l n ≡ true
+marked_left t [] n a h = h
+marked_left t (e ∷ es) n a h =
+    let apart = and_parts (not (own_has es e.name)) (names_apart es) a in
+    by_cases (name_eq e.name n)
+    (λ k. by_cases (t e)
+    (λ j. let h' : (if name_eq e.name n then e.marked else own_marked (filter t es) n) ≡ true = rw j at h in let h'' : e.marked ≡ true = rw k at h' in rw k h'')
+    (λ j. let h' : own_marked (filter t es) n ≡ true = rw j at h in absurd (none_there es (not_own es e.name apart.0) (ap (λ m. own_marked (filter t es) m) (name_same e.name n k) ∙ h'))))
+    (λ k. rw k (marked_left t es n apart.1 (by_cases (t e)
+    (λ j. let h' : (if name_eq e.name n then e.marked else own_marked (filter t es) n) ≡ true = rw j at h in let h'' : own_marked (filter t es) n ≡ true = rw k at h' in h'')
+    (λ j. let h' : own_marked (filter t es) n ≡ true = rw j at h in h'))))
+  where
+    not_own : (l : List OwnEntry) (m : List ℕ) → not (own_has l m) ≡ true → own_has l m ≡ false
+    not_own l m h = by_cases (own_has l m) (λ k. let h' = rw k at h in absurd (false≢true h')) (λ k. k)
+
+    none_there : (l : List OwnEntry) → own_has l e.name ≡ false → own_marked (filter t l) e.name ≡ true → ⊥
+    none_there [] lacks h = false≢true h
+    none_there (x ∷ xs) lacks h =
+        by_cases (name_eq x.name e.name)
+        (λ k. let lacks' : true ≡ false = rw k at lacks in false≢true (sym lacks'))
+        (λ k. let lacks' : own_has xs e.name ≡ false = rw k at lacks in
+        by_cases (t x)
+        (λ j. let h' : (if name_eq x.name e.name then x.marked else own_marked (filter t xs) e.name) ≡ true = rw j at h in let h'' : own_marked (filter t xs) e.name ≡ true = rw k at h' in none_there xs lacks' h'')
+        (λ j. let h' : own_marked (filter t xs) e.name ≡ true = rw j at h in none_there xs lacks' h'))
+
+-- ---- the chunks there
+
+marks_fewer : (test : List ℕ → Bool) (own own' : List OwnEntry) (outs : List OutEntry) → ((n : List ℕ) → own_marked own' n ≡ true → own_marked own n ≡ true) → none_marked test own outs ≡ true → none_marked test own' outs ≡ true
+marks_fewer test own own' outs f h =
+    all_less (λ (e : OutEntry). elim e.object [ Chunk n ↦ not (test n && own_marked own n) | Slot n ↦ true ]) (λ (e : OutEntry). elim e.object [ Chunk n ↦ not (test n && own_marked own' n) | Slot n ↦ true ]) outs (λ e. by_object e.object) h
+  where
+    by_object : (o : Object) → elim o [ Chunk n ↦ not (test n && own_marked own n) | Slot n ↦ true ] ≡ true → elim o [ Chunk n ↦ not (test n && own_marked own' n) | Slot n ↦ true ] ≡ true
+    by_object (Chunk n) h = less (test n) (own_marked own n) (own_marked own' n) (f n) h
+    by_object (Slot n) h = refl
+
+none_left : (test : List ℕ → Bool) (own : List OwnEntry) (gone : List Object) (outs : List OutEntry) → none_marked test own outs ≡ true → none_marked test own (without out_key gone outs) ≡ true
+none_left test own gone outs h = all_kept (λ (e : OutEntry). elim e.object [ Chunk n ↦ not (test n && own_marked own n) | Slot n ↦ true ]) (λ (e : OutEntry). not (listed gone (out_key e))) outs h
+
+none_slots : (test : List ℕ → Bool) (own : List OwnEntry) (first u : ℕ) (outs : List OutEntry) → none_marked test own outs ≡ true → none_marked test own (with_all out_key (own_slots first u) outs) ≡ true
+none_slots test own first zero outs h = h
+none_slots test own first (suc u) outs h = none_slots test own (first + 1) u (with_one out_key (own_slot first) outs) (all_with_one out_key (λ (e : OutEntry). elim e.object [ Chunk n ↦ not (test n && own_marked own n) | Slot n ↦ true ]) (own_slot first) outs refl h)
+
+none_placed : (test : List ℕ → Bool) (own : List OwnEntry) (name : List ℕ) (u : ℕ) (outs : List OutEntry) → own_marked own name ≡ false → none_marked test own outs ≡ true → none_marked test own (with_one out_key (chunk_out name u) outs) ≡ true
+none_placed test own name u outs free h = all_with_one out_key (λ (e : OutEntry). elim e.object [ Chunk n ↦ not (test n && own_marked own n) | Slot n ↦ true ]) (chunk_out name u) outs (rw free (none (test name))) h
+  where
+    none : (a : Bool) → not (a && false) ≡ true
+    none true = refl
+    none false = refl
+
+-- ---- the chunks that are missing there
+
+-- what the row has or turned down it still has and turned down, and nothing was lost
+record RowKeeps (r r' : Row) : Type 0 where
+  outs : (n : List ℕ) → has out_key r.outs (Chunk n) ≡ true → has out_key r'.outs (Chunk n) ≡ true
+  debts : r.debts ≡ []
+  barred : (n : List ℕ) → is_barred r n ≡ true → is_barred r' n ≡ true
+
+absent_before : (r r' : Row) (n : List ℕ) → RowKeeps r r' → is_absent r' n ≡ true → is_absent r n ≡ true
+absent_before r r' n k h =
+    let a = not (has out_key r'.outs (Chunk n)) in
+    let b = not (has debt_key r'.debts (Chunk n)) in
+    let c = not (is_barred r' n) in
+    let two = and_parts (a && b) c h in
+    let one = and_parts a b two.0 in
+    rw (was (has out_key r.outs (Chunk n)) (has out_key r'.outs (Chunk n)) (k.outs n) one.0, k.debts, was (is_barred r n) (is_barred r' n) (k.barred n) two.1) refl
+  where
+    was : (x y : Bool) → (x ≡ true → y ≡ true) → not y ≡ true → not x ≡ true
+    was false y f h = refl
+    was true y f h = let h' = rw (f refl) at h in absurd (false≢true h')
+
+more_one : (e : OutEntry) (l : List OutEntry) (n : List ℕ) → has out_key l (Chunk n) ≡ true → has out_key (with_one out_key e l) (Chunk n) ≡ true
+more_one e l n h = any_more out_key (λ (x : OutEntry). object_eq (out_key x) (Chunk n)) e l ∙ ap (λ (b : Bool). b || object_eq e.object (Chunk n)) h
+
+more_slots : (first u : ℕ) (l : List OutEntry) (n : List ℕ) → has out_key l (Chunk n) ≡ true → has out_key (with_all out_key (own_slots first u) l) (Chunk n) ≡ true
+more_slots first zero l n h = h
+more_slots first (suc u) l n h = more_slots (first + 1) u (with_one out_key (own_slot first) l) n (more_one (own_slot first) l n h)
+
+slots_left : (numbers : List ℕ) (l : List OutEntry) (n : List ℕ) → has out_key l (Chunk n) ≡ true → has out_key (without out_key (slots numbers) l) (Chunk n) ≡ true
+slots_left numbers l n h = chunk_stays out_key numbers l n ∙ h
+
+any_append : (t : List ℕ × ℕ → Bool) (l m : List (List ℕ × ℕ)) → list_any t l ≡ true → list_any t (l ++ m) ≡ true
+any_append t [] m h = absurd (false≢true h)
+any_append t (x ∷ xs) m h = by_cases (t x) (λ k. rw k refl) (λ k. let h' = rw k at h in rw k (any_append t xs m h'))
+
+-- ---- a settled deal places a marked chunk, or releases one
+
+abbrev pub settles_marked : State → Option Deal → Bool
+settles_marked s None = false
+settles_marked s (Some d) = elim d.what [ Fresh name ↦ own_marked s.own name | Swap name numbers ↦ own_marked s.own name | _ ↦ false ]
+
+abbrev pub settles_release : Option Deal → Bool
+settles_release None = false
+settles_release (Some d) = elim d.what [ Cancel name numbers ↦ true | PutBack name first ↦ true | _ ↦ false ]
+
+abbrev pub places_marked : State → Change → Bool
+places_marked s (Settled p deal numbers body) = settles_marked s (row s p).pending
+places_marked s _ = false
+
+abbrev pub releases : State → Change → Bool
+releases s (Settled p deal numbers body) = settles_release (row s p).pending
+releases s _ = false
+
+settle_marks : (test : List ℕ → Bool) (s : State) (r : Row) (o : Option Deal) (numbers : List ℕ) → settles_marked s o ≡ false → none_marked test s.own r.outs ≡ true → none_marked test s.own (after_move (settle_move s r o numbers) r).outs ≡ true
+settle_marks test s r None numbers m h = none_left test s.own [] r.outs h
+settle_marks test s r (Some d) numbers m h = by_what d.what m
+  where
+    by_what : (what : DealWhat) → elim what [ Fresh name ↦ own_marked s.own name | Swap name mine ↦ own_marked s.own name | _ ↦ false ] ≡ false → none_marked test s.own (after_move (settle_move s r (Some (record { number = d.number; what = what })) numbers) r).outs ≡ true
+    by_what (Fresh name) m = none_placed test s.own name (units (own_len s.own name)) (without out_key [] r.outs) m (none_left test s.own [] r.outs h)
+    by_what (Swap name mine) m = none_placed test s.own name (units (own_len s.own name)) (without out_key (slots mine) r.outs) m (none_left test s.own (slots mine) r.outs h)
+    by_what (Cancel name theirs) m = none_left test s.own (Chunk name ∷ []) r.outs h
+    by_what (PutBack name first) m = none_slots test s.own first (units_at out_key out_size r.outs (Chunk name)) (without out_key (Chunk name ∷ []) r.outs) (none_left test s.own (Chunk name ∷ []) r.outs h)
+    by_what (Forward slot entry) m = none_left test s.own [] r.outs h
+    by_what (Return slot) m = none_left test s.own [] r.outs h
+
+settle_keeps : (s : State) (r : Row) (o : Option Deal) (numbers : List ℕ) (n : List ℕ) → settles_release o ≡ false → has out_key r.outs (Chunk n) ≡ true → has out_key (after_move (settle_move s r o numbers) r).outs (Chunk n) ≡ true
+settle_keeps s r None numbers n m h = slots_left [] r.outs n h
+settle_keeps s r (Some d) numbers n m h = by_what d.what m
+  where
+    by_what : (what : DealWhat) → elim what [ Cancel name theirs ↦ true | PutBack name first ↦ true | _ ↦ false ] ≡ false → has out_key (after_move (settle_move s r (Some (record { number = d.number; what = what })) numbers) r).outs (Chunk n) ≡ true
+    by_what (Fresh name) m = more_one (chunk_out name (units (own_len s.own name))) (without out_key [] r.outs) n (slots_left [] r.outs n h)
+    by_what (Swap name mine) m = more_one (chunk_out name (units (own_len s.own name))) (without out_key (slots mine) r.outs) n (slots_left mine r.outs n h)
+    by_what (Cancel name theirs) m = absurd (false≢true (sym m))
+    by_what (PutBack name first) m = absurd (false≢true (sym m))
+    by_what (Forward slot entry) m = slots_left [] r.outs n h
+    by_what (Return slot) m = slots_left [] r.outs n h
+
+-- ---- the row of the peer
+
+row_marks : (test : List ℕ → Bool) (s : State) (c : Change) (p : ℕ) → is_built c ≡ true → peer_of c ≡ Some p → places_marked s c ≡ false → none_marked test s.own (row s p).outs ≡ true → none_marked test s.own (changed s c (row s p)).outs ≡ true
+row_marks test s (Begun body) p b e m h = absurd (cc (e))
+row_marks test s (Kept name len new body) p b e m h = absurd (cc (e))
+row_marks test s (Snapped number ticket files folders bytes left names) p b e m h = absurd (cc (e))
+row_marks test s (Forgot number) p b e m h = absurd (cc (e))
+row_marks test s (Chose candidates) p b e m h = absurd (cc (e))
+row_marks test s (TookFresh q deal name first len new body) p b e m h = none_slots test s.own first (units len) (without out_key [] (row s p).outs) (none_left test s.own [] (row s p).outs h)
+row_marks test s (TookSwap q deal name numbers len new body) p b e m h = none_left test s.own [] (row s p).outs h
+row_marks test s (LetGo q deal name numbers) p b e m h = none_left test s.own (slots numbers) (row s p).outs h
+row_marks test s (LetGoBack q deal name numbers body) p b e m h = none_left test s.own [] (row s p).outs h
+row_marks test s (Refused q deal why detail) p b e m h = none_left test s.own [] (row s p).outs h
+row_marks test s (Proposed q deal what) p b e m h = none_left test s.own [] (row s p).outs h
+row_marks test s (Turned q deal why detail) p b e m h = none_left test s.own [] (row s p).outs h
+row_marks test s (Settled q deal numbers body) p b e m h =
+    let same : q ≡ p = cc (e) in
+    let m' = subst (λ x. settles_marked s (row s x).pending ≡ false) same m in
+    subst (λ x. none_marked test s.own (after_move (settle_move s (row s x) (row s x).pending numbers) (row s p)).outs ≡ true) (sym same) (settle_marks test s (row s p) (row s p).pending numbers m' h)
+row_marks test s _ p b e m h = absurd (false≢true b)
+
+row_keeps : (s : State) (c : Change) (p : ℕ) → AllPlain s.own s.rows → is_built c ≡ true → peer_of c ≡ Some p → releases s c ≡ false → RowKeeps (row s p) (changed s c (row s p))
+row_keeps s (Begun body) p plain b e m = absurd (cc (e))
+row_keeps s (Kept name len new body) p plain b e m = absurd (cc (e))
+row_keeps s (Snapped number ticket files folders bytes left names) p plain b e m = absurd (cc (e))
+row_keeps s (Forgot number) p plain b e m = absurd (cc (e))
+row_keeps s (Chose candidates) p plain b e m = absurd (cc (e))
+row_keeps s (TookFresh q deal name first len new body) p plain b e m = record { outs = λ n h. more_slots first (units len) (without out_key [] (row s p).outs) n (slots_left [] (row s p).outs n h); debts = (plain_row_in s.own s.rows p plain).debts; barred = λ n h. h }
+row_keeps s (TookSwap q deal name numbers len new body) p plain b e m = record { outs = λ n h. slots_left [] (row s p).outs n h; debts = (plain_row_in s.own s.rows p plain).debts; barred = λ n h. h }
+row_keeps s (LetGo q deal name numbers) p plain b e m = record { outs = λ n h. slots_left numbers (row s p).outs n h; debts = (plain_row_in s.own s.rows p plain).debts; barred = λ n h. h }
+row_keeps s (LetGoBack q deal name numbers body) p plain b e m = record { outs = λ n h. slots_left [] (row s p).outs n h; debts = (plain_row_in s.own s.rows p plain).debts; barred = λ n h. h }
+row_keeps s (Refused q deal why detail) p plain b e m = record { outs = λ n h. slots_left [] (row s p).outs n h; debts = (plain_row_in s.own s.rows p plain).debts; barred = λ n h. h }
+row_keeps s (Proposed q deal what) p plain b e m = record { outs = λ n h. slots_left [] (row s p).outs n h; debts = (plain_row_in s.own s.rows p plain).debts; barred = λ n h. h }
+row_keeps s (Turned q deal why detail) p plain b e m = record {
+  outs = λ n h. slots_left [] (row s p).outs n h;
+  debts = (plain_row_in s.own s.rows p plain).debts;
+  barred = λ n h. by_cases (nat_le 2 why && nat_le why 4) (λ k. rw k (any_append (λ (x : List ℕ × ℕ). name_eq x.0 n) (row s p).barred _ h)) (λ k. rw k h);
+}
+row_keeps s (Settled q deal numbers body) p plain b e m =
+    let same : q ≡ p = cc (e) in
+    let m' = subst (λ x. settles_release (row s x).pending ≡ false) same m in
+    record {
+      outs = λ n h. subst (λ x. has out_key (after_move (settle_move s (row s x) (row s x).pending numbers) (row s p)).outs (Chunk n) ≡ true) (sym same) (settle_keeps s (row s p) (row s p).pending numbers n m' h);
+      debts = (plain_row_in s.own s.rows p plain).debts;
+      barred = λ n h. h;
+    }
+row_keeps s _ p plain b e m = absurd (false≢true b)
+
+-- ---- the state after a change that leaves own chunks and snapshots, but for what is given up
+
+fewer_marked : (s : State) (c : Change) (n : List ℕ) → IsPlain s → own_after s c ≡ s.own → own_marked (after s c).own n ≡ true → own_marked s.own n ≡ true
+fewer_marked s c n plain same h = marked_left _ s.own n plain.apart (ap (λ (l : List OwnEntry). own_marked (given_up (all_rows_after s c) l) n) (sym same) ∙ h)
+
+missing_left : (test : OwnEntry → Bool) (s : State) (c : Change) (q : ℕ) → own_after s c ≡ s.own → kept_after s c ≡ s.kept → ((n : List ℕ) → is_absent (row (after s c) q) n ≡ true → is_absent (row s q) n ≡ true) → none_missing test s q ≡ true → none_missing test (after s c) q ≡ true
+missing_left test s c q own kept before h =
+    let wanted : (n : List ℕ) → is_wanted (after s c) n ≡ is_wanted s n = λ n. ap (λ k. is_wanted (record s { kept = k }) n) kept in
+    let was : (n : List ℕ) → is_missing (after s c) q n ≡ true → is_missing s q n ≡ true = λ n m.
+    let two = and_parts (is_wanted (after s c) n) (is_absent (row (after s c) q) n) m in rw (sym (wanted n) ∙ two.0, before n two.1) refl in
+    subst (λ (l : List OwnEntry). list_all (λ (e : OwnEntry). not (test e && is_missing (after s c) q e.name)) (given_up (all_rows_after s c) l) ≡ true) (sym own)
+    (all_kept (λ (e : OwnEntry). not (test e && is_missing (after s c) q e.name)) _ s.own
+    (all_less (λ (e : OwnEntry). not (test e && is_missing s q e.name)) (λ (e : OwnEntry). not (test e && is_missing (after s c) q e.name)) s.own (λ e m. less (test e) (is_missing s q e.name) (is_missing (after s c) q e.name) (was e.name) m) h))
+
+-- ---- after a change of a peer, for that peer and any other
+
+pub still_unmarked : (test : List ℕ → Bool) (s : State) (c : Change) (p q : ℕ) → IsPlain s → is_built c ≡ true → peer_of c ≡ Some p → is_peer s p ≡ true → own_after s c ≡ s.own → ((p == q) ≡ true → places_marked s c ≡ false) → none_marked test s.own (row s q).outs ≡ true → none_marked test (after s c).own (row (after s c) q).outs ≡ true
+still_unmarked test s c p q plain b e here own m h =
+    marks_fewer test s.own (after s c).own (row (after s c) q).outs (λ n k. fewer_marked s c n plain own k)
+    (subst (λ (r : Row). none_marked test s.own r.outs ≡ true) (sym (row_then s c p q plain.rows b e here))
+    (by_cases (p == q)
+    (λ k. let same : p ≡ q = eqb-true p q k in rw k (subst (λ x. none_marked test s.own (changed s c (row s x)).outs ≡ true) same (row_marks test s c p b e (m k) (subst (λ x. none_marked test s.own (row s x).outs ≡ true) (sym same) h))))
+    (λ k. rw k h)))
+
+pub still_not_missing : (test : OwnEntry → Bool) (s : State) (c : Change) (p q : ℕ) → IsPlain s → is_built c ≡ true → peer_of c ≡ Some p → is_peer s p ≡ true → own_after s c ≡ s.own → kept_after s c ≡ s.kept → ((p == q) ≡ true → releases s c ≡ false) → none_missing test s q ≡ true → none_missing test (after s c) q ≡ true
+still_not_missing test s c p q plain b e here own kept m h =
+    missing_left test s c q own kept
+    (λ n k. by_cases (p == q)
+    (λ j. let same : p ≡ q = eqb-true p q j in
+    let row_is : row (after s c) q ≡ changed s c (row s q) = row_then s c p q plain.rows b e here ∙ ap (λ (x : Bool). cond x (changed s c (row s q)) (row s q)) j in
+    absent_before (row s q) (changed s c (row s q)) n (subst (λ x. RowKeeps (row s x) (changed s c (row s x))) same (row_keeps s c p plain.rows b e (m j))) (ap (λ (r : Row). is_absent r n) (sym row_is) ∙ k))
+    (λ j. let row_is : row (after s c) q ≡ row s q = row_then s c p q plain.rows b e here ∙ ap (λ (x : Bool). cond x (changed s c (row s q)) (row s q)) j in ap (λ (r : Row). is_absent r n) (sym row_is) ∙ k))
+    h
+
+-- and after one of no peer that leaves rows, own chunks and snapshots
+pub chosen_unmarked : (test : List ℕ → Bool) (s : State) (c : Change) (q : ℕ) → IsPlain s → own_after s c ≡ s.own → all_rows_after s c ≡ s.rows → none_marked test s.own (row s q).outs ≡ true → none_marked test (after s c).own (row (after s c) q).outs ≡ true
+chosen_unmarked test s c q plain own rows h =
+    marks_fewer test s.own (after s c).own (row (after s c) q).outs (λ n k. fewer_marked s c n plain own k)
+    (subst (λ (l : List (ℕ × Row)). none_marked test s.own (row_in l q).outs ≡ true) (sym rows) h)
+
+pub chosen_not_missing : (test : OwnEntry → Bool) (s : State) (c : Change) (q : ℕ) → own_after s c ≡ s.own → kept_after s c ≡ s.kept → all_rows_after s c ≡ s.rows → none_missing test s q ≡ true → none_missing test (after s c) q ≡ true
+chosen_not_missing test s c q own kept rows h = missing_left test s c q own kept (λ n k. ap (λ (l : List (ℕ × Row)). is_absent (row_in l q) n) (sym rows) ∙ k) h
