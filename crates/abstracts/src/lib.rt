@@ -1,0 +1,12 @@
+//! Samples of names: the least by their hashes under a salt (Pastiche, OSDI 2002: abstracts), and how many of
+//! them a peer says that it holds.
+#![tactic(auto)]
+
+mod bits;
+mod least;
+
+pub use bits::coverage;
+pub use least::abstract_of;
+
+#[cfg(test)]
+mod tests;

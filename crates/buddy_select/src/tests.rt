@@ -1,0 +1,39 @@
+ghost use Rattle.std.specs.Prelude.{◌≡◌};
+
+use crate::{Candidate, select};
+use psb_bytes::PeerId;
+use std::test::Fail;
+
+fn candidate(peer: u32, got: u32, of: u32, hops: u32) -> Candidate
+    ensures { result ≡ record { peer = peer; got = got; of = of; hops = hops } }
+{
+    Candidate {
+        peer: PeerId(peer),
+        got,
+        of,
+        hops,
+    }
+}
+
+#[test]
+fn the_greater_share_then_fewer_hops_then_the_lesser_id(rt: HostRuntime) -> Result<(), Fail> {
+    let candidates = [
+        candidate(7, 1, 2, 1),
+        candidate(6, 16, 32, 0),
+        candidate(5, 2, 3, 9),
+        candidate(4, 5, 10, 1),
+        candidate(3, 0, 32, 0),
+        candidate(2, 3, 4, 9),
+    ];
+    let chosen = select(rt.alloc(), &candidates, 4)?;
+    let order = chosen.ordered.as_slice();
+    assert_eq!(&rt; order.len(), 6);
+    assert_eq!(&rt; order[0].peer, PeerId(2));
+    assert_eq!(&rt; order[1].peer, PeerId(5));
+    assert_eq!(&rt; order[2].peer, PeerId(6));
+    assert_eq!(&rt; order[3].peer, PeerId(4));
+    assert_eq!(&rt; order[4].peer, PeerId(7));
+    assert_eq!(&rt; order[5].peer, PeerId(3));
+    assert_eq!(&rt; chosen.count, 4);
+    Ok(())
+}
