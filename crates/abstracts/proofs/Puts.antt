@@ -5,7 +5,7 @@ use Rattle.abstracts.specs.declared.least.Salted.{Salted}
 use Rattle.std.proofs.lemmas.List.{take_more, map-append}
 use Rattle.abstracts.specs.Least.{under_salt, comes_before, put_in, put_all, place_in}
 
-by_test : {A : Type 0} (b : Bool) → (b ≡ true → A) → (b ≡ false → A) → A
+pub by_test : {A : Type 0} (b : Bool) → (b ≡ true → A) → (b ≡ false → A) → A
 by_test true f g = f refl
 by_test false f g = g refl
 

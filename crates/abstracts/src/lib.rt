@@ -3,9 +3,11 @@
 #![tactic(auto)]
 
 mod bits;
+mod laws;
 mod least;
 
 pub use bits::coverage;
+pub use laws::abstracts_are_the_least;
 pub use least::abstract_of;
 
 #[cfg(test)]

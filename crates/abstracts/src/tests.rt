@@ -36,6 +36,13 @@ fn the_least_under_a_salt_come_in_order(rt: HostRuntime) -> Result<(), Fail> {
 }
 
 #[test]
+fn of_no_names_there_is_no_abstract(rt: HostRuntime) -> Result<(), Fail> {
+    let none = abstract_of(rt.alloc(), &[], &salt(), 32)?;
+    assert_eq!(&rt; none.as_slice().len(), 0);
+    Ok(())
+}
+
+#[test]
 fn only_the_lowest_bits_count(rt: HostRuntime) {
     assert_eq!(&rt; coverage(0b1011, 0), 0);
     assert_eq!(&rt; coverage(0b1011, 1), 1);

@@ -1,5 +1,5 @@
 -- Candidates put in order stand in order, and are all there.
-use Rattle.std.proofs.Common.{◌≡◌, ℕ, ◌+◌, ◌<◌, ◌≤◌, Bool, true, false, not, ◌==◌, List, [], ◌∷◌, ◌++◌, length, take, get_or, refl, sym, ◌∙◌, ap, subst, arith}
+use Rattle.std.proofs.Common.{◌≡◌, ℕ, suc, ◌+◌, ◌<◌, ◌≤◌, Bool, true, false, not, ◌==◌, List, [], ◌∷◌, ◌++◌, length, take, get_or, refl, sym, ◌∙◌, ap, subst, arith}
 use Rattle.std.specs.Prelude.{nat_le, insert}
 use Rattle.std.specs.List.{list_all, list_any}
 use Rattle.std.specs.List.Sorted.{IsPermutation}
@@ -7,7 +7,7 @@ use Rattle.std.proofs.lemmas.List.Sorted.{IsPermutation-trans, IsPermutation-ins
 use Rattle.std.proofs.lemmas.Bool.{and_parts, leb-true, eqb-true, eq-eqb, true≢false}
 use Rattle.std.proofs.lemmas.List.{take_more}
 use Rattle.psb_model.specs.declared.entries.Candidate.{Candidate}
-use Rattle.psb_model.specs.Candidates.{comes_before, distinct_peers}
+use Rattle.psb_model.specs.Candidates.{comes_before, in_select_order, distinct_peers}
 use Rattle.buddy_select.specs.Order.{put_in, put_all, place_in}
 use Rattle.buddy_select.specs.Choice.{stand_in_order}
 use Rattle.buddy_select.proofs.Shares.{by_test, comes_then, one_first}
@@ -46,7 +46,7 @@ abbrev apart : Candidate → Candidate → Bool
 apart x y = not (y.peer == x.peer)
 
 -- what holds of it and of all holds of all with it
-put_holds : (p : Candidate → Bool) (x : Candidate) (l : List Candidate) → p x ≡ true → list_all p l ≡ true → list_all p (put_in x l) ≡ true
+pub put_holds : (p : Candidate → Bool) (x : Candidate) (l : List Candidate) → p x ≡ true → list_all p l ≡ true → list_all p (put_in x l) ≡ true
 put_holds p x [] h k = rw h refl
 put_holds p x (y ∷ ys) h k =
     let a = and_parts (p y) (list_all p ys) k in
@@ -104,3 +104,73 @@ bare_apart (x ∷ xs) = bare_apart xs
 
 pub put_in_order : (xs : List Candidate) → list_all asked xs ≡ true → distinct_peers xs ≡ true → stand_in_order (put_all [] xs) ≡ true
 put_in_order xs more one = order_all [] xs refl more one (bare_apart xs) refl
+
+-- each comes before the next
+pub next_in_order : (l : List Candidate) → stand_in_order l ≡ true → in_select_order l ≡ true
+next_in_order [] h = refl
+next_in_order (x ∷ []) h = refl
+next_in_order (x ∷ y ∷ ys) h =
+    let k = and_parts (list_all (comes_before x) (y ∷ ys)) (stand_in_order (y ∷ ys)) h in
+    let a = and_parts (comes_before x y) (list_all (comes_before x) ys) k.0 in
+    rw a.0 (next_in_order (y ∷ ys) k.1)
+
+-- ---- what they have stays
+
+-- what holds of each that comes holds of each in order
+pub all_hold : (p : Candidate → Bool) (l xs : List Candidate) → list_all p l ≡ true → list_all p xs ≡ true → list_all p (put_all l xs) ≡ true
+all_hold p l [] h k = h
+all_hold p l (x ∷ xs) h k = let a = and_parts (p x) (list_all p xs) k in all_hold p (put_in x l) xs (put_holds p x l a.0 h) a.1
+
+put_longer : (x : Candidate) (l : List Candidate) → length (put_in x l) ≡ suc (length l)
+put_longer x [] = refl
+put_longer x (y ∷ ys) = by_test (comes_before x y) (λ k. rw k refl) (λ k. rw k (ap suc (put_longer x ys)))
+
+all_long : (l xs : List Candidate) → length (put_all l xs) ≡ length l + length xs
+all_long l [] = omega arith
+all_long l (x ∷ xs) = omega (arith, all_long (put_in x l) xs, put_longer x l)
+
+-- they are as many
+pub put_long : (xs : List Candidate) → length (put_all [] xs) ≡ length xs
+put_long xs = omega (arith, all_long [] xs)
+
+abbrev unlike : Candidate → Candidate → Bool
+unlike x y = not (x.peer == y.peer)
+
+turned : (x y : Candidate) → apart x y ≡ true → unlike x y ≡ true
+turned x y h = by_test (x.peer == y.peer) (λ e. absurd (true≢false (sym (eq-eqb y.peer x.peer (sym (eqb-true x.peer y.peer e))) ∙ not_true (y.peer == x.peer) h))) (λ e. rw e refl)
+
+all_turned : (x : Candidate) (l : List Candidate) → list_all (apart x) l ≡ true → list_all (unlike x) l ≡ true
+all_turned x [] h = refl
+all_turned x (y ∷ ys) h = let a = and_parts (apart x y) (list_all (apart x) ys) h in rw (turned x y a.0) (all_turned x ys a.1)
+
+none_like : (x : Candidate) (l : List Candidate) → list_all (unlike x) l ≡ true → not (list_any (λ (y : Candidate). x.peer == y.peer) l) ≡ true
+none_like x [] h = refl
+none_like x (y ∷ ys) h = let a = and_parts (unlike x y) (list_all (unlike x) ys) h in rw (not_true (x.peer == y.peer) a.0) (none_like x ys a.1)
+
+all_unlike : (x : Candidate) (l : List Candidate) → not (list_any (λ (y : Candidate). x.peer == y.peer) l) ≡ true → list_all (unlike x) l ≡ true
+all_unlike x [] h = refl
+all_unlike x (y ∷ ys) h =
+    by_test (x.peer == y.peer)
+    (λ e. let wrong : false ≡ true = rw e at h in absurd (true≢false (sym wrong)))
+    (λ e. let less : not (list_any (λ (z : Candidate). x.peer == z.peer) ys) ≡ true = rw e at h in rw e (all_unlike x ys less))
+
+distinct_put : (x : Candidate) (l : List Candidate) → list_all (apart x) l ≡ true → distinct_peers l ≡ true → distinct_peers (put_in x l) ≡ true
+distinct_put x [] h d = refl
+distinct_put x (y ∷ ys) h d =
+    let a = and_parts (apart x y) (list_all (apart x) ys) h in
+    let two = and_parts (not (list_any (λ (z : Candidate). y.peer == z.peer) ys)) (distinct_peers ys) d in
+    by_test (comes_before x y)
+    (λ b. rw b (rw (none_like x (y ∷ ys) (all_turned x (y ∷ ys) h)) d))
+    (λ b. rw b (rw (none_like y (put_in x ys) (put_holds (unlike y) x ys a.0 (all_unlike y ys two.0))) (distinct_put x ys a.1 two.1)))
+
+distinct_all : (l xs : List Candidate) → distinct_peers l ≡ true → distinct_peers xs ≡ true → all_apart l xs ≡ true → distinct_peers (put_all l xs) ≡ true
+distinct_all l [] d one other = d
+distinct_all l (x ∷ xs) d one other =
+    let k = and_parts (not (list_any (λ (y : Candidate). x.peer == y.peer) xs)) (distinct_peers xs) one in
+    let o = and_parts (list_all (apart x) l) (all_apart l xs) other in
+    let none = not_true (list_any (λ (y : Candidate). x.peer == y.peer) xs) k.0 in
+    distinct_all (put_in x l) xs (distinct_put x l o.0 d) k.1 (apart_put x l xs none o.1)
+
+-- no peer is listed twice
+pub put_distinct : (xs : List Candidate) → distinct_peers xs ≡ true → distinct_peers (put_all [] xs) ≡ true
+put_distinct xs one = distinct_all [] xs refl one (bare_apart xs)

@@ -42,7 +42,8 @@ fn put_all(alloc: Global, candidates: &[Candidate]) -> Result<CandidateList, Mem
 pub fn select(alloc: Global, candidates: &[Candidate], n: u32) -> Result<Chosen, Memory>
     requires asked { were_asked candidates.now }
     requires distinct { distinct_peers candidates.now ≡ true }
-    ensures { IfOk result (λ c. IsChoice candidates.now c.ordered n c.count) }
+    ensures choice { IfOk result (λ c. IsChoice candidates.now c.ordered n c.count) }
+    ensures order { IfOk result (λ c. c.ordered ≡ put_all [] candidates.now) }
 {
     let ordered = put_all(alloc, candidates)?;
     let count = candidates.len().min(n as usize) as u32;

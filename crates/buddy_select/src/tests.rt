@@ -37,3 +37,28 @@ fn the_greater_share_then_fewer_hops_then_the_lesser_id(rt: HostRuntime) -> Resu
     assert_eq!(&rt; chosen.count, 4);
     Ok(())
 }
+
+#[test]
+fn of_equal_shares_the_nearer_come_first(rt: HostRuntime) -> Result<(), Fail> {
+    let candidates = [
+        candidate(5, 3, 4, 2),
+        candidate(4, 3, 4, 1),
+        candidate(3, 1, 4, 0),
+    ];
+    let chosen = select(rt.alloc(), &candidates, 2)?;
+    let order = chosen.ordered.as_slice();
+    assert_eq!(&rt; order.len(), 3);
+    assert_eq!(&rt; order[0].peer, PeerId(4));
+    assert_eq!(&rt; order[1].peer, PeerId(5));
+    assert_eq!(&rt; order[2].peer, PeerId(3));
+    assert_eq!(&rt; chosen.count, 2);
+    Ok(())
+}
+
+#[test]
+fn of_no_candidates_none_is_chosen(rt: HostRuntime) -> Result<(), Fail> {
+    let chosen = select(rt.alloc(), &[], 2)?;
+    assert_eq!(&rt; chosen.ordered.as_slice().len(), 0);
+    assert_eq!(&rt; chosen.count, 0);
+    Ok(())
+}

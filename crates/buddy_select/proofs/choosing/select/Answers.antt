@@ -4,8 +4,8 @@ use Rattle.buddy_select.specs.Choice.{stand_in_order}
 use Rattle.buddy_select.proofs.Ordering.{put_in_order}
 use Rattle.buddy_select.proofs.choosing.select.Goals as goal
 
-pub returns : goal.returns
-returns c =
+pub returns-clause-choice : goal.returns-clause-choice
+returns-clause-choice c =
     let count : c.min-count.result ≡ min c.args.n (length c.args.candidates.now) = search rules in
     record {
       all = c.in_ok-ordered.ensures.all;
