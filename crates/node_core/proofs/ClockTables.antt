@@ -11,10 +11,11 @@ use Rattle.psb_model.specs.declared.change.Change.TheVariants.{Snapped, Forgot, 
 use Rattle.psb_model.proofs.ByObject.{by_cases}
 use Rattle.wire_codec.specs.Frames.{key_in}
 use Rattle.psb_machine.specs.Settling.{ticks_to_wait, wait_in, waited_in, with_wait}
-use Rattle.psb_machine.specs.Machine.{Volatile, key_of_row, clock_in, later, ticked_in, ticked, by_change, empty}
+use Rattle.psb_machine.specs.Sampling.{sample_in, with_sample}
+use Rattle.psb_machine.specs.Machine.{Volatile, key_of_row, clock_in, later, ticked_in, ticked, noted, by_change, empty}
 use Rattle.node_core.specs.declared.clocks.Clock.{Clock}
 use Rattle.node_core.specs.Peers.{PeersView, peers_of}
-use Rattle.node_core.specs.Clocks.{at_start, clock_of, ticked_by, waiting, clocks_changed, IsClock, KnowsClocks}
+use Rattle.node_core.specs.Clocks.{at_start, clock_of, ticked_by, waiting, sampled, unsampled, clocks_noted, clocks_changed, IsClock, KnowsClocks}
 
 -- ---- which clock is a peer's
 
@@ -60,7 +61,7 @@ start_clock : (peers : List PeerRow) (p : ℕ) (x : Clock) → clock_of (map at_
 start_clock [] p x is = absurd (cc (is))
 start_clock (y ∷ ys) p x is =
     by_cases (y.id == p)
-    (λ k. let is' : Some (at_start y) ≡ Some x = rw k at is in let same : at_start y ≡ x = cc (is') in subst (λ (c : Clock). IsClock c p empty) same (record { ticks = refl; wait = refl }))
+    (λ k. let is' : Some (at_start y) ≡ Some x = rw k at is in let same : at_start y ≡ x = cc (is') in subst (λ (c : Clock). IsClock c p empty) same (record { ticks = refl; wait = refl; sample = refl }))
     (λ k. let is' : clock_of (map at_start ys) p ≡ Some x = rw k at is in start_clock ys p x is')
 
 clocks_started : (peers : List PeerRow) → KnowsClocks (map at_start peers) (map key_of_row peers) empty
@@ -121,11 +122,13 @@ one_ticked v q p x is k =
     rw j (record {
       ticks = clock_ticked v.clocks q p ∙ rw here (ap later k.ticks);
       wait = wait_ticked v.waits q p ∙ rw here (ap (λ (n : ℕ). n - 1) k.wait);
+      sample = k.sample;
     }))
     (λ j. let other : (q == p) ≡ false = by_cases (q == p) (λ i. let wrong : (x.peer == q) ≡ true = subst (λ (n : ℕ). (x.peer == n) ≡ true) (is ∙ sym (eqb-true q p i)) (same_eq x.peer) in absurd (true≢false (sym wrong ∙ j))) (λ i. i) in
     rw j (record {
       ticks = clock_ticked v.clocks q p ∙ rw other k.ticks;
       wait = wait_ticked v.waits q p ∙ rw other k.wait;
+      sample = k.sample;
     }))
 
 ticked_peer : (q : ℕ) (x : Clock) → (ticked_by q x).peer ≡ x.peer
@@ -140,9 +143,9 @@ one_waiting : (v : Volatile) (q n p : ℕ) (x : Clock) → x.peer ≡ p → IsCl
 one_waiting v q n p x is k =
     by_cases (x.peer == q)
     (λ j. let here : (q == p) ≡ true = subst (λ (m : ℕ). (m == p) ≡ true) (eqb-true x.peer q j) (subst (λ (m : ℕ). (x.peer == m) ≡ true) is (same_eq x.peer)) in
-    rw j (record { ticks = k.ticks; wait = wait_set v.waits q p n ∙ rw here refl }))
+    rw j (record { ticks = k.ticks; wait = wait_set v.waits q p n ∙ rw here refl; sample = k.sample }))
     (λ j. let other : (q == p) ≡ false = by_cases (q == p) (λ i. let wrong : (x.peer == q) ≡ true = subst (λ (m : ℕ). (x.peer == m) ≡ true) (is ∙ sym (eqb-true q p i)) (same_eq x.peer) in absurd (true≢false (sym wrong ∙ j))) (λ i. i) in
-    rw j (record { ticks = k.ticks; wait = wait_set v.waits q p n ∙ rw other k.wait }))
+    rw j (record { ticks = k.ticks; wait = wait_set v.waits q p n ∙ rw other k.wait; sample = k.sample }))
 
 waiting_peer : (q n : ℕ) (x : Clock) → (waiting q n x).peer ≡ x.peer
 waiting_peer q n x = by_cases (x.peer == q) (λ k. rw k refl) (λ k. rw k refl)
@@ -150,9 +153,37 @@ waiting_peer q n x = by_cases (x.peer == q) (λ k. rw k refl) (λ k. rw k refl)
 clocks_waiting : (l : List Clock) (keys : List (ℕ × List ℕ)) (v : Volatile) (q n : ℕ) → KnowsClocks l keys v → KnowsClocks (map (waiting q n) l) keys (record v { waits = with_wait q n v.waits })
 clocks_waiting l keys v q n k = changed_known (waiting q n) l keys v (record v { waits = with_wait q n v.waits }) (waiting_peer q n) (one_waiting v q n) k
 
--- samples are no part of a clock
-no_samples : (l : List Clock) (keys : List (ℕ × List ℕ)) (v : Volatile) → KnowsClocks l keys v → KnowsClocks l keys (record v { samples = [] })
-no_samples l keys v k = record { there = k.there; are = λ p x is. record { ticks = (k.are p x is).ticks; wait = (k.are p x is).wait } }
+-- no sample is kept any more
+no_samples : (l : List Clock) (keys : List (ℕ × List ℕ)) (v : Volatile) → KnowsClocks l keys v → KnowsClocks (map unsampled l) keys (record v { samples = [] })
+no_samples l keys v k = changed_known unsampled l keys v (record v { samples = [] }) (λ x. refl) (λ p x is c. record { ticks = c.ticks; wait = c.wait; sample = refl }) k
+
+-- ---- a sample
+
+sample_set : (ss : List (ℕ × ℕ)) (q p bits : ℕ) → sample_in (with_sample q bits ss) p ≡ (if q == p then Some bits else sample_in ss p)
+sample_set [] q p bits = by_cases (q == p) (λ k. rw k refl) (λ k. rw k refl)
+sample_set (c ∷ cs) q p bits =
+    by_cases (c.0 == q)
+    (λ k. let here : c.0 ≡ q = eqb-true c.0 q k in
+    let same : (c.0 == p) ≡ (q == p) = ap (λ (m : ℕ). m == p) here in
+    by_cases (q == p) (λ j. rw (k, same, j) refl) (λ j. rw (k, same, j) refl))
+    (λ k. by_cases (c.0 == p)
+    (λ j. let other = others c.0 q p k j in rw (k, j, other) refl)
+    (λ j. rw (k, j) (sample_set cs q p bits)))
+
+one_sampled : (v : Volatile) (q bits p : ℕ) (x : Clock) → x.peer ≡ p → IsClock x p v → IsClock (sampled q bits x) p (record v { samples = with_sample q bits v.samples })
+one_sampled v q bits p x is k =
+    by_cases (x.peer == q)
+    (λ j. let here : (q == p) ≡ true = subst (λ (m : ℕ). (m == p) ≡ true) (eqb-true x.peer q j) (subst (λ (m : ℕ). (x.peer == m) ≡ true) is (same_eq x.peer)) in
+    rw j (record { ticks = k.ticks; wait = k.wait; sample = sample_set v.samples q p bits ∙ rw here refl }))
+    (λ j. let other : (q == p) ≡ false = by_cases (q == p) (λ i. let wrong : (x.peer == q) ≡ true = subst (λ (m : ℕ). (x.peer == m) ≡ true) (is ∙ sym (eqb-true q p i)) (same_eq x.peer) in absurd (true≢false (sym wrong ∙ j))) (λ i. i) in
+    rw j (record { ticks = k.ticks; wait = k.wait; sample = sample_set v.samples q p bits ∙ rw other k.sample }))
+
+sampled_peer : (q bits : ℕ) (x : Clock) → (sampled q bits x).peer ≡ x.peer
+sampled_peer q bits x = by_cases (x.peer == q) (λ k. rw k refl) (λ k. rw k refl)
+
+pub clocks_kept : (o : Option (ℕ × ℕ)) (l : List Clock) (keys : List (ℕ × List ℕ)) (v : Volatile) → KnowsClocks l keys v → KnowsClocks (clocks_noted o l) keys (noted o v)
+clocks_kept None l keys v k = k
+clocks_kept (Some x) l keys v k = changed_known (sampled x.0 x.1) l keys v (record v { samples = with_sample x.0 x.1 v.samples }) (sampled_peer x.0 x.1) (one_sampled v x.0 x.1) k
 
 pub clocks_grown : (l : List Clock) (keys : List (ℕ × List ℕ)) (s : State) (settings : Settings) (c : Change) (v : Volatile) → s.settings ≡ Some settings → KnowsClocks l keys v → KnowsClocks (clocks_changed settings.id c l) keys (by_change s c v)
 clocks_grown l keys s settings (Turned p deal why detail) v is k = rw is (clocks_waiting l keys v p (ticks_to_wait settings.id p) k)

@@ -1,5 +1,5 @@
 -- A change is made as the machine makes it.
-use Rattle.std.proofs.Common.{◌≡◌, ◌⊎◌, inl, inr, ⊎_elim, ℕ, ◌≤◌, ◌<◌, Bool, true, List, [], ◌∷◌, ◌++◌, length, option_to_list, Option, Some, None, refl, sym, ◌∙◌, ap, subst, arith}
+use Rattle.std.proofs.Common.{◌≡◌, ◌⊎◌, inl, inr, ⊎_elim, ℕ, ◌≤◌, ◌<◌, Bool, true, List, [], ◌∷◌, ◌++◌, length, is_some, option_map, option_to_list, Option, Some, None, refl, sym, ◌∙◌, ap, subst, arith}
 use Rattle.std.specs.Option.{unwrap_or}
 use Rattle.std.proofs.lemmas.Bool.{and_parts, eqb-true, false≢true}
 use Rattle.std.proofs.lemmas.List.{append-nil}
@@ -21,15 +21,20 @@ use Rattle.psb_model.proofs.Prefixes.{state_snoc, changes_counted}
 use Rattle.claims.specs.Source.{Source}
 use Rattle.psb_model.specs.State.{own_has}
 use Rattle.psb_model.proofs.ByObject.{by_cases}
-use Rattle.psb_machine.specs.Machine.{Situation, Volatile, Input, Datagram, Tick, Keep, Snap, Forget, Reaction as MachineReaction, by_changes, react, settled, next}
-use Rattle.psb_machine.proofs.Unticked.{passed, clocks_pass, forget_rests}
+use Rattle.psb_machine.specs.Machine.{Situation, Volatile, Input, Datagram, Tick, Keep, Snap, Forget, Reaction as MachineReaction, has_snapshot, noted, by_changes, react, settled, next}
+use Rattle.psb_machine.specs.Sampling.{question_of, keeps_question}
+use Rattle.psb_machine.specs.declared.question.Question.{Question}
+use Rattle.psb_machine.proofs.Unticked.{passed, clocks_pass, noted_pass}
+use Rattle.psb_machine.proofs.Questions.{question_stays}
+use Rattle.psb_model.specs.History.{is_built}
+use Rattle.psb_model.proofs.Built.{plain_state}
 use Rattle.node_core.specs.declared.clocks.Clock.{Clock}
 use Rattle.node_core.specs.Peers.{PeersView}
 use Rattle.node_core.specs.Names.{KnowsNames}
-use Rattle.node_core.specs.Clocks.{KnowsClocks, clocks_after, clocks_changed}
+use Rattle.node_core.specs.Clocks.{KnowsClocks, clocks_after, clocks_noted, clocks_changed}
 use Rattle.node_core.specs.Letters.{is_own}
 use Rattle.node_core.specs.Refusing.{when_taken}
-use Rattle.node_core.proofs.ClockTables.{clocks_grown, clocks_ticked}
+use Rattle.node_core.proofs.ClockTables.{clocks_grown, clocks_ticked, clocks_kept}
 use Rattle.node_core.specs.declared.node.Node.{Node}
 use Rattle.chunk_store.specs.declared.store.Store.{Store}
 use Rattle.chunk_store.specs.Store.{record_of, is_owner}
@@ -37,9 +42,10 @@ use Rattle.node_core.specs.Names.{SameNames, Enters}
 use Rattle.node_core.specs.Less.{IsLess}
 use Rattle.node_core.specs.Making.{MayMake}
 use Rattle.node_core.specs.declared.reaction.Reaction.{Reaction}
-use Rattle.node_core.specs.Reacting.{IsStep, Reacts, SameOwner, IsSame, IsTicked, steady}
+use Rattle.node_core.specs.declared.reaction.PeerSample.{PeerSample}
+use Rattle.node_core.specs.Reacting.{IsStep, told_by, Reacts, SameOwner, IsSame, IsTicked, steady, numbered}
 use Rattle.node_core.specs.Stands.{HoldsHistory, ReopensTo}
-use Rattle.node_core.specs.Stored.{Knows, KnowsSettings, Stored, IsCounted}
+use Rattle.node_core.specs.Stored.{Knows, KnowsSettings, IsKnown, Stored, IsCounted}
 use Rattle.node_core.proofs.Entered.{names_grown, names_same}
 use Rattle.node_core.proofs.Less.{less_all, less_append, valid_less}
 use Rattle.node_core.proofs.Making.{pushed, leaves_histories}
@@ -73,11 +79,24 @@ clocks_stepped old new n m c k grown peers clocks =
     let keyed = subst (λ (v : PeersView). KnowsClocks (clocks_changed k.settings.settings.id c old.clocks.items) v.keys (by_changes s m.grown n.volatile)) (sym peers) made in
     subst (λ (l : List Clock). KnowsClocks l new.peers.keys (by_changes s m.grown n.volatile)) (sym (clocks ∙ ap (λ (i : ℕ). clocks_changed i c old.clocks.items) own)) keyed
 
+-- the question is the same, or is worked out anew
+question_stepped : {L : Type 0} (old : Node L) (n : Situation) (c : Change) (q : Option Question) → Knows old n → is_built c ≡ true → allowed (state n.history) c ≡ true → ((q ≡ old.question) × (keeps_question c ≡ true)) ⊎ (q ≡ None) → IsKnown q (after (state n.history) c)
+question_stepped old n c q k built may kept =
+    ⊎_elim
+    (λ both. subst (λ (o : Option Question). IsKnown o (after (state n.history) c)) (sym both.0)
+    (known_then old.question (state n.history) (after (state n.history) c) (question_stays (state n.history) c (plain_state n.history k.valid.lawful k.valid.built) built may both.1) k.question))
+    (λ none. subst (λ (o : Option Question). IsKnown o (after (state n.history) c)) (sym none) tt)
+    kept
+  where
+    known_then : (o : Option Question) (s t : State) → question_of t ≡ question_of s → IsKnown o s → IsKnown o t
+    known_then None s t same is = tt
+    known_then (Some x) s t same is = same ∙ is
+
 -- a node that made a change is where the machine is, but for a tick
 pub step_knows : {L : Type 0} (old new : Node L) (n : Situation) (m : MachineReaction) (c : Change) (mid : Store) (size : ℕ) → MayMake old.ledger.state c → Knows old n → IsStep n m c
     → new.ledger.state ≡ after old.ledger.state c → SameNames old.names mid → Enters old.ledger.state mid new.names c size → old.ledger.state.changes ≡ size → SameOwner old new → new.ledger.state.issued ≤ new.claims.issued
-    → new.clocks.items ≡ clocks_changed old.peers.own.id c old.clocks.items → Knows new (settled n (steady n m))
-step_knows old new n m c mid size may k step grown same enters counted rest issued clocks =
+    → new.clocks.items ≡ clocks_changed old.peers.own.id c old.clocks.items → ((new.question ≡ old.question) × (keeps_question c ≡ true)) ⊎ (new.question ≡ None) → Knows new (settled n (steady n m))
+step_knows old new n m c mid size may k step grown same enters counted rest issued clocks question =
     let h = n.history in
     let here : old.ledger.state.changes ≡ length h = ap (λ (s : State). s.changes) k.ledger ∙ changes_counted h in
     let after_is : after (state h) c ≡ state (h ++ c ∷ []) = sym (state_snoc h c) in
@@ -95,12 +114,13 @@ step_knows old new n m c mid size may k step grown same enters counted rest issu
       names = names_grown mid new.names h c k.valid.lawful k.valid.built may.read allowed_here (names_same old.names mid h same k.names) (subst (λ (s : State). Enters s mid new.names c (length h)) k.ledger (subst (λ (j : ℕ). Enters old.ledger.state mid new.names c j) (sym counted ∙ here) enters));
       issued = omega (arith, issued, ap (λ (s : State). s.issued) grown, ap (λ (s : State). (after s c).issued) k.ledger, ap (λ (s : State). s.issued) after_is);
       clocks = clocks_stepped old new n m c k step.grown rest.peers clocks;
+      question = subst (IsKnown new.question) after_is (question_stepped old n c new.question k may.read allowed_here question);
     } in
     subst (λ (o : Situation). Knows new o) (sym (λ j. record { history = grown_to n m c step.grown j; volatile = (settled n (steady n m)).volatile })) knows
 
 -- a node whose ledger, settings, names and clocks stay knows what it knew
-pub knows_still : {L : Type 0} (old new : Node L) (n : Situation) → new.ledger.state ≡ old.ledger.state → SameNames old.names new.names → SameOwner old new → new.clocks ≡ old.clocks → Knows old n → Knows new n
-knows_still old new n same names rest clocks k = record {
+pub knows_still : {L : Type 0} (old new : Node L) (n : Situation) → new.ledger.state ≡ old.ledger.state → SameNames old.names new.names → SameOwner old new → new.clocks ≡ old.clocks → (IsKnown old.question (state n.history) → IsKnown new.question (state n.history)) → Knows old n → Knows new n
+knows_still old new n same names rest clocks question k = record {
   valid = k.valid;
   ledger = same ∙ k.ledger;
   settings = record {
@@ -112,14 +132,26 @@ knows_still old new n same names rest clocks k = record {
   names = names_same old.names new.names n.history names k.names;
   issued = omega (arith, k.issued, rest.issued);
   clocks = subst (λ (v : PeersView). KnowsClocks new.clocks.items v.keys n.volatile) (sym rest.peers) (subst (λ l. KnowsClocks l.items old.peers.keys n.volatile) (sym clocks) k.clocks);
+  question = question k.question;
 }
 
 -- a node that only looked, and made claims, knows what it knew
 pub same_knows : {L : Type 0} (old new : Node L) (n : Situation) → IsSame old new → Knows old n → Knows new n
-same_knows old new n same k = knows_still old new n (ap (λ ledger. ledger.state) same.ledger) (all_same old.names new.names same.names) same.rest same.clocks k
+same_knows old new n same k = knows_still old new n (ap (λ ledger. ledger.state) same.ledger) (all_same old.names new.names same.names) same.rest same.clocks (λ was. ⊎_elim (λ is. subst (λ (o : Option Question). IsKnown o (state n.history)) (sym is) was) (λ known. subst (IsKnown new.question) (ap (λ ledger. ledger.state) same.ledger ∙ k.ledger) known) same.question) k
   where
     all_same : (a b : Store) → b ≡ a → SameNames a b
     all_same a b is = record { owners = λ o q. ap (λ (s : Store). is_owner s o q) is; records = λ q. ap (λ (s : Store). record_of s q) is }
+
+-- what only looked after what only looked
+pub same_then : {L : Type 0} (a b c : Node L) → IsSame a b → IsSame b c → IsSame a c
+same_then a b c x y = record {
+  log = y.log ∙ x.log;
+  ledger = y.ledger ∙ x.ledger;
+  names = y.names ∙ x.names;
+  clocks = y.clocks ∙ x.clocks;
+  question = ⊎_elim (λ is. ⊎_elim (λ was. inl (is ∙ was)) (λ known. inr (subst (λ (o : Option Question). IsKnown o c.ledger.state) (sym is) (subst (IsKnown b.question) (sym (ap (λ ledger. ledger.state) y.ledger)) known))) x.question) (λ known. inr known) y.question;
+  rest = record { peers = y.rest.peers ∙ x.rest.peers; seed = y.rest.seed ∙ x.rest.seed; issued = omega (arith, x.rest.issued, y.rest.issued) };
+}
 
 -- where no change is made the node stays where it is, but for a tick
 pub rests_here : {L : Type 0} (node : Node L) (n : Situation) (m : MachineReaction) → m.grown ≡ None → Knows node n → Knows node (settled n (steady n m))
@@ -128,9 +160,9 @@ rests_here node n m none k =
     let rests : by_changes (state n.history) m.grown n.volatile ≡ n.volatile = ap (λ (o : Option Change). by_changes (state n.history) o n.volatile) none in
     subst (λ (o : Situation). Knows node o) (sym (λ j. record { history = same j; volatile = rests j })) k
 
--- a tick that passes moves its clocks alone
-pub passes_knows : {L : Type 0} (old new : Node L) (n : Situation) (i : Input) → IsTicked i old new → Knows old n → Knows new (record n { volatile = passed i n.volatile })
-passes_knows old new n i t k = record {
+-- an input that passes moves its clocks alone
+pub passes_knows : {L : Type 0} (old new : Node L) (n : Situation) (i : Input) (o : Option (ℕ × ℕ)) → IsTicked i o old new → Knows old n → Knows new (record n { volatile = passed i (noted o n.volatile) })
+passes_knows old new n i o t k = record {
   valid = k.valid;
   ledger = ap (λ ledger. ledger.state) t.ledger ∙ k.ledger;
   settings = record {
@@ -142,8 +174,10 @@ passes_knows old new n i t k = record {
   names = subst (λ (s : Store). KnowsNames s n.history) (sym t.names) k.names;
   issued = omega (arith, k.issued, ap (λ (c : Source). c.issued) t.claims);
   clocks =
-      subst (λ (v : PeersView). KnowsClocks new.clocks.items v.keys (passed i n.volatile)) (sym t.peers)
-      (subst (λ (l : List Clock). KnowsClocks l old.peers.keys (passed i n.volatile)) (sym t.clocks) (clocks_passed i old.clocks.items old.peers.keys n.volatile k.clocks));
+      subst (λ (v : PeersView). KnowsClocks new.clocks.items v.keys (passed i (noted o n.volatile))) (sym t.peers)
+      (subst (λ (l : List Clock). KnowsClocks l old.peers.keys (passed i (noted o n.volatile))) (sym t.clocks)
+      (clocks_passed i (clocks_noted o old.clocks.items) old.peers.keys (noted o n.volatile) (clocks_kept o old.clocks.items old.peers.keys n.volatile k.clocks)));
+  question = subst (λ (q : Option Question). IsKnown q (state n.history)) (sym t.question) k.question;
 }
   where
     clocks_passed : (i : Input) (l : List Clock) (keys : List (ℕ × List ℕ)) (v : Volatile) → KnowsClocks l keys v → KnowsClocks (clocks_after i l) keys (passed i v)
@@ -153,20 +187,36 @@ passes_knows old new n i t k = record {
     clocks_passed (Snap note) l keys v k = k
     clocks_passed (Forget number) l keys v k = k
 
--- to where the machine is
-pub ticked_knows : {L : Type 0} (old new : Node L) (n : Situation) (i : Input) → IsTicked i old new → Knows old (settled n (steady n (react n i))) → Knows new (next n i)
-ticked_knows old new n i t k =
-    subst (λ (v : Volatile). Knows new (record { history = (next n i).history; volatile = v })) (sym (clocks_pass n i)) (passes_knows old new (settled n (steady n (react n i))) i t k)
+-- to where the machine is, which kept no sample
+pub ticked_knows : {L : Type 0} (old new : Node L) (n : Situation) (i : Input) → IsTicked i None old new → (react n i).sample ≡ None → Knows old (settled n (steady n (react n i))) → Knows new (next n i)
+ticked_knows old new n i t none k =
+    let m = react n i in
+    let there : (next n i).volatile ≡ passed i (settled n (steady n m)).volatile = ap (λ (o : Option (ℕ × ℕ)). by_changes (state n.history) m.grown (noted o m.volatile)) none ∙ clocks_pass n i in
+    subst (λ (v : Volatile). Knows new (record { history = (next n i).history; volatile = v })) (sym there) (passes_knows old new (settled n (steady n m)) i None t k)
+
+-- and where it made no change, and may have kept one
+pub told_knows : {L : Type 0} (old new : Node L) (n : Situation) (i : Input) (o : Option (ℕ × ℕ)) → IsTicked i o old new → o ≡ (react n i).sample → (react n i).grown ≡ None → Knows old n → Knows new (next n i)
+told_knows old new n i o t is none k =
+    let m = react n i in
+    let s = state n.history in
+    let same : n.history ++ option_to_list m.grown ≡ n.history = ap (λ (c : Option Change). n.history ++ option_to_list c) none ∙ append-nil n.history in
+    let passes : m.volatile ≡ passed i n.volatile = ap (λ (c : Option Change). by_changes s c m.volatile) (sym none) ∙ clocks_pass n i ∙ ap (λ (c : Option Change). passed i (by_changes s c n.volatile)) none in
+    let there : (next n i).volatile ≡ passed i (noted o n.volatile) =
+    ap (λ (c : Option Change). by_changes s c (noted m.sample m.volatile)) none
+    ∙ ap (λ (q : Option (ℕ × ℕ)). noted q m.volatile) (sym is)
+    ∙ ap (noted o) passes
+    ∙ noted_pass i o n.volatile in
+    subst (λ (p : Situation). Knows new p) (sym (λ j. record { history = same j; volatile = there j })) (passes_knows old new n i o t k)
 
 -- its log is the same, and so is what it has
-pub ticked_counted : {L : Type 0} (size : L → ℕ) (keeps : L → ℕ → Bool) (old new : Node L) (i : Input) → IsTicked i old new → IsCounted size keeps old → IsCounted size keeps new
-ticked_counted size keeps old new i t c = record {
+pub ticked_counted : {L : Type 0} (size : L → ℕ) (keeps : L → ℕ → Bool) (old new : Node L) (i : Input) (o : Option (ℕ × ℕ)) → IsTicked i o old new → IsCounted size keeps old → IsCounted size keeps new
+ticked_counted size keeps old new i o t c = record {
   changes = ap (λ ledger. ledger.state.changes) t.ledger ∙ c.changes ∙ ap size (sym t.log);
   bodies = λ q k here. subst (λ l. (k < size l) × (keeps l k ≡ true)) (sym t.log) (c.bodies q k (sym (ap (λ (s : Store). record_of s q) t.names) ∙ here));
 }
 
-pub ticked_stored : {L : Type 0} (holds : L → List Entry → List ℕ → Type 0) (old new : Node L) (i : Input) (h : List Change) (v : View) → IsTicked i old new → Stored holds old h v → Stored holds new h v
-ticked_stored holds old new i h v t s = record {
+pub ticked_stored : {L : Type 0} (holds : L → List Entry → List ℕ → Type 0) (old new : Node L) (i : Input) (o : Option (ℕ × ℕ)) (h : List Change) (v : View) → IsTicked i o old new → Stored holds old h v → Stored holds new h v
+ticked_stored holds old new i o h v t s = record {
   less = s.less;
   is_less = s.is_less;
   valid = s.valid;
@@ -181,7 +231,27 @@ taken_steady n (Datagram x) own = absurd (false≢true own)
 taken_steady n (Tick p) own = absurd (false≢true own)
 taken_steady n (Keep name bytes) own = by_cases (own_has (state n.history).own name) (λ k. rw k refl) (λ k. rw k refl)
 taken_steady n (Snap note) own = refl
-taken_steady n (Forget number) own = ap (λ (v : Volatile). settled n (record (react n (Forget number)) { volatile = v })) (sym (forget_rests n number))
+taken_steady n (Forget number) own = by_cases (has_snapshot (state n.history) number) (λ k. rw k refl) (λ k. rw k refl)
+
+-- a change that was made has its number
+pub numbered_some : (o : Option Change) (number : ℕ) → is_some o ≡ true → Some number ≡ numbered o number
+numbered_some None number some = absurd (false≢true some)
+numbered_some (Some c) number some = refl
+
+-- and keeps no sample
+own_unsampled : (n : Situation) (i : Input) → is_own i ≡ true → (when_taken n i).sample ≡ None
+own_unsampled n (Datagram x) own = absurd (false≢true own)
+own_unsampled n (Tick p) own = absurd (false≢true own)
+own_unsampled n (Keep name bytes) own = by_cases (own_has (state n.history).own name) (λ k. rw k refl) (λ k. rw k refl)
+own_unsampled n (Snap note) own = refl
+own_unsampled n (Forget number) own = by_cases (has_snapshot (state n.history) number) (λ k. rw k refl) (λ k. rw k refl)
+
+none_told : (o : Option PeerSample) → option_map told_by o ≡ None → o ≡ None
+none_told None is = refl
+none_told (Some x) is = absurd (cc (is))
+
+pub taken_unsampled : (r : Reaction) (n : Situation) (i : Input) → is_own i ≡ true → Reacts r (when_taken n i) → r.sample ≡ None
+taken_unsampled r n i own it = none_told r.sample (it.sample ∙ own_unsampled n i own)
 
 -- and its log has what it had
 pub same_counted : {L : Type 0} (size : L → ℕ) (keeps : L → ℕ → Bool) (old new : Node L) → IsSame old new → IsCounted size keeps old → IsCounted size keeps new
@@ -282,7 +352,7 @@ found_step r n m c is reacts valid = is_step n m c (sym reacts.change ∙ is) va
 
 -- a reaction that makes a change, whatever it tells
 abbrev some_reaction : Situation → Change → MachineReaction
-some_reaction n c = record { grown = Some c; letters = []; volatile = n.volatile; dropped = None }
+some_reaction n c = record { grown = Some c; letters = []; volatile = n.volatile; sample = None; dropped = None }
 
 -- after it, it is known where the node is
 pub some_step : {L : Type 0} (new : Node L) (n : Situation) (c : Change) → IsValid (n.history ++ c ∷ []) → ((m : MachineReaction) → IsStep n m c → Knows new (settled n (steady n m))) → (o : Situation) × Knows new o

@@ -1,5 +1,5 @@
 -- What a node makes of an input of its own is what the machine makes of it.
-use Rattle.std.proofs.Common.{◌≡◌, ◌↔◌, ℕ, ◌+◌, ◌<◌, ◌≤◌, ◌^◌, Bool, true, false, not, ◌||◌, ◌==◌, cond, get_or, List, [], ◌∷◌, ◌++◌, length, slice_get, is_some, IfSome, Option, Some, None, Result, Ok, Err, refl, sym, ◌∙◌, ap, subst, arith, length-append}
+use Rattle.std.proofs.Common.{◌≡◌, ◌↔◌, ℕ, ◌+◌, ◌<◌, ◌≤◌, ◌^◌, Bool, true, false, not, ◌||◌, ◌==◌, cond, get_or, List, [], ◌∷◌, ◌++◌, length, slice_get, is_some, IfSome, Option, Some, None, Result, Ok, Err, refl, sym, ◌∙◌, ap, subst, arith, length-append, option_map}
 use Rattle.std.specs.Int.{to_be_bytes, w32, w64}
 use Rattle.std.specs.List.{list_all, list_any, flat_map}
 use Rattle.std.proofs.lemmas.Bool.{and_parts, false≢true, true≢false, eqb-true, eq-eqb}
@@ -42,7 +42,7 @@ use Rattle.node_core.specs.Letters.{letters_of}
 use Rattle.node_core.specs.Less.{IsLess}
 use Rattle.node_core.specs.Making.{MayMake}
 use Rattle.node_core.specs.Names.{KnowsNames}
-use Rattle.node_core.specs.Reacting.{Reacts, MayCome}
+use Rattle.node_core.specs.Reacting.{told_by, Reacts, MayCome}
 use Rattle.node_core.specs.Refusing.{Compared, when_taken}
 use Rattle.node_core.specs.Stands.{AreDecoded}
 use Rattle.node_core.specs.Stored.{Knows, Stored}
@@ -225,28 +225,29 @@ keep_may_come r node name bytes c makes f known lacks few is =
         (kept_may_make n.history name bytes k.valid.some f (free n k) (subst (λ (s : State). s.changes < 2 ^ 62) k.ledger few)))
 
 -- it is a reaction that makes this change and tells nobody
-made_here : (r : Reaction) (m : MachineReaction) (c d : Change) (v : Volatile) → r.change ≡ Some c → r.dropped ≡ None → r.out ≡ [] → c ≡ d → m ≡ grows d v → Reacts r m
-made_here r m c d v makes dropped out is same = record {
+made_here : (r : Reaction) (m : MachineReaction) (c d : Change) (v : Volatile) → r.change ≡ Some c → r.sample ≡ None → r.dropped ≡ None → r.out ≡ [] → c ≡ d → m ≡ grows d v → Reacts r m
+made_here r m c d v makes sample dropped out is same = record {
   change = makes ∙ ap (λ (e : Change). Some e) is ∙ sym (ap (λ (q : MachineReaction). q.grown) same);
   letters = ap letters_of out ∙ sym (ap (λ (q : MachineReaction). q.letters) same);
+  sample = ap (option_map told_by) sample ∙ sym (ap (λ (q : MachineReaction). q.sample) same);
   dropped = dropped ∙ sym (ap (λ (q : MachineReaction). q.dropped) same);
 }
 
 -- it is the change that the machine makes, where no others are held
-pub keeps_new : {L : Type 0} (r : Reaction) (node : Node L) (n : Situation) (name bytes : List ℕ) (c : Change) → r.change ≡ Some c → r.dropped ≡ None → r.out ≡ [] → is_owner node.names Own name ≡ false → Knows node n → meets_others n.history name bytes ≡ false
+pub keeps_new : {L : Type 0} (r : Reaction) (node : Node L) (n : Situation) (name bytes : List ℕ) (c : Change) → r.change ≡ Some c → r.sample ≡ None → r.dropped ≡ None → r.out ≡ [] → is_owner node.names Own name ≡ false → Knows node n → meets_others n.history name bytes ≡ false
     → c ≡ kept_with (state n.history) name bytes → Reacts r (on_keep n name bytes)
-keeps_new r node n name bytes c makes dropped out lacks k meets is =
+keeps_new r node n name bytes c makes sample dropped out lacks k meets is =
     let made = grows (kept_with (state n.history) name bytes) n.volatile in
-    made_here r (on_keep n name bytes) c (kept_with (state n.history) name bytes) n.volatile makes dropped out is (
+    made_here r (on_keep n name bytes) c (kept_with (state n.history) name bytes) n.volatile makes sample dropped out is (
     ap (λ (b : Bool). cond (b || meets_others n.history name bytes) (quiet n.volatile) made) (sym (k.names.owners Own name) ∙ lacks)
     ∙ ap (λ (b : Bool). cond b (quiet n.volatile) made) meets)
 
 -- and the one that it makes of what is taken
-pub keeps_taken : {L : Type 0} (r : Reaction) (node : Node L) (n : Situation) (name bytes : List ℕ) (c : Change) → r.change ≡ Some c → r.dropped ≡ None → r.out ≡ [] → is_owner node.names Own name ≡ false → Knows node n
+pub keeps_taken : {L : Type 0} (r : Reaction) (node : Node L) (n : Situation) (name bytes : List ℕ) (c : Change) → r.change ≡ Some c → r.sample ≡ None → r.dropped ≡ None → r.out ≡ [] → is_owner node.names Own name ≡ false → Knows node n
     → c ≡ kept_with (state n.history) name bytes → Reacts r (when_taken n (Keep name bytes))
-keeps_taken r node n name bytes c makes dropped out lacks k is =
+keeps_taken r node n name bytes c makes sample dropped out lacks k is =
     let made = grows (kept_with (state n.history) name bytes) n.volatile in
-    made_here r (when_taken n (Keep name bytes)) c (kept_with (state n.history) name bytes) n.volatile makes dropped out is
+    made_here r (when_taken n (Keep name bytes)) c (kept_with (state n.history) name bytes) n.volatile makes sample dropped out is
     (ap (λ (b : Bool). cond b (quiet n.volatile) made) (sym (k.names.owners Own name) ∙ lacks))
 
 -- what is new here is not held

@@ -33,7 +33,7 @@ use Rattle.node_core.specs.Again.{IsAnswerOf}
 use Rattle.node_core.specs.Letters.{letters_of}
 use Rattle.node_core.specs.Peers.{PeersView}
 use Rattle.node_core.specs.Making.{AreFacts, CanMake, refused_by, why_refused, clashes, made_of, made_in}
-use Rattle.node_core.specs.Reacting.{MakesChange, TellsAgain, GivesBytes, Makes, MakesNone, IsToldAgain, IsGiven, Reacts, ReactsSo, MayCome}
+use Rattle.node_core.specs.Reacting.{MakesChange, TellsAgain, GivesBytes, Makes, MakesNone, IsToldAgain, IsGiven, told_by, Reacts, ReactsSo, MayCome}
 use Rattle.node_core.specs.Stored.{Knows, Stored}
 use Rattle.node_core.specs.Unread.{IsUnread, NeedsRecord}
 use Rattle.node_core.proofs.Again.{answer_is}
@@ -98,6 +98,7 @@ reacts_made r node n i x o is k m makes =
           ∙ ap (λ (own : ℕ). (o.peer, datagram o.key own o.peer o.number (reply_of node.claims.seed c)) ∷ []) (ap (λ (v : PeersView). v.own.id) k.settings.peers ∙ ap (λ (st : Settings). st.id) same)
           ∙ ap (λ (seed : List ℕ). (o.peer, datagram o.key m.settings.id o.peer o.number (reply_of seed c)) ∷ []) (k.settings.seed ∙ ap (λ (st : Settings). st.seed) same)
           ∙ sym (ap (λ (q : MachineReaction). q.letters) here);
+      sample = ap (option_map told_by) makes.sample ∙ sym (ap (λ (q : MachineReaction). q.sample) here);
       dropped = makes.dropped ∙ sym (ap (λ (q : MachineReaction). q.dropped) here);
     }
 
@@ -142,6 +143,7 @@ reacts_told r n i x o is tells none told =
     record {
       change = none.change ∙ sym (ap (λ (q : MachineReaction). q.grown) here);
       letters = told ∙ sym (ap (λ (q : MachineReaction). q.letters) here);
+      sample = ap (option_map told_by) none.sample ∙ sym (ap (λ (q : MachineReaction). q.sample) here);
       dropped = none.dropped ∙ sym (ap (λ (q : MachineReaction). q.dropped) here);
     }
 
@@ -220,5 +222,6 @@ makes_still r old new o c peers seed makes = record {
       makes.letters
       ∙ ap (λ (w : PeersView). (o.peer, datagram o.key w.own.id o.peer o.number (reply_of new.claims.seed c)) ∷ []) peers
       ∙ ap (λ (w : List ℕ). (o.peer, datagram o.key old.peers.own.id o.peer o.number (reply_of w c)) ∷ []) seed;
+  sample = makes.sample;
   dropped = makes.dropped;
 }

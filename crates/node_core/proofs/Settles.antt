@@ -1,5 +1,5 @@
 -- A node settles its own deals as the machine does.
-use Rattle.std.proofs.Common.{◌≡◌, ℕ, ◌+◌, ◌*◌, ◌<◌, ◌≤◌, ◌^◌, Bool, true, false, cond, List, [], ◌∷◌, ◌++◌, length, is_some, unwrap_or, Option, Some, None, IfSome, refl, sym, ◌∙◌, ap, subst, arith, length-append}
+use Rattle.std.proofs.Common.{◌≡◌, ℕ, ◌+◌, ◌*◌, ◌<◌, ◌≤◌, ◌^◌, Bool, true, false, cond, List, [], ◌∷◌, ◌++◌, length, is_some, unwrap_or, option_map, Option, Some, None, IfSome, refl, sym, ◌∙◌, ap, subst, arith, length-append}
 use Rattle.std.specs.Int.{to_be_bytes, w32, w64}
 use Rattle.std.specs.List.{flat_map}
 use Rattle.std.proofs.lemmas.List.{length-map}
@@ -21,7 +21,7 @@ use Rattle.psb_machine.specs.Machine.{Situation, Input, Datagram, Reaction as Ma
 use Rattle.psb_machine.proofs.Peers.{keyed_is_peer}
 use Rattle.psb_machine.proofs.Settled.{settle_may}
 use Rattle.psb_machine.proofs.Steps.{on_read-reply}
-use Rattle.psb_machine.proofs.Taken.{MayTake, joined_long}
+use Rattle.psb_machine.proofs.Taken.{joined_long}
 use Rattle.deals.specs.Views.{answer_in}
 use Rattle.node_core.specs.declared.node.Node.{Node}
 use Rattle.node_core.specs.declared.offer.Reply.{Reply}
@@ -29,7 +29,7 @@ use Rattle.node_core.specs.declared.reaction.Reaction.{Reaction}
 use Rattle.node_core.specs.Letters.{letters_of}
 use Rattle.node_core.specs.Making.{MayMake}
 use Rattle.node_core.specs.Offers.{IsReply}
-use Rattle.node_core.specs.Reacting.{settled_by, SettlesDeal, Reacts, ReactsSo, MayCome}
+use Rattle.node_core.specs.Reacting.{settled_by, SettlesDeal, told_by, Reacts, ReactsSo, MayCome}
 use Rattle.node_core.specs.Stored.{Knows}
 use Rattle.node_core.proofs.Offered.{reads_as, keyed_in, slots_long}
 
@@ -98,19 +98,19 @@ can_settle node n x r k is few c makes =
 -- ---- and what is made of it
 
 -- the reaction is what the machine makes of the reply
-pub reacts_settled : {L : Type 0} (node : Node L) (r : Reaction) (n : Situation) (i : Input) (x : List ℕ) (q : Reply) → Knows node n → i ≡ Datagram x → SettlesDeal n x q → r.change ≡ settled_by node.ledger.state q → r.dropped ≡ None → r.out ≡ [] → Reacts r (react n i)
-reacts_settled node r n i x q k is t change dropped out =
+pub reacts_settled : {L : Type 0} (node : Node L) (r : Reaction) (n : Situation) (i : Input) (x : List ℕ) (q : Reply) → Knows node n → i ≡ Datagram x → SettlesDeal n x q → r.change ≡ settled_by node.ledger.state q → (r.sample ≡ None) × (r.dropped ≡ None) → r.out ≡ [] → Reacts r (react n i)
+reacts_settled node r n i x q k is t change plain out =
     let here : react n i ≡ by_settled (settled_by (state n.history) q) n.volatile = ap (λ (j : Input). react n j) is ∙ t.reaction in
     let same : r.change ≡ settled_by (state n.history) q = change ∙ ap (λ (s : State). settled_by s q) k.ledger in
     subst (λ (m : MachineReaction). Reacts r m) (sym here) (by_change (settled_by (state n.history) q) same)
   where
     by_change : (o : Option Change) → r.change ≡ o → Reacts r (by_settled o n.volatile)
-    by_change None e = record { change = e; letters = ap letters_of out; dropped = dropped }
-    by_change (Some c) e = record { change = e; letters = ap letters_of out; dropped = dropped }
+    by_change None e = record { change = e; letters = ap letters_of out; sample = ap (option_map told_by) plain.0; dropped = plain.1 }
+    by_change (Some c) e = record { change = e; letters = ap letters_of out; sample = ap (option_map told_by) plain.0; dropped = plain.1 }
 
-pub reacts_settled_so : {L : Type 0} (node : Node L) (r : Reaction) (n : Situation) (i : Input) (x : List ℕ) (q : Reply) → Knows node n → i ≡ Datagram x → SettlesDeal n x q → r.change ≡ settled_by node.ledger.state q → r.dropped ≡ None → r.out ≡ [] → ReactsSo r n i
-reacts_settled_so node r n i x q k is t change dropped out =
-    let it = reacts_settled node r n i x q k is t change dropped out in
+pub reacts_settled_so : {L : Type 0} (node : Node L) (r : Reaction) (n : Situation) (i : Input) (x : List ℕ) (q : Reply) → Knows node n → i ≡ Datagram x → SettlesDeal n x q → r.change ≡ settled_by node.ledger.state q → (r.sample ≡ None) × (r.dropped ≡ None) → r.out ≡ [] → ReactsSo r n i
+reacts_settled_so node r n i x q k is t change plain out =
+    let it = reacts_settled node r n i x q k is t change plain out in
     record { change = λ certain. ap (λ (o : Option Change). is_some o) it.change; dropped = it.dropped }
 
 -- the change may come next

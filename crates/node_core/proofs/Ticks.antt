@@ -19,7 +19,7 @@ use Rattle.psb_model.proofs.Fitting.{fit_state}
 use Rattle.wire_codec.specs.Fields.{within, are_slots}
 use Rattle.wire_codec.specs.Frames.{key_in}
 use Rattle.psb_machine.specs.Proposals.{Asking as MachineAsking, proposed_at, is_askable, brings_bytes, is_even, asks}
-use Rattle.psb_machine.specs.Machine.{Situation, Tick, Reaction as MachineReaction, later, ticked, react, quiet, keys_of, grown_by, by_asking, asking_by, asking_at, by_key, on_tick}
+use Rattle.psb_machine.specs.Machine.{Situation, Volatile, Input, Tick, Reaction as MachineReaction, later, ticked, react, quiet, keys_of, grown_by, by_asking, asking_by, asking_at, choice_at, by_choice, by_key, on_tick}
 use Rattle.psb_machine.specs.Laws.{TickFits}
 use Rattle.psb_machine.proofs.Peers.{keyed_is_peer}
 use Rattle.psb_machine.proofs.Ticking.{asking_cases, asking_askable, proposed_may}
@@ -33,7 +33,8 @@ use Rattle.node_core.specs.Clocks.{clock_of, IsClock}
 use Rattle.node_core.specs.Letters.{letters_of}
 use Rattle.node_core.specs.Making.{MayMake}
 use Rattle.node_core.specs.Peers.{PeersView}
-use Rattle.node_core.specs.Reacting.{Reacts, ReactsSo, MayCome}
+use Rattle.node_core.specs.Choosing.{AsksDeal, AsksDealSo}
+use Rattle.node_core.specs.Reacting.{told_by, Reacts, ReactsSo, MayCome}
 use Rattle.node_core.specs.Stored.{Knows}
 use Rattle.node_core.specs.Unread.{IsUnread}
 use Rattle.node_core.proofs.Offered.{slots_long}
@@ -88,13 +89,13 @@ passes_stranger node n p k none =
     tick_is n k.settings.settings p None k.settings.present (ap (λ (keys : List (ℕ × List ℕ)). key_in keys p) (sym (keys_here node n k)) ∙ no_key (key_in node.peers.keys p) lacks)
 
 -- one that has a clock has a key
-record HasKey {L : Type 0} (node : Node L) (n : Situation) (p : ℕ) (settings : Settings) : Type 0 where
-  key : List ℕ
-  here : key_in node.peers.keys p ≡ Some key
-  keyed : key_in (keys_of settings) p ≡ Some key
-  reaction : react n (Tick p) ≡ by_asking settings n p key (asking_at settings n p)
+pub record HasKey {L : Type 0} (node : Node L) (n : Situation) (p : ℕ) (settings : Settings) : Type 0 where
+  pub key : List ℕ
+  pub here : key_in node.peers.keys p ≡ Some key
+  pub keyed : key_in (keys_of settings) p ≡ Some key
+  pub reaction : react n (Tick p) ≡ by_choice settings n p key (choice_at settings n p)
 
-has_key : {L : Type 0} (node : Node L) (n : Situation) (p : ℕ) (x : Clock) (k : Knows node n) → clock_of node.clocks.items p ≡ Some x → HasKey node n p k.settings.settings
+pub has_key : {L : Type 0} (node : Node L) (n : Situation) (p : ℕ) (x : Clock) (k : Knows node n) → clock_of node.clocks.items p ≡ Some x → HasKey node n p k.settings.settings
 has_key node n p x k found =
     let there : is_some (key_in node.peers.keys p) ≡ true = sym (k.clocks.there p) ∙ ap (λ (o : Option Clock). is_some o) found in
     let key = some_key (key_in node.peers.keys p) there in
@@ -103,21 +104,29 @@ has_key node n p x k found =
 
 -- ---- where nothing is asked for
 
-quiet_reacts : (r : Reaction) (n : Situation) (p : ℕ) → react n (Tick p) ≡ quiet (ticked p n.volatile) → r.change ≡ None → r.dropped ≡ None → r.out ≡ [] → Reacts r (react n (Tick p))
-quiet_reacts r n p is change dropped out = subst (λ (m : MachineReaction). Reacts r m) (sym is) (record { change = change; letters = ap letters_of out; dropped = dropped })
+quiet_reacts : (r : Reaction) (m : MachineReaction) (v : Volatile) → m ≡ quiet v → r.change ≡ None → r.sample ≡ None → r.dropped ≡ None → r.out ≡ [] → Reacts r m
+quiet_reacts r m v is change sample dropped out = subst (λ (q : MachineReaction). Reacts r q) (sym is) (record { change = change; letters = ap letters_of out; sample = ap (option_map told_by) sample; dropped = dropped })
 
-pub stranger_reacts : {L : Type 0} (r : Reaction) (node : Node L) (n : Situation) (p : ℕ) → Knows node n → clock_of node.clocks.items p ≡ None → r.change ≡ None → r.dropped ≡ None → r.out ≡ [] → Reacts r (react n (Tick p))
-stranger_reacts r node n p k none change dropped out = quiet_reacts r n p (passes_stranger node n p k none) change dropped out
+pub stranger_reacts : {L : Type 0} (r : Reaction) (node : Node L) (n : Situation) (p : ℕ) → Knows node n → clock_of node.clocks.items p ≡ None → r.change ≡ None → r.sample ≡ None → r.dropped ≡ None → r.out ≡ [] → Reacts r (react n (Tick p))
+stranger_reacts r node n p k none change sample dropped out = quiet_reacts r (react n (Tick p)) (ticked p n.volatile) (passes_stranger node n p k none) change sample dropped out
 
-pub none_reacts : {L : Type 0} (r : Reaction) (node : Node L) (n : Situation) (p : ℕ) (x : Clock) → Knows node n → clock_of node.clocks.items p ≡ Some x → ((settings : Settings) → (state n.history).settings ≡ Some settings → None ≡ asking_at settings n p)
-    → r.change ≡ None → r.dropped ≡ None → r.out ≡ [] → Reacts r (react n (Tick p))
-none_reacts r node n p x k found none change dropped out =
-    let h = has_key node n p x k found in
-    quiet_reacts r n p (h.reaction ∙ ap (by_asking k.settings.settings n p h.key) (sym (none k.settings.settings k.settings.present))) change dropped out
+pub none_asks : {L : Type 0} (r : Reaction) (node : Node L) (n : Situation) (p : ℕ) → ((settings : Settings) → (state n.history).settings ≡ Some settings → None ≡ asking_at settings n p)
+    → r.change ≡ None → r.sample ≡ None → r.dropped ≡ None → r.out ≡ [] → AsksDeal r node n p
+none_asks r node n p none change sample dropped out = λ settings key present here.
+    quiet_reacts r (by_asking settings n p key (asking_at settings n p)) (ticked p n.volatile) (ap (by_asking settings n p key) (sym (none settings present))) change sample dropped out
 
 -- a reaction that is the machine's is so on every disk
-pub reacts_so : (r : Reaction) (n : Situation) (p : ℕ) → Reacts r (react n (Tick p)) → ReactsSo r n (Tick p)
-reacts_so r n p it = record { change = λ certain. ap (λ (o : Option Change). is_some o) it.change; dropped = it.dropped }
+pub reacts_so : (r : Reaction) (n : Situation) (i : Input) → Reacts r (react n i) → ReactsSo r n i
+reacts_so r n i it = record { change = λ certain. ap (λ (o : Option Change). is_some o) it.change; dropped = it.dropped }
+
+pub undropped : (settings : Settings) (n : Situation) (p : ℕ) (key : List ℕ) (o : Option MachineAsking) → (by_asking settings n p key o).dropped ≡ None
+undropped settings n p key None = refl
+undropped settings n p key (Some a) = refl
+
+pub asks_so : {L : Type 0} (r : Reaction) (node : Node L) (n : Situation) (p : ℕ) → AsksDeal r node n p → AsksDealSo r node n p
+asks_so r node n p asks = λ settings key present here.
+    let it = asks settings key present here in
+    (it.change, it.dropped ∙ undropped settings n p key (asking_at settings n p))
 
 -- ---- where a deal is asked for
 
@@ -126,26 +135,25 @@ pub record Asks {L : Type 0} (node : Node L) (n : Situation) (p : ℕ) (a : Mach
   pub settings : Settings
   pub present : (state n.history).settings ≡ Some settings
   pub key : List ℕ
-  pub here : key_in node.peers.keys p ≡ Some key
   pub keyed : key_in (keys_of settings) p ≡ Some key
   pub asking : asking_at settings n p ≡ Some a
-  pub reaction : react n (Tick p) ≡ by_asking settings n p key (Some a)
 
 pub asks_here : {L : Type 0} (node : Node L) (n : Situation) (p : ℕ) (x : Clock) (a : MachineAsking) → Knows node n → clock_of node.clocks.items p ≡ Some x → ((settings : Settings) → (state n.history).settings ≡ Some settings → Some a ≡ asking_at settings n p) → Asks node n p a
 asks_here node n p x a k found asked =
     let h = has_key node n p x k found in
     let settings = k.settings.settings in
     let is = asked settings k.settings.present in
-    record { settings = settings; present = k.settings.present; key = h.key; here = h.here; keyed = h.keyed; asking = sym is; reaction = h.reaction ∙ ap (by_asking settings n p h.key) (sym is) }
+    record { settings = settings; present = k.settings.present; key = h.key; keyed = h.keyed; asking = sym is }
 
-pub asks_reacts : {L : Type 0} (r : Reaction) (node : Node L) (n : Situation) (p : ℕ) (a : MachineAsking) (q : Asks node n p a) → r.change ≡ grown_by p a → r.dropped ≡ None → letters_of r.out ≡ asks q.settings n.history p q.key a.deal → Reacts r (react n (Tick p))
-asks_reacts r node n p a q change dropped letters = subst (λ (m : MachineReaction). Reacts r m) (sym q.reaction) (record { change = change; letters = letters; dropped = dropped })
+pub asks_deal : {L : Type 0} (r : Reaction) (node : Node L) (n : Situation) (p : ℕ) (a : MachineAsking) → ((settings : Settings) → (state n.history).settings ≡ Some settings → Some a ≡ asking_at settings n p) → r.change ≡ grown_by p a → (r.sample ≡ None) × (r.dropped ≡ None)
+    → ((settings : Settings) (key : List ℕ) → (state n.history).settings ≡ Some settings → key_in node.peers.keys p ≡ Some key → letters_of r.out ≡ asks settings n.history p key a.deal) → AsksDeal r node n p
+asks_deal r node n p a asked change plain letters = λ settings key present here.
+    subst (λ (m : MachineReaction). Reacts r m) (ap (by_asking settings n p key) (asked settings present))
+    (record { change = change; letters = letters settings key present here; sample = ap (option_map told_by) plain.0; dropped = plain.1 })
 
-pub asks_reacts_so : {L : Type 0} (r : Reaction) (node : Node L) (n : Situation) (p : ℕ) (a : MachineAsking) (q : Asks node n p a) → r.change ≡ grown_by p a → r.dropped ≡ None → ReactsSo r n (Tick p)
-asks_reacts_so r node n p a q change dropped = record {
-  change = λ certain. ap (λ (o : Option Change). is_some o) (change ∙ sym (ap (λ (m : MachineReaction). m.grown) q.reaction));
-  dropped = dropped ∙ sym (ap (λ (m : MachineReaction). m.dropped) q.reaction);
-}
+pub asks_deal_so : {L : Type 0} (r : Reaction) (node : Node L) (n : Situation) (p : ℕ) (a : MachineAsking) → ((settings : Settings) → (state n.history).settings ≡ Some settings → Some a ≡ asking_at settings n p) → r.change ≡ grown_by p a → (r.sample ≡ None) × (r.dropped ≡ None) → AsksDealSo r node n p
+asks_deal_so r node n p a asked change plain = λ settings key present here.
+    (change ∙ ap (λ (o : Option MachineAsking). (by_asking settings n p key o).grown) (asked settings present), plain.1)
 
 -- it can be asked for
 pub asks_askable : {L : Type 0} (node : Node L) (n : Situation) (p : ℕ) (a : MachineAsking) → Knows node n → Asks node n p a → is_askable node.ledger.state p a.deal.what ≡ true

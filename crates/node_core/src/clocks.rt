@@ -1,10 +1,10 @@
-//! What a restart forgets of each peer: how many of its ticks were absorbed, and for how many more of them
-//! no deal is proposed to it.
+//! What a restart forgets of each peer: how many of its ticks were absorbed, for how many more of them no deal
+//! is proposed to it, and what it told last of the names that it was asked for.
 
 ghost use Rattle.std.specs.Prelude.{◌≡◌, ◌==◌, map, find, IfOk};
 ghost use Rattle.std.specs.Option.{option_copied};
 ghost use Rattle.psb_machine.specs.Settling.{ticks_to_wait};
-ghost use Rattle.node_core.specs.Clocks.{at_start, clock_of, after_tick, ticked_by, waiting, clocks_changed};
+ghost use Rattle.node_core.specs.Clocks.{at_start, clock_of, after_tick, ticked_by, waiting, sampled, unsampled, sample_of, clocks_changed};
 
 use psb_bytes::{Memory, PeerId};
 use psb_model::Change;
@@ -14,12 +14,14 @@ use std::alloc::Global;
 /// A clock that has come so far stays there.
 const LAST_TICK: u64 = 1 << 62;
 
-/// The ticks of a peer that were absorbed, and those that are to pass before a deal is proposed to it.
+/// The ticks of a peer that were absorbed, those that are to pass before a deal is proposed to it, and the bits
+/// of its sample, if one is kept.
 #[derive(Clone, Copy)]
 pub(crate) struct Clock {
     pub peer: PeerId,
     pub ticks: u64,
     pub wait: u8,
+    pub sample: Option<u32>,
 }
 
 fn at_start(peer: &PeerRow) -> Clock
@@ -29,6 +31,7 @@ fn at_start(peer: &PeerRow) -> Clock
         peer: peer.id,
         ticks: 0,
         wait: 0,
+        sample: None,
     }
 }
 
@@ -59,6 +62,13 @@ pub(crate) fn clock_of(clocks: &[Clock], peer: PeerId) -> Option<Clock>
     }
 }
 
+/// The bits of the sample of a peer, if one is kept.
+pub(crate) fn sample_of(clocks: &[Clock], peer: PeerId) -> Option<u32>
+    ensures { result ≡ sample_of clocks.now peer }
+{
+    clock_of(clocks, peer)?.sample
+}
+
 /// The clock after a tick of its peer.
 pub(crate) fn after_tick(clock: &Clock) -> Clock
     ensures { result ≡ after_tick clock.now }
@@ -67,6 +77,7 @@ pub(crate) fn after_tick(clock: &Clock) -> Clock
         peer: clock.peer,
         ticks: clock.ticks.saturating_add(1).min(LAST_TICK),
         wait: clock.wait.saturating_sub(1),
+        sample: clock.sample,
     }
 }
 
@@ -97,6 +108,7 @@ fn waiting(peer: PeerId, ticks: u8, clock: &Clock) -> Clock
             peer: clock.peer,
             ticks: clock.ticks,
             wait: ticks,
+            sample: clock.sample,
         }
     } else {
         *clock
@@ -112,6 +124,50 @@ fn wait_for(clocks: &mut [Clock], peer: PeerId, ticks: u8)
     }
 }
 
+fn sampled(peer: PeerId, bits: u32, clock: &Clock) -> Clock
+    ensures { result ≡ sampled peer bits clock.now }
+{
+    if clock.peer == peer {
+        Clock {
+            peer: clock.peer,
+            ticks: clock.ticks,
+            wait: clock.wait,
+            sample: Some(bits),
+        }
+    } else {
+        *clock
+    }
+}
+
+/// Keeps the sample of a peer, in the place of an older one.
+pub(crate) fn keep_sample(clocks: &mut [Clock], peer: PeerId, bits: u32)
+    ensures { clocks.new ≡ map (sampled peer bits) clocks.old }
+{
+    for i in 0..clocks.len() {
+        clocks[i] = sampled(peer, bits, &clocks[i]);
+    }
+}
+
+fn unsampled(clock: &Clock) -> Clock
+    ensures { result ≡ unsampled clock.now }
+{
+    Clock {
+        peer: clock.peer,
+        ticks: clock.ticks,
+        wait: clock.wait,
+        sample: None,
+    }
+}
+
+/// Keeps no sample.
+fn drop_samples(clocks: &mut [Clock])
+    ensures { clocks.new ≡ map unsampled clocks.old }
+{
+    for i in 0..clocks.len() {
+        clocks[i] = unsampled(&clocks[i]);
+    }
+}
+
 /// For how many ticks a node makes no proposal to a peer that turned one down: the one with the lesser id waits
 /// for fewer, so that two that turned each other down do not go on in step.
 fn ticks_to_wait(own: PeerId, peer: PeerId) -> u8
@@ -124,7 +180,9 @@ fn ticks_to_wait(own: PeerId, peer: PeerId) -> u8
 pub(crate) fn note_change(clocks: &mut Vec<Clock>, own: PeerId, change: &Change)
     ensures { clocks.new.items ≡ clocks_changed own change.now clocks.old.items }
 {
-    if let Change::Turned { peer, .. } = change {
-        wait_for(clocks, *peer, ticks_to_wait(own, *peer));
+    match change {
+        Change::Turned { peer, .. } => wait_for(clocks, *peer, ticks_to_wait(own, *peer)),
+        Change::Snapped { .. } | Change::Forgot { .. } => drop_samples(clocks),
+        _ => {}
     }
 }

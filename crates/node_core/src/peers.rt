@@ -3,12 +3,13 @@
 ghost use Rattle.std.specs.Prelude.{◌≡◌, ◌<◌, true, length, map, take, Some, slice_get, IfOk, OnErr};
 ghost use Rattle.psb_settings.specs.Settings.{have_distinct_ids};
 ghost use Rattle.psb_machine.specs.Machine.{key_of_row};
+ghost use Rattle.psb_machine.specs.Sampling.{is_last};
 ghost use Rattle.node_core.specs.Offers.{Reads};
 ghost use Rattle.node_core.specs.Peers.{peers_of};
 
 use crate::Fault;
 use crate::offer::{Reading, read};
-use psb_bytes::Digest;
+use psb_bytes::{Digest, PeerId};
 use psb_settings::{PeerList, PeerRow, Settings};
 use std::alloc::Global;
 use std::marker::Model;
@@ -101,6 +102,16 @@ impl Peers {
         ensures { slice_get self.now.rows j ≡ Some result.now }
     {
         &self.rows.as_slice()[j]
+    }
+
+    /// Whether a peer is the last one of the settings.
+    pub(crate) fn is_last(&self, peer: PeerId) -> bool
+        ensures { result ≡ is_last self.now.rows peer }
+    {
+        match self.rows.as_slice().last() {
+            None => false,
+            Some(row) => row.id == peer,
+        }
     }
 
     /// The peers, in the order of the settings.

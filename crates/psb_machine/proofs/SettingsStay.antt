@@ -16,12 +16,15 @@ use Rattle.psb_model.specs.Words.{all_of}
 use Rattle.psb_model.specs.Conditions.{tests}
 use Rattle.psb_machine.specs.Judging.{reasons_at, taken_at}
 use Rattle.psb_machine.specs.Proposals.{Asking}
-use Rattle.psb_machine.specs.Machine.{Situation, by_asking, asking_at, by_key, on_tick, Input, Datagram, Tick, Keep, Snap, Forget, Reaction, changes_of, keys_of, quiet, tells_again, by_standing, on_deal, here, on_get, on_reply, on_rest, on_other, on_frame, on_keyed, on_read, on_datagram, react, next, has_snapshot}
+use Rattle.psb_machine.specs.Sampling.{Sampling, Asks, Tells, sampling_of, open_question, questions, answers}
+use Rattle.psb_model.specs.declared.entries.Candidate.{Candidate}
+use Rattle.psb_machine.specs.Machine.{Situation, by_asking, asking_at, choice_at, by_choice, by_key, on_tick, Input, Datagram, Tick, Keep, Snap, Forget, Reaction, changes_of, keys_of, quiet, tells_again, by_standing, on_deal, here, on_get, on_reply, on_sampling, on_last, on_rest, on_other, on_frame, on_keyed, on_read, on_datagram, react, next, has_snapshot}
 use Rattle.psb_model.proofs.ByObject.{by_cases}
 use Rattle.psb_machine.specs.declared.deals.Standing.{Standing}
 use Rattle.psb_machine.specs.declared.deals.Standing.TheVariants.{Fresh, Repeat, Stale, Gap}
 use Rattle.psb_machine.specs.declared.deals.Refusal.{Refusal}
 use Rattle.psb_machine.specs.Course.{Step, Absorb, Tell, after_all}
+use Rattle.psb_machine.proofs.Steps.{too_same}
 
 -- a reaction's change leaves the settings
 abbrev pub Stays : State → Reaction → Type 0
@@ -48,14 +51,22 @@ reply_stays : (n : Situation) (p number : ℕ) (reply : Reply) → Stays (state 
 reply_stays n p number (Accepts claims) = by_cases (all_of (tests (state n.history) (answers_deal p number (Accepts claims)))) (λ k. rw k refl) (λ k. rw k refl)
 reply_stays n p number (Refuses why detail) = by_cases (all_of (tests (state n.history) (answers_deal p number (Refuses why detail)))) (λ k. rw k refl) (λ k. rw k refl)
 
+sampling_stays : (settings : Settings) (n : Situation) (p number : ℕ) (key : List ℕ) (x : Sampling) → Stays (state n.history) (on_sampling settings n p number key x)
+sampling_stays settings n p number key (Asks salt names) = refl
+sampling_stays settings n p number key (Tells salt bits) = by_cases (answers (open_question (state n.history)) salt bits) (λ k. rw k refl) (λ k. rw k refl)
+
 frame_stays : (settings : Settings) (n : Situation) (p number : ℕ) (key : List ℕ) (frame : Frame) → Stays (state n.history) (on_frame settings n p number key frame)
 frame_stays settings n p number key frame = got (got_of frame)
   where
-    rest : (o : Option Reply) → Stays (state n.history) (elim o [ None ↦ quiet n.volatile | Some r ↦ on_reply n p number r ])
-    rest None = refl
+    last : (o : Option Sampling) → Stays (state n.history) (elim o [ None ↦ quiet n.volatile | Some x ↦ on_sampling settings n p number key x ])
+    last None = refl
+    last (Some x) = sampling_stays settings n p number key x
+
+    rest : (o : Option Reply) → Stays (state n.history) (elim o [ None ↦ on_last settings n p number key frame | Some r ↦ on_reply n p number r ])
+    rest None = last (sampling_of frame)
     rest (Some r) = reply_stays n p number r
 
-    either : (o : Option Deal) → Stays (state n.history) (elim o [ None ↦ on_rest n p number frame | Some d ↦ on_deal settings n p number key d ])
+    either : (o : Option Deal) → Stays (state n.history) (elim o [ None ↦ on_rest settings n p number key frame | Some d ↦ on_deal settings n p number key d ])
     either None = rest (replied_by frame)
     either (Some d) = deal_stays (standing (row (state n.history) p).last.number number) settings n p number key d
 
@@ -83,9 +94,15 @@ asking_stays : (settings : Settings) (n : Situation) (p : ℕ) (key : List ℕ) 
 asking_stays settings n p key None = refl
 asking_stays settings n p key (Some a) = by_cases a.is_new (λ k. rw k refl) (λ k. rw k refl)
 
+choice_stays : (settings : Settings) (n : Situation) (p : ℕ) (key : List ℕ) (o : Option (List Candidate)) → Stays (state n.history) (by_choice settings n p key o)
+choice_stays settings n p key (Some candidates) = refl
+choice_stays settings n p key None =
+    let stays = asking_stays settings n p key (asking_at settings n p) in
+    too_same (Stays (state n.history)) (questions settings (state n.history) p key) (by_asking settings n p key (asking_at settings n p)) stays stays
+
 key_stays : (settings : Settings) (n : Situation) (p : ℕ) (o : Option (List ℕ)) → Stays (state n.history) (by_key settings n p o)
 key_stays settings n p None = refl
-key_stays settings n p (Some key) = asking_stays settings n p key (asking_at settings n p)
+key_stays settings n p (Some key) = choice_stays settings n p key (choice_at settings n p)
 
 tick_stays : (o : Option Settings) (n : Situation) (p : ℕ) → Stays (state n.history) (on_tick o n p)
 tick_stays None n p = refl

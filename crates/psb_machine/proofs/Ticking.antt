@@ -9,9 +9,10 @@ use Rattle.psb_model.specs.Proposing.{proposal}
 use Rattle.psb_model.specs.History.{state}
 use Rattle.psb_model.specs.Needed.{IsValid}
 use Rattle.psb_model.specs.declared.deals.Deal.{Deal}
+use Rattle.psb_model.specs.declared.entries.Candidate.{Candidate}
 use Rattle.psb_model.specs.declared.deals.DealWhat.{DealWhat}
 use Rattle.psb_model.specs.declared.change.Change.{Change}
-use Rattle.psb_model.specs.declared.change.Change.TheVariants.{Proposed}
+use Rattle.psb_model.specs.declared.change.Change.TheVariants.{Proposed, Chose}
 use Rattle.psb_model.proofs.ByObject.{by_cases}
 use Rattle.psb_model.proofs.Bodies.{valid_snoc}
 use Rattle.psb_model.proofs.Built.{plain_state}
@@ -22,12 +23,15 @@ use Rattle.psb_model.proofs.Proposable.{proposable, proposal_allowed}
 use Rattle.wire_codec.specs.Frames.{key_in}
 use Rattle.psb_machine.specs.Settling.{wait_in}
 use Rattle.psb_machine.specs.Proposals.{Asking, next_asking, proposed_at, propose_facts, is_even, is_askable}
-use Rattle.psb_machine.specs.Machine.{Situation, changes_of, clock_in, later, keys_of, grown_by, by_asking, asking_by, asking_at, by_key, on_tick}
+use Rattle.psb_machine.specs.Machine.{Situation, Reaction, changes_of, clock_in, later, keys_of, grown_by, by_asking, asking_by, asking_at, choice_at, by_choice, by_key, on_tick}
+use Rattle.psb_machine.specs.Sampling.{questions}
 use Rattle.psb_machine.specs.Laws.{TickFits}
 use Rattle.psb_machine.proofs.Taken.{MayTake, begun_here}
 use Rattle.psb_machine.proofs.Peers.{keyed_is_peer}
 use Rattle.psb_machine.proofs.Valid.{unchanged}
 use Rattle.psb_machine.proofs.Askable.{pending_askable, proposal_askable}
+use Rattle.psb_machine.proofs.Steps.{too_same}
+use Rattle.psb_machine.proofs.Choosing.{choice_may}
 
 -- ---- which deal is asked for
 
@@ -91,9 +95,18 @@ asking_valid settings n p key (Some a) asks v is peer f =
     (λ pending old. rw old (unchanged n.history v))
     (λ idle what found same. subst (λ (x : Asking). IsValid (n.history ++ option_to_list (grown_by p x))) same (proposed_valid n.history settings p what v is peer f idle found))
 
+choice_valid : (settings : Settings) (n : Situation) (p : ℕ) (key : List ℕ) (o : Option (List Candidate)) → choice_at settings n p ≡ o → IsValid n.history → (state n.history).settings ≡ Some settings → is_peer (state n.history) p ≡ true → TickFits (state n.history) p
+    → IsValid (n.history ++ changes_of (by_choice settings n p key o))
+choice_valid settings n p key (Some candidates) chosen v is peer f =
+    let m = choice_may settings n p candidates v is chosen in
+    valid_snoc n.history (Chose candidates) v m.grammar m.may m.widths m.built m.brings
+choice_valid settings n p key None chosen v is peer f =
+    let valid = asking_valid settings n p key (asking_at settings n p) refl v is peer f in
+    too_same (λ (r : Reaction). IsValid (n.history ++ changes_of r)) (questions settings (state n.history) p key) (by_asking settings n p key (asking_at settings n p)) valid valid
+
 key_valid : (settings : Settings) (n : Situation) (p : ℕ) (o : Option (List ℕ)) → key_in (keys_of settings) p ≡ o → IsValid n.history → (state n.history).settings ≡ Some settings → TickFits (state n.history) p → IsValid (n.history ++ changes_of (by_key settings n p o))
 key_valid settings n p None keyed v is f = unchanged n.history v
-key_valid settings n p (Some key) keyed v is f = asking_valid settings n p key (asking_at settings n p) refl v is (keyed_is_peer n.history settings p key v.built is keyed) f
+key_valid settings n p (Some key) keyed v is f = choice_valid settings n p key (choice_at settings n p) refl v is (keyed_is_peer n.history settings p key v.built is keyed) f
 
 pub tick_valid : (n : Situation) (p : ℕ) (o : Option Settings) → o ≡ (state n.history).settings → IsValid n.history → TickFits (state n.history) p → IsValid (n.history ++ changes_of (on_tick o n p))
 tick_valid n p None is v f = unchanged n.history v

@@ -26,9 +26,10 @@ use Rattle.wire_codec.specs.declared.frame.Dropped.{Dropped}
 use Rattle.wire_codec.specs.declared.frame.Frame.{Frame}
 use Rattle.psb_machine.specs.Laws.{KeepFits, SnapFits}
 use Rattle.psb_machine.specs.Deals.{standing, code_of, first_that_holds, judged, Deal, StoreFresh, StoreSwap, Cancel, PutBack, deal_of, slots_of, is_engaged, chunk_units, clashes, judged_at, meets_others}
-use Rattle.psb_machine.specs.Machine.{Situation, changes_of, kept_with, snapped_with, has_snapshot, on_keep, on_snap, on_forget, keys_of, quiet, tells_again, by_standing, on_deal, on_get, on_reply, on_rest, on_other, here, on_frame, on_read, on_keyed, on_datagram}
+use Rattle.psb_machine.specs.Machine.{Situation, changes_of, kept_with, snapped_with, has_snapshot, on_keep, on_snap, on_forget, keys_of, quiet, tells_again, by_standing, on_deal, on_get, on_reply, on_sampling, on_last, on_rest, on_other, here, on_frame, on_read, on_keyed, on_datagram}
 use Rattle.psb_machine.specs.Gets.{got_of, has_chunk}
 use Rattle.psb_machine.specs.Settling.{Reply, replied_by}
+use Rattle.psb_machine.specs.Sampling.{Sampling, Asks, Tells, sampling_of, open_question, answers}
 use Rattle.psb_machine.specs.declared.deals.Standing.{Standing}
 use Rattle.psb_machine.specs.declared.deals.Standing.TheVariants.{Fresh, Repeat, Stale, Gap}
 use Rattle.psb_machine.specs.declared.deals.Reason.{Reason}
@@ -152,15 +153,23 @@ deal_valid settings n p number key deal v made = by_how (standing (row (state n.
     by_how Stale is = unchanged n.history v
     by_how Gap is = unchanged n.history v
 
+sampling_valid : (settings : Settings) (n : Situation) (p number : ℕ) (key : List ℕ) (x : Sampling) → IsValid n.history → IsValid (n.history ++ changes_of (on_sampling settings n p number key x))
+sampling_valid settings n p number key (Asks salt names) v = unchanged n.history v
+sampling_valid settings n p number key (Tells salt bits) v = by_cases (answers (open_question (state n.history)) salt bits) (λ k. rw k (unchanged n.history v)) (λ k. rw k (unchanged n.history v))
+
 frame_valid : (settings : Settings) (n : Situation) (p number : ℕ) (key : List ℕ) (frame : Frame) → IsValid n.history → (state n.history).settings ≡ Some settings → is_peer (state n.history) p ≡ true
     → FrameFits p number frame → IsValid (n.history ++ changes_of (on_frame settings n p number key frame))
 frame_valid settings n p number key frame v present peer f = got (got_of frame)
   where
-    rest : (o : Option Reply) → replied_by frame ≡ o → IsValid (n.history ++ changes_of (elim o [ None ↦ quiet n.volatile | Some r ↦ on_reply n p number r ]))
-    rest None is = unchanged n.history v
+    last : (o : Option Sampling) → IsValid (n.history ++ changes_of (elim o [ None ↦ quiet n.volatile | Some x ↦ on_sampling settings n p number key x ]))
+    last None = unchanged n.history v
+    last (Some x) = sampling_valid settings n p number key x v
+
+    rest : (o : Option Reply) → replied_by frame ≡ o → IsValid (n.history ++ changes_of (elim o [ None ↦ on_last settings n p number key frame | Some r ↦ on_reply n p number r ]))
+    rest None is = last (sampling_of frame)
     rest (Some r) is = reply_valid n p number r v peer f.peer f.number_fits (reply_fits p number frame r f is)
 
-    either : (o : Option Deal) → deal_of frame ≡ o → IsValid (n.history ++ changes_of (elim o [ None ↦ on_rest n p number frame | Some d ↦ on_deal settings n p number key d ]))
+    either : (o : Option Deal) → deal_of frame ≡ o → IsValid (n.history ++ changes_of (elim o [ None ↦ on_rest settings n p number key frame | Some d ↦ on_deal settings n p number key d ]))
     either None is = rest (replied_by frame) refl
     either (Some d) is =
         deal_valid settings n p number key d v

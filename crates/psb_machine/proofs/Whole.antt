@@ -1,5 +1,5 @@
 -- The laws of the machine.
-use Rattle.std.proofs.Common.{◌≡◌, ℕ, ◌≤◌, ◌^◌, ◌||◌, Bool, true, false, if◌then◌else◌, slice_get, option_map, option_to_list, is_some, List, [], length, Option, Some, None, Result, Ok, Err, refl, arith}
+use Rattle.std.proofs.Common.{◌≡◌, ℕ, ◌≤◌, ◌^◌, ◌||◌, Bool, true, false, if◌then◌else◌, slice_get, option_map, option_to_list, is_some, List, [], ◌++◌, length, Option, Some, None, Result, Ok, Err, refl, arith}
 use Rattle.std.proofs.lemmas.Bool.{lt-ltb}
 use Rattle.std.proofs.lemmas.List.{append-nil}
 use Rattle.psb_bytes.specs.Numbers.{AreBytes}
@@ -16,7 +16,7 @@ use Rattle.psb_machine.specs.Deals.{standing, Deal, deal_of, judged_at}
 use Rattle.psb_machine.specs.Gets.{got_of, has_chunk}
 use Rattle.psb_machine.specs.Replies.{reply}
 use Rattle.psb_machine.specs.Settling.{Reply, replied_by, settle}
-use Rattle.psb_machine.specs.Machine.{Situation, Volatile, Input, Datagram, Tick, Keep, Snap, Forget, Reaction, quiet, grows, kept_with, snapped_with, has_snapshot, tells_again, settled, ticked, react, keys_of, by_standing, on_deal, here, on_get, grown_by, by_asking, asking_at, by_key, on_tick, by_settled, on_reply, on_rest, on_other, on_frame, on_keyed, on_read, on_datagram}
+use Rattle.psb_machine.specs.Machine.{Situation, Volatile, Input, Datagram, Tick, Keep, Snap, Forget, Reaction, quiet, grows, kept_with, snapped_with, has_snapshot, tells_again, settled, ticked, react, keys_of, by_standing, on_deal, here, on_get, grown_by, by_asking, asking_at, asks_too, choice_at, by_choice, by_key, on_tick, by_settled, on_reply, keeps, sample_to, on_sampling, on_last, on_rest, on_other, on_frame, on_keyed, on_read, on_datagram}
 use Rattle.psb_machine.specs.declared.deals.Standing.{Standing}
 use Rattle.psb_machine.specs.declared.deals.Standing.TheVariants.{Fresh, Repeat, Stale, Gap}
 use Rattle.psb_machine.specs.Laws.{KeepsValid, AllTellLittle}
@@ -25,9 +25,12 @@ use Rattle.psb_machine.proofs.Valid.{datagram_valid, keep_valid, snap_valid, for
 use Rattle.psb_model.proofs.ByObject.{by_cases}
 use Rattle.psb_machine.specs.Deals.{meets_others}
 use Rattle.psb_machine.specs.Proposals.{Asking, frame_of, letter_of}
+use Rattle.psb_machine.specs.Sampling.{Sampling, Asks, Tells, sampling_of, open_question, question_to, questions, answers}
+use Rattle.psb_machine.proofs.Steps.{too_same}
 use Rattle.psb_machine.proofs.Ticking.{tick_valid}
+use Rattle.psb_model.specs.declared.entries.Candidate.{Candidate}
 use Rattle.psb_model.specs.declared.deals.Deal.{Deal as OwnDeal}
-use Rattle.psb_model.specs.declared.change.Change.TheVariants.{Forgot}
+use Rattle.psb_model.specs.declared.change.Change.TheVariants.{Forgot, Chose}
 
 pub frame_read_fits : (own : ℕ) (keys : List (ℕ × List ℕ)) (x : List ℕ) (i : Incoming) → AreBytes x → read_frame own keys x ≡ Ok i → FrameFits i.from i.number i.frame
 frame_read_fits own keys x i bytes read =
@@ -60,6 +63,9 @@ quiet_little n v = record { most = omega arith; letters = λ is. refl; same = λ
 grows_little : (n : Situation) (c : Change) (v : Volatile) → Little n (grows c v)
 grows_little n c v = record { most = omega arith; letters = λ is. refl; same = λ is. absurd (cc) }
 
+keeps_little : (n : Situation) (p bits : ℕ) → Little n (keeps p bits n.volatile)
+keeps_little n p bits = record { most = omega arith; letters = λ is. refl; same = λ is. absurd (cc) }
+
 settled_little : (n : Situation) (o : Option Change) → Little n (by_settled o n.volatile)
 settled_little n None = quiet_little n n.volatile
 settled_little n (Some c) = grows_little n c n.volatile
@@ -81,14 +87,24 @@ get_little settings n p number key name = chosen (has_chunk (state n.history) p 
     chosen true o = again_little n o
     chosen false o = quiet_little n n.volatile
 
+sampling_little : (settings : Settings) (n : Situation) (p number : ℕ) (key : List ℕ) (x : Sampling) → Little n (on_sampling settings n p number key x)
+sampling_little settings n p number key (Asks salt names) = again_little n (Some (sample_to settings (state n.history) key p number salt names))
+sampling_little settings n p number key (Tells salt bits) = by_cases (answers (open_question (state n.history)) salt bits)
+    (λ k. rw k (keeps_little n p bits))
+    (λ k. rw k (quiet_little n n.volatile))
+
 frame_little : (settings : Settings) (n : Situation) (p number : ℕ) (key : List ℕ) (frame : Frame) → Little n (on_frame settings n p number key frame)
 frame_little settings n p number key frame = got (got_of frame)
   where
-    rest : (o : Option Reply) → Little n (elim o [ None ↦ quiet n.volatile | Some r ↦ on_reply n p number r ])
-    rest None = quiet_little n n.volatile
+    last : (o : Option Sampling) → Little n (elim o [ None ↦ quiet n.volatile | Some x ↦ on_sampling settings n p number key x ])
+    last None = quiet_little n n.volatile
+    last (Some x) = sampling_little settings n p number key x
+
+    rest : (o : Option Reply) → Little n (elim o [ None ↦ on_last settings n p number key frame | Some r ↦ on_reply n p number r ])
+    rest None = last (sampling_of frame)
     rest (Some r) = settled_little n (settle (state n.history) p number r)
 
-    either : (o : Option Deal) → Little n (elim o [ None ↦ on_rest n p number frame | Some d ↦ on_deal settings n p number key d ])
+    either : (o : Option Deal) → Little n (elim o [ None ↦ on_rest settings n p number key frame | Some d ↦ on_deal settings n p number key d ])
     either None = rest (replied_by frame)
     either (Some d) = deal_little (standing (row (state n.history) p).last.number number) settings n p number key (judged_at settings n.history p number d)
 
@@ -108,7 +124,7 @@ datagram_little : (o : Option Settings) (n : Situation) (x : List ℕ) → Littl
 datagram_little None n x = quiet_little n n.volatile
 datagram_little (Some settings) n x = read_little settings n (read_frame settings.id (keys_of settings) x)
 
-asks_little : (n : Situation) (grown : Option Change) (v : Volatile) (o : Option (ℕ × List ℕ)) → Little n (record { grown = grown; letters = option_to_list o; volatile = v; dropped = None })
+asks_little : (n : Situation) (grown : Option Change) (v : Volatile) (o : Option (ℕ × List ℕ)) → Little n (record { grown = grown; letters = option_to_list o; volatile = v; sample = None; dropped = None })
 asks_little n grown v None = record { most = omega arith; letters = λ is. refl; same = λ is. absurd (cc) }
 asks_little n grown v (Some letter) = record { most = omega arith; letters = λ is. absurd (cc); same = λ is. absurd (cc) }
 
@@ -119,9 +135,30 @@ asking_little : (settings : Settings) (n : Situation) (p : ℕ) (key : List ℕ)
 asking_little settings n p key None = quiet_little n (ticked p n.volatile)
 asking_little settings n p key (Some a) = asks_little n (grown_by p a) (ticked p n.volatile) (asked_for settings n p key a.deal)
 
+-- with what is asked besides
+both_little : (n : Situation) (grown : Option Change) (v : Volatile) (o q : Option (ℕ × List ℕ)) → Little n (record { grown = grown; letters = option_to_list o ++ option_to_list q; volatile = v; sample = None; dropped = None })
+both_little n grown v None None = record { most = omega arith; letters = λ is. absurd (cc); same = λ is. absurd (cc) }
+both_little n grown v None (Some b) = record { most = omega arith; letters = λ is. absurd (cc); same = λ is. absurd (cc) }
+both_little n grown v (Some a) None = record { most = omega arith; letters = λ is. absurd (cc); same = λ is. absurd (cc) }
+both_little n grown v (Some a) (Some b) = record { most = omega arith; letters = λ is. absurd (cc); same = λ is. absurd (cc) }
+
+abbrev asked_besides : Settings → Situation → ℕ → List ℕ → Option (ℕ × List ℕ)
+asked_besides settings n p key = option_map (question_to settings p key) (open_question (state n.history))
+
+too_little : (settings : Settings) (n : Situation) (p : ℕ) (key : List ℕ) (o : Option Asking) → Little n (asks_too (questions settings (state n.history) p key) (by_asking settings n p key o))
+too_little settings n p key None = asks_little n None (ticked p n.volatile) (asked_besides settings n p key)
+too_little settings n p key (Some a) =
+    too_same (Little n) (questions settings (state n.history) p key) (by_asking settings n p key (Some a))
+    (asking_little settings n p key (Some a))
+    (both_little n (grown_by p a) (ticked p n.volatile) (asked_for settings n p key a.deal) (asked_besides settings n p key))
+
+choice_little : (settings : Settings) (n : Situation) (p : ℕ) (key : List ℕ) (o : Option (List Candidate)) → Little n (by_choice settings n p key o)
+choice_little settings n p key (Some candidates) = grows_little n (Chose candidates) (ticked p n.volatile)
+choice_little settings n p key None = too_little settings n p key (asking_at settings n p)
+
 key_little : (settings : Settings) (n : Situation) (p : ℕ) (o : Option (List ℕ)) → Little n (by_key settings n p o)
 key_little settings n p None = quiet_little n (ticked p n.volatile)
-key_little settings n p (Some key) = asking_little settings n p key (asking_at settings n p)
+key_little settings n p (Some key) = choice_little settings n p key (choice_at settings n p)
 
 tick_little : (o : Option Settings) (n : Situation) (p : ℕ) → Little n (on_tick o n p)
 tick_little None n p = quiet_little n (ticked p n.volatile)

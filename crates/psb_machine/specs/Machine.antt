@@ -9,26 +9,29 @@ use Rattle.psb_model.specs.State.{State, row, own_has, is_held, snaps_made}
 use Rattle.psb_model.specs.Needed.{last_brought}
 use Rattle.psb_model.specs.History.{state}
 use Rattle.psb_model.specs.declared.change.Change.{Change}
-use Rattle.psb_model.specs.declared.change.Change.TheVariants.{Kept, Snapped, Forgot, Proposed, Turned}
+use Rattle.psb_model.specs.declared.change.Change.TheVariants.{Kept, Snapped, Forgot, Proposed, Turned, Chose}
+use Rattle.psb_model.specs.declared.entries.Candidate.{Candidate}
 use Rattle.psb_model.specs.declared.deals.Deal.{Deal as OwnDeal}
 use Rattle.wire_codec.specs.Frames.{Incoming, read_frame, key_in, datagram}
 use Rattle.wire_codec.specs.declared.frame.Dropped.{Dropped}
 use Rattle.wire_codec.specs.declared.frame.Frame.{Frame}
-use Rattle.wire_codec.specs.declared.frame.Frame.TheVariants.{Here}
+use Rattle.wire_codec.specs.declared.frame.Frame.TheVariants.{Here, Sample}
 use Rattle.psb_machine.specs.Deals.{standing, Deal, deal_of, judged_at, meets_others}
 use Rattle.psb_machine.specs.Gets.{has_chunk, got_of}
 use Rattle.psb_machine.specs.Replies.{reply}
 use Rattle.psb_machine.specs.Settling.{Reply, replied_by, settle, wait_in, waited_in, waits_after}
-use Rattle.psb_machine.specs.Proposals.{Asking, proposed_at, asks, is_even}
+use Rattle.psb_machine.specs.Proposals.{Asking, proposed_at, letter_of, asks, is_even}
+use Rattle.psb_machine.specs.Sampling.{Sampling, Asks, Tells, sampling_of, open_question, questions, bits_of, answers, with_sample, is_last, choice_by}
 use Rattle.psb_machine.specs.declared.deals.Standing.{Standing}
 use Rattle.psb_machine.specs.declared.deals.Standing.TheVariants.{Fresh, Repeat, Stale, Gap}
 use Rattle.psb_machine.specs.declared.snap_note.SnapNote.{SnapNote}
 
 -- What a restart forgets. So far these are the clocks of the peers, each the ticks of that peer that
--- were absorbed, of which peers a sample is kept, and for how many ticks of a peer no proposal is made.
+-- were absorbed, what each of them answered last to the question that is asked before buddies are chosen,
+-- and for how many ticks of a peer no proposal is made.
 pub record Volatile : Type 0 where
   pub clocks : List (ℕ × ℕ)
-  pub samples : List ℕ
+  pub samples : List (ℕ × ℕ)
   pub waits : List (ℕ × ℕ)
 
 -- what a node that was just opened has
@@ -52,7 +55,13 @@ ticked_in (x ∷ xs) p = if x.0 == p then (p, later x.1) ∷ xs else x ∷ ticke
 abbrev pub ticked : ℕ → Volatile → Volatile
 ticked p v = record v { clocks = ticked_in v.clocks p; waits = waited_in v.waits p }
 
--- What a change does to it, whatever input made the change; the state is the one before it.
+-- what a peer answered is kept, in the place of what it answered before
+abbrev pub noted : Option (ℕ × ℕ) → Volatile → Volatile
+noted None v = v
+noted (Some x) v = record v { samples = with_sample x.0 x.1 v.samples }
+
+-- What a change does to it, whatever input made the change; the state is the one before it. After a snapshot, or
+-- without one, other names are wanted, and what was answered tells nothing of them.
 abbrev pub by_change : State → Change → Volatile → Volatile
 by_change s (Snapped number ticket files folders bytes left names) v = record v { samples = [] }
 by_change s (Forgot number) v = record v { samples = [] }
@@ -82,33 +91,38 @@ pub data Input : Type 0 where
   Forget : ℕ → Input
 
 -- what a node makes of an input: at most one change, the letters (receiver and datagram) that tell of
--- it, what it then has of what a restart forgets, but for what the change does to that, and, where the
--- input is a datagram that is dropped, the test that it fails
+-- it, what it then has of what a restart forgets, but for what the change does to that, the sample of a
+-- peer that is kept there, and, where the input is a datagram that is dropped, the test that it fails
 pub record Reaction : Type 0 where
   pub grown : Option Change
   pub letters : List (ℕ × List ℕ)
   pub volatile : Volatile
+  pub sample : Option (ℕ × ℕ)
   pub dropped : Option Dropped
 
 -- nothing comes of it
 abbrev pub quiet : Volatile → Reaction
-quiet v = record { grown = None; letters = []; volatile = v; dropped = None }
+quiet v = record { grown = None; letters = []; volatile = v; sample = None; dropped = None }
 
 -- the datagram fails a test of its format
 abbrev pub drops : Dropped → Volatile → Reaction
-drops why v = record { grown = None; letters = []; volatile = v; dropped = Some why }
+drops why v = record { grown = None; letters = []; volatile = v; sample = None; dropped = Some why }
 
 -- a change is made, and the letter tells of it
 abbrev pub makes : Change → ℕ × List ℕ → Volatile → Reaction
-makes c letter v = record { grown = Some c; letters = letter ∷ []; volatile = v; dropped = None }
+makes c letter v = record { grown = Some c; letters = letter ∷ []; volatile = v; sample = None; dropped = None }
 
 -- a change is made, of which no letter tells
 abbrev pub grows : Change → Volatile → Reaction
-grows c v = record { grown = Some c; letters = []; volatile = v; dropped = None }
+grows c v = record { grown = Some c; letters = []; volatile = v; sample = None; dropped = None }
 
 -- a change that was made before is told of again
 abbrev pub tells_again : Option (ℕ × List ℕ) → Volatile → Reaction
-tells_again letter v = record { grown = None; letters = option_to_list letter; volatile = v; dropped = None }
+tells_again letter v = record { grown = None; letters = option_to_list letter; volatile = v; sample = None; dropped = None }
+
+-- the sample of a peer is kept
+abbrev pub keeps : ℕ → ℕ → Volatile → Reaction
+keeps p bits v = record { grown = None; letters = []; volatile = v; sample = Some (p, bits); dropped = None }
 
 -- the changes of a reaction, as a list
 abbrev pub changes_of : Reaction → List Change
@@ -153,14 +167,27 @@ by_settled (Some c) v = grows c v
 abbrev pub on_reply : Situation → ℕ → ℕ → Reply → Reaction
 on_reply n p number reply = by_settled (settle (state n.history) p number reply) n.volatile
 
--- A frame of a peer that is no Get and no deal of a kind that is served. So far nothing comes of one that is
--- no reply.
-abbrev pub on_rest : Situation → ℕ → ℕ → Frame → Reaction
-on_rest n p number frame = elim (replied_by frame) [ None ↦ quiet n.volatile | Some r ↦ on_reply n p number r ]
+-- A peer that asks which names are held is told it, under the number of its question. What it tells is kept while
+-- the node's own question is open, where it is an answer to that.
+abbrev pub sample_to : Settings → State → List ℕ → ℕ → ℕ → List ℕ → List (List ℕ) → ℕ × List ℕ
+sample_to settings s key p number salt names = letter_of settings p key number (Sample salt (bits_of (is_held s) names))
+
+abbrev pub on_sampling : Settings → Situation → ℕ → ℕ → List ℕ → Sampling → Reaction
+on_sampling settings n p number key (Asks salt names) = tells_again (Some (sample_to settings (state n.history) key p number salt names)) n.volatile
+on_sampling settings n p number key (Tells salt bits) = if answers (open_question (state n.history)) salt bits then keeps p bits n.volatile else quiet n.volatile
+
+-- A frame of a peer that is no Get, no deal of a kind that is served and no reply. So far nothing comes of one that is
+-- no part of sampling.
+abbrev pub on_last : Settings → Situation → ℕ → ℕ → List ℕ → Frame → Reaction
+on_last settings n p number key frame = elim (sampling_of frame) [ None ↦ quiet n.volatile | Some x ↦ on_sampling settings n p number key x ]
+
+-- A frame of a peer that is no Get and no deal of a kind that is served.
+abbrev pub on_rest : Settings → Situation → ℕ → ℕ → List ℕ → Frame → Reaction
+on_rest settings n p number key frame = elim (replied_by frame) [ None ↦ on_last settings n p number key frame | Some r ↦ on_reply n p number r ]
 
 -- A frame of a peer that is no Get.
 abbrev pub on_other : Settings → Situation → ℕ → ℕ → List ℕ → Frame → Reaction
-on_other settings n p number key frame = elim (deal_of frame) [ None ↦ on_rest n p number frame | Some d ↦ on_deal settings n p number key d ]
+on_other settings n p number key frame = elim (deal_of frame) [ None ↦ on_rest settings n p number key frame | Some d ↦ on_deal settings n p number key d ]
 
 -- A frame of a peer.
 abbrev pub on_frame : Settings → Situation → ℕ → ℕ → List ℕ → Frame → Reaction
@@ -216,7 +243,7 @@ grown_by p a = if a.is_new then Some (Proposed p a.deal.number a.deal.what) else
 
 abbrev pub by_asking : Settings → Situation → ℕ → List ℕ → Option Asking → Reaction
 by_asking settings n p key None = quiet (ticked p n.volatile)
-by_asking settings n p key (Some a) = record { grown = grown_by p a; letters = asks settings n.history p key a.deal; volatile = ticked p n.volatile; dropped = None }
+by_asking settings n p key (Some a) = record { grown = grown_by p a; letters = asks settings n.history p key a.deal; volatile = ticked p n.volatile; sample = None; dropped = None }
 
 -- The deal that a tick asks for: one without a reply at each second tick of its peer; where none is pending and none
 -- is waited for, the one that is proposed next.
@@ -227,10 +254,24 @@ asking_by settings n p (Some d) = if is_even (later (clock_in n.volatile.clocks 
 abbrev pub asking_at : Settings → Situation → ℕ → Option Asking
 asking_at settings n p = asking_by settings n p (row (state n.history) p).pending
 
+-- where nothing is proposed, the peer is asked besides which wanted names it holds, until buddies are chosen
+abbrev pub asks_too : List (ℕ × List ℕ) → Reaction → Reaction
+asks_too letters r = elim r.grown [ None ↦ record r { letters = r.letters ++ letters } | Some c ↦ r ]
+
+-- The candidates in their order, where buddies are to be chosen at a tick: one of the last peer.
+abbrev pub choice_at : Settings → Situation → ℕ → Option (List Candidate)
+choice_at settings n p =
+    if is_last settings.peers p then choice_by settings.peers n.volatile.samples (later (clock_in n.volatile.clocks p)) (open_question (state n.history)) else None
+
+-- A choice is made before anything else.
+abbrev pub by_choice : Settings → Situation → ℕ → List ℕ → Option (List Candidate) → Reaction
+by_choice settings n p key (Some candidates) = grows (Chose candidates) (ticked p n.volatile)
+by_choice settings n p key None = asks_too (questions settings (state n.history) p key) (by_asking settings n p key (asking_at settings n p))
+
 -- a tick of one that is no peer does nothing but that a clock goes on
 abbrev pub by_key : Settings → Situation → ℕ → Option (List ℕ) → Reaction
 by_key settings n p None = quiet (ticked p n.volatile)
-by_key settings n p (Some key) = by_asking settings n p key (asking_at settings n p)
+by_key settings n p (Some key) = by_choice settings n p key (choice_at settings n p)
 
 abbrev pub on_tick : Option Settings → Situation → ℕ → Reaction
 on_tick None n p = quiet (ticked p n.volatile)
@@ -245,7 +286,7 @@ react n (Forget number) = on_forget n number
 
 -- The node after a reaction. What a change does to what a restart forgets is said here alone.
 abbrev pub settled : Situation → Reaction → Situation
-settled n r = record { history = n.history ++ changes_of r; volatile = by_changes (state n.history) r.grown r.volatile }
+settled n r = record { history = n.history ++ changes_of r; volatile = by_changes (state n.history) r.grown (noted r.sample r.volatile) }
 
 -- the node after an input
 abbrev pub next : Situation → Input → Situation

@@ -1,7 +1,12 @@
 //! What a node makes of an input. Nothing is written here.
 
-ghost use Rattle.std.specs.Prelude.{◌≡◌, ◌⊎◌, ◌≤◌, ◌<◌, ◌^◌, [], List, Bool, ℕ, true, false, length, Some, None, IfSome, IfOk, OnOk, OnErr};
+ghost use Rattle.std.specs.Prelude.{◌≡◌, ◌⊎◌, ◌≤◌, ◌<◌, ◌^◌, if◌then◌else◌, [], ◌∷◌, List, Bool, ℕ, true, false, length, Some, None, IfSome, IfOk, OnOk, OnErr};
+ghost use Rattle.std.specs.Option.{option_map};
 ghost use Rattle.psb_digest.specs.Clashes.{Pair};
+ghost use Rattle.psb_model.specs.State.{is_held};
+ghost use Rattle.wire_codec.specs.Frames.{datagram};
+ghost use Rattle.wire_codec.specs.declared.frame.Frame.TheVariants.{Sample};
+ghost use Rattle.psb_machine.specs.Sampling.{open_question, bits_of, answers};
 ghost use Rattle.psb_model.specs.History.{state};
 ghost use Rattle.psb_station.specs.Span.{Tells_bytes, Looked};
 ghost use Rattle.psb_machine.specs.Machine.{Situation, Datagram, Forget, react};
@@ -12,14 +17,15 @@ ghost use Rattle.psb_machine.specs.Settling.{settle};
 use super::Node;
 use crate::decision::Decision;
 use crate::facts::facts_of;
-use crate::offer::{Offer, Reading, Reply, Request};
-use crate::reaction::{Reaction, one_letter, quiet, untold};
-use crate::replies::{here_to, letter_with, reply_again, reply_to};
+use crate::offer::{Inquiry, Offer, Reading, Reply, Request, Told};
+use crate::reaction::{PeerSample, Reaction, one_letter, quiet, told, untold};
+use crate::replies::{here_to, letter_to, letter_with, reply_again, reply_to, sample_frame};
 use crate::{Fault, Input};
 use chunk_store::Owner;
 use deals::{Facts, Standing, standing};
 use node_journal::Log;
 use psb_station::Disk;
+use sampling::{is_answer_to, sample_of};
 use wire_codec::MOST_BYTES;
 
 impl<L: Log> Node<L> {
@@ -30,7 +36,7 @@ impl<L: Log> Node<L> {
     ghost use Rattle.node_core.specs.Stored.{Knows, Stored, IsCounted};
     ghost use Rattle.node_core.specs.Unread.{IsUnread, IsCertain};
     ghost use Rattle.node_core.specs.Refusing.{IsApt, is_refused, when_taken, IsHeldAs, Refuses};
-    ghost use Rattle.node_core.specs.Reacting.{Decides, CanDo, Makes, MakesNone, IsToldAgain, IsGiven, Reacts, ReactsSo, MayCome, IsSame};
+    ghost use Rattle.node_core.specs.Reacting.{Decides, CanDo, told_by, Makes, MakesNone, IsUntold, IsToldAgain, IsGiven, Reacts, ReactsSo, MayCome, IsSame};
 
     /// What the machine makes of an input. Nothing is written.
     pub(super) fn react<D: Disk>(
@@ -98,6 +104,8 @@ impl<L: Log> Node<L> {
             Decision::Again(offer, change) => self.tell_again(disk, &offer, change),
             Decision::Settle(reply) => self.settle(&reply),
             Decision::Give(request) => self.give(disk, &request),
+            Decision::Tell(inquiry) => self.tell(&inquiry),
+            Decision::Hear(told) => self.hear(&told),
         }
     }
 
@@ -113,6 +121,8 @@ impl<L: Log> Node<L> {
             Reading::Other => return Decision::Pass,
             Reading::Get(request) => return self.decide_get(request),
             Reading::Reply(reply) => return Decision::Settle(reply),
+            Reading::Inquiry(inquiry) => return Decision::Tell(inquiry),
+            Reading::Told(told) => return Decision::Hear(told),
             Reading::Offer(offer) => offer,
         };
         let last = self.ledger.last(offer.peer);
@@ -139,7 +149,7 @@ impl<L: Log> Node<L> {
     /// Makes what a reply makes of the pending deal, of which no letter tells.
     fn settle(&self, reply: &Reply<'_>) -> Result<Reaction, Fault>
         ensures settles { IfOk result (λ r. r.change ≡ settle self.now.ledger.state reply.now.peer reply.now.reply.number (answer_in reply.now.reply.answer)) }
-        ensures dropped { IfOk result (λ r. r.dropped ≡ None) }
+        ensures plain { IfOk result (λ r. (r.sample ≡ None) × (r.dropped ≡ None)) }
         ensures untold { IfOk result (λ r. r.out ≡ []) }
         ensures only { OnErr result (result ≡ Err Fault.Memory) }
     {
@@ -178,9 +188,61 @@ impl<L: Log> Node<L> {
         let letter = here_to(alloc, bytes, self.peers.own().id, request)?;
         Ok(Reaction {
             change: None,
+            sample: None,
             dropped: None,
             out: one_letter(alloc, letter)?,
         })
+    }
+
+    /// Tells a peer which of the names that it asks for are held.
+    fn tell(&self, inquiry: &Inquiry<'_>) -> Result<Reaction, Fault>
+        requires few { length inquiry.now.names ≤ 32 }
+        ensures letters { IfOk result (λ r. letters_of r.out ≡ (
+          inquiry.now.peer,
+          datagram inquiry.now.key self.now.peers.own.id inquiry.now.peer inquiry.now.number
+              (Sample inquiry.now.salt (bits_of (is_held self.now.ledger.state) inquiry.now.names)),
+        ) ∷ []) }
+        ensures none { IfOk result MakesNone }
+        ensures only { OnErr result (result ≡ Err Fault.Memory) }
+    {
+        let alloc = self.alloc;
+        let bits = sample_of(&self.ledger, &inquiry.names);
+        let frame = sample_frame(&inquiry.salt, bits);
+        let own = self.peers.own().id;
+        let letter = letter_to(
+            alloc,
+            &frame,
+            own,
+            inquiry.peer,
+            inquiry.number,
+            &inquiry.key,
+        )?;
+        Ok(Reaction {
+            change: None,
+            sample: None,
+            dropped: None,
+            out: one_letter(alloc, letter)?,
+        })
+    }
+
+    /// Has what a peer tells kept, where it answers the question that is open.
+    fn hear(&mut self, heard: &Told) -> Result<Reaction, Fault>
+        requires known { (n : Situation) × Knows self.old n }
+        ensures sample { IfOk result (λ r. option_map told_by r.sample ≡ (if answers (open_question self.old.ledger.state) heard.now.salt heard.now.bits then Some (heard.now.peer, heard.now.bits) else None)) }
+        ensures plain { IfOk result IsUntold }
+        ensures same { IsSame self.old self.new }
+        ensures only { OnErr result (result ≡ Err Fault.Memory) }
+    {
+        self.work_out_question()?;
+        let sample = PeerSample {
+            peer: heard.peer,
+            bits: heard.bits,
+        };
+        let Some(question) = self.open_question() else {
+            return Ok(told(self.alloc, None));
+        };
+        let answers = is_answer_to(question, &heard.salt, heard.bits);
+        Ok(told(self.alloc, answers.then_some(sample)))
     }
 
     /// Looks up the facts of a fresh offer, and judges it by them.
@@ -235,6 +297,7 @@ impl<L: Log> Node<L> {
         )?;
         Ok(Reaction {
             change: Some(change),
+            sample: None,
             dropped: None,
             out,
         })
@@ -264,6 +327,7 @@ impl<L: Log> Node<L> {
         let letter = letter_with(alloc, &reply, self.peers.own().id, offer)?;
         Ok(Reaction {
             change: None,
+            sample: None,
             dropped: None,
             out: one_letter(alloc, letter)?,
         })

@@ -17,8 +17,8 @@ ghost use Rattle.psb_machine.specs.Machine.{Situation, Tick, grown_by, react};
 
 use super::Node;
 use crate::asking::{Asking, asking_at, proposed};
-use crate::clocks::clock_of;
-use crate::reaction::{Reaction, no_letter, one_letter, quiet};
+use crate::clocks::{Clock, clock_of};
+use crate::reaction::{Reaction, ask_too, no_letter, one_letter, quiet, untold};
 use crate::replies::{cancel_of, letter_to, put_back_of, store_of};
 use crate::{Fault, Outbox};
 use node_journal::Log;
@@ -29,12 +29,15 @@ use wire_codec::{Frame, MOST_BYTES};
 
 impl<L: Log> Node<L> {
     ghost use Rattle.node_core.specs.Letters.{letters_of};
-    ghost use Rattle.node_core.specs.Asking.{asking_in};
+    ghost use Rattle.node_core.specs.Asking.{asking_in, IsBare};
+    ghost use Rattle.node_core.specs.Clocks.{clock_of};
+    ghost use Rattle.node_core.specs.Choosing.{AsksDeal, AsksDealSo};
     ghost use Rattle.node_core.specs.Stored.{Knows, Stored, IsCounted};
     ghost use Rattle.node_core.specs.Unread.{IsUnread};
     ghost use Rattle.node_core.specs.Reacting.{Reacts, ReactsSo, MayCome, IsSame};
 
-    /// What the machine makes of a tick of a peer: a deal that is asked for, or nothing but that a clock goes on.
+    /// What the machine makes of a tick of a peer: a choice of buddies, or a deal that is asked for, and what is asked
+    /// of a peer before the choice, or nothing but that a clock goes on.
     pub(super) fn on_tick<D: Disk>(&mut self, disk: &mut D, peer: PeerId) -> Result<Reaction, Fault>
         requires whole { L.is_broken self.old.log ≡ false }
         requires known { (n : Situation) × Knows self.old n }
@@ -54,7 +57,43 @@ impl<L: Log> Node<L> {
         let Some(clock) = clock_of(&self.clocks, peer) else {
             return Ok(quiet(self.alloc, None));
         };
-        match asking_at(self.alloc, &mut self.ledger, peer, &clock)? {
+        self.work_out_question()?;
+        if let Some(change) = self.choice_at(peer, &clock)? {
+            return Ok(untold(self.alloc, change));
+        }
+        let question = self.question_to(peer)?;
+        let reaction = match self.deal_at(disk, peer, &clock) {
+            Ok(reaction) => reaction,
+            Err(fault) => return Err(fault),
+        };
+        Ok(ask_too(reaction, question)?)
+    }
+
+    /// What comes of a tick of a peer beside a choice and a question: a deal that is asked for, or nothing.
+    fn deal_at<D: Disk>(
+        &mut self,
+        disk: &mut D,
+        peer: PeerId,
+        clock: &Clock,
+    ) -> Result<Reaction, Fault>
+        requires whole { L.is_broken self.old.log ≡ false }
+        requires known { (n : Situation) × Knows self.old n }
+        requires counted { IsCounted L.size L.keeps_body self.old }
+        requires few { self.old.ledger.state.changes < 2 ^ 62 }
+        requires clock { clock_of self.old.clocks.items peer ≡ Some clock.now }
+        ensures exact { IfOk result (λ r. Tells_bytes (D.view disk.new) → (n : Situation) → Knows self.old n → Stored L.holds self.old n.history (D.view disk.old) → AsksDeal r self.old n peer) }
+        ensures unread { IfOk result (λ r. (n : Situation) → Knows self.old n → IsBare n peer → AsksDeal r self.old n peer) }
+        ensures so { IfOk result (λ r. (n : Situation) → Knows self.old n → AsksDealSo r self.old n peer) }
+        ensures may { IfOk result (λ r. IfSome r.change (MayCome Knows self.old)) }
+        ensures unsampled { IfOk result (λ r. r.sample ≡ None) }
+        ensures few { IfOk result (λ r. length r.out ≤ 1) }
+        ensures rests { (n : Situation) → Knows self.old n → IsBare n peer → disk.new ≡ disk.old }
+        ensures same { IsSame self.old self.new }
+        ensures looked { Looked (result ≡ Err Fault.DiskFault) (D.view disk.old) (D.view disk.new) }
+        ensures reads { (D.view disk.new).write_faults ≡ (D.view disk.old).write_faults }
+        ensures only { OnErr result ((result ≡ Err Fault.DiskFault) ⊎ (result ≡ Err Fault.Memory)) }
+    {
+        match asking_at(self.alloc, &mut self.ledger, peer, clock)? {
             None => Ok(quiet(self.alloc, None)),
             Some(asking) => self.ask(disk, peer, asking),
         }
@@ -75,7 +114,7 @@ impl<L: Log> Node<L> {
             → (Tells_bytes (D.view disk.new) × Stored L.holds self.old n.history (D.view disk.old)) ⊎ (brings_bytes asking.deal.what ≡ false)
             → letters_of r.out ≡ asks settings n.history peer key asking.deal) }
         ensures change { IfOk result (λ r. r.change ≡ grown_by peer (asking_in asking)) }
-        ensures dropped { IfOk result (λ r. r.dropped ≡ None) }
+        ensures plain { IfOk result (λ r. (r.sample ≡ None) × (r.dropped ≡ None)) }
         ensures few { IfOk result (λ r. length r.out ≤ 1) }
         ensures unread { brings_bytes asking.deal.what ≡ false → disk.new ≡ disk.old }
         ensures same { IsSame self.old self.new }
@@ -89,6 +128,7 @@ impl<L: Log> Node<L> {
         };
         Ok(Reaction {
             change: proposed(peer, asking),
+            sample: None,
             dropped: None,
             out,
         })

@@ -2,7 +2,8 @@ use Rattle.std.proofs.Common.{◌≡◌, ◌<◌, ℕ, List, Option, None, sym, 
 use Rattle.psb_model.specs.declared.entries.OwnEntry.{OwnEntry}
 use Rattle.psb_model.specs.Words.{name_listed}
 use Rattle.psb_model.specs.Effects.{kept_lists, kept_without}
-use Rattle.node_core.proofs.Walking.{WalkedTo, own_left, walk_on, walk_done, walk_falls}
+use Rattle.sampling.proofs.Walking.{own_left}
+use Rattle.node_core.proofs.Walking.{WalkedTo, walk_on, walk_done, walk_falls}
 use Rattle.node_core.proofs.entering.unlisted_names.Goals as goal
 
 pub loop-next-smaller : goal.loop-next-smaller

@@ -1,4 +1,5 @@
-use Rattle.node_core.proofs.Walking.{WalkedTo, own_left}
+use Rattle.sampling.proofs.Walking.{own_left}
+use Rattle.node_core.proofs.Walking.{WalkedTo}
 use Rattle.psb_model.specs.Effects.{kept_lists, kept_without}
 use Rattle.node_core.proofs.entering.unlisted_names.Given as goal
 

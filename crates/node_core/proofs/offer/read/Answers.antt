@@ -1,13 +1,15 @@
-use Rattle.std.proofs.Common.{◌≡◌, true, Some, Ok, sym, ◌∙◌, ap, rules}
+use Rattle.std.proofs.Common.{◌≡◌, true, Some, Ok, is_some, sym, ◌∙◌, ap, rules}
 use Rattle.std.specs.Option.{option_map}
 use Rattle.psb_model.specs.Grammar.{is_u32, is_u64}
 use Rattle.wire_codec.specs.Frames.{key_in}
 use Rattle.wire_codec.specs.Views.{frame_of}
 use Rattle.psb_machine.specs.Deals.{deal_of}
 use Rattle.psb_machine.specs.Settling.{replied_by}
+use Rattle.psb_machine.specs.Sampling.{sampling_of}
 use Rattle.node_core.specs.declared.offer.Reply.{Reply}
 use Rattle.psb_machine.proofs.Framed.{deal_fits, reply_fits}
 use Rattle.deals.specs.Views.{answer_in, deal_in}
+use Rattle.node_core.proofs.Told.{sampling_read}
 use Rattle.node_core.proofs.offer.read.Goals as goal
 
 pub returns-in-Some-of : goal.returns-in-Some-of
@@ -44,3 +46,10 @@ returns-in-Some-reply_of c =
       number_fits = ap is_u64 sender.1 ∙ number;
       fits = reply_fits f.from f.number (frame_of f.body) (answer_in r.reply.answer) (record { peer = peer; number_fits = number; frame_is = c.in-Ok.ensures.fits }) answers;
     }
+
+pub returns-then-is_sampling : goal.returns-then-is_sampling
+returns-then-is_sampling c =
+    let f = c.in-Ok.frame in
+    let keyed : key_in c.args.keys.now f.from ≡ Some c.in-Some.key.now = search rules in
+    let some : is_some (sampling_of (frame_of f.body)) ≡ true = search rules in
+    sampling_read c.read_sampling.result c.args.own c.args.keys.now c.args.datagram.now f.from f.number c.in-Some.key.now (frame_of f.body) c.read_sampling.ensures c.in-Ok.ensures.exact keyed some c.in-Ok.ensures.fits

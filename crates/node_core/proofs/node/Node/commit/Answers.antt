@@ -34,13 +34,13 @@ enter-requires-clause-fresh g c =
 
 pub returns-in_err-make_room-2-clause-kept : goal.returns-in_err-make_room-2-clause-kept
 returns-in_err-make_room-2-clause-kept g c = on_err c.from_residual-in_err-make_room-2.result _ (λ whole. (
-  λ n k. knows_still c.args.self.now _ n c.in_ok-make_room.ensures.state (record { owners = c.make_room-2.ensures.owners; records = c.make_room-2.ensures.records }) (record { peers = refl; seed = refl; issued = omega arith }) refl k,
+  λ n k. knows_still c.args.self.now _ n c.in_ok-make_room.ensures.state (record { owners = c.make_room-2.ensures.owners; records = c.make_room-2.ensures.records }) (record { peers = refl; seed = refl; issued = omega arith }) refl (λ q. q) k,
   λ tells h s. stored_room g.L.Log.holds c.args.self.now _ h _ (λ es i held. held) s,
 ))
 
 pub returns-in_err-make_room-3-clause-kept : goal.returns-in_err-make_room-3-clause-kept
 returns-in_err-make_room-3-clause-kept g c = on_err c.from_residual-in_err-make_room-3.result _ (λ whole. (
-  λ n k. knows_still c.args.self.now _ n c.in_ok-make_room.ensures.state (record { owners = c.make_room-2.ensures.owners; records = c.make_room-2.ensures.records }) (record { peers = refl; seed = refl; issued = omega arith }) refl k,
+  λ n k. knows_still c.args.self.now _ n c.in_ok-make_room.ensures.state (record { owners = c.make_room-2.ensures.owners; records = c.make_room-2.ensures.records }) (record { peers = refl; seed = refl; issued = omega arith }) refl (λ q. q) k,
   λ tells h s. stored_room g.L.Log.holds c.args.self.now _ h _ c.make_room-3.ensures.holds s,
 ))
 
@@ -65,7 +65,7 @@ returns-clause-step g c = λ n m k step.
     let issued : c.apply.new.self.state.issued ≤ c.issue_to.new.claims.issued = omega (arith, c.issued.ensures, c.issue_to.ensures.issued) in
     let entered = enters_after c.args.self.now.ledger.state c.apply.new.self.state n.history c.make_room-2.new.self c.enter.new.names c.args.change c.in_ok-entering.entering c.in_ok-number.number k.ledger k.valid.lawful k.valid.built c.requires.may.read grown c.in_ok-entering.ensures c.enter.ensures in
     step_knows c.args.self.now _ n m c.args.change c.make_room-2.new.self c.in_ok-number.number c.requires.may k step grown (record { owners = c.make_room-2.ensures.owners; records = c.make_room-2.ensures.records }) entered
-    (c.requires.counted.changes ∙ sym c.in_ok-make_room-3.ensures.size ∙ sym c.in_ok-number.ensures.number) (record { peers = refl; seed = c.issue_to.ensures.seed; issued = c.issue_to.ensures.stay }) issued (search rules)
+    (c.requires.counted.changes ∙ sym c.in_ok-make_room-3.ensures.size ∙ sym c.in_ok-number.ensures.number) (record { peers = refl; seed = c.issue_to.ensures.seed; issued = c.issue_to.ensures.stay }) issued (search rules) c.note_question.ensures
 
 pub returns-clause-counted : goal.returns-clause-counted
 returns-clause-counted g c =

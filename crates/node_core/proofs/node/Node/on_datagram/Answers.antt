@@ -1,8 +1,10 @@
-use Rattle.std.proofs.Common.{rules}
+use Rattle.std.proofs.Common.{rules, length, ap, arith}
 use Rattle.psb_machine.specs.Machine.{Datagram}
 use Rattle.node_core.proofs.Presence.{ok_map, ok_map2, ok_map3}
 use Rattle.node_core.proofs.Reacting.{reacts_made, reacts_made_so, made_may_come, makes_few, unread_unheld, reacts_again, reacts_again_so, never_unread, reacts_given, reacts_given_so, never_unread_get}
 use Rattle.node_core.proofs.Settles.{reacts_settled, reacts_settled_so, settled_may_come}
+use Rattle.node_core.proofs.Ticks.{reacts_so}
+use Rattle.node_core.proofs.Told.{reacts_tells, reacts_hears, none_may}
 use Rattle.node_core.proofs.node.Node.on_datagram.Goals as goal
 
 pub returns-in-Make-clause-exact : goal.returns-in-Make-clause-exact
@@ -71,24 +73,66 @@ returns-in-Give-clause-so g c =
 
 pub returns-in-Settle-clause-exact : goal.returns-in-Settle-clause-exact
 returns-in-Settle-clause-exact g c =
-    ok_map3 c.settle.result _ _ _ _ (λ r change dropped out tells n k s.
-    reacts_settled c.args.self.now r n (Datagram c.args.datagram.now) _ c.in-Settle.reply k (search rules) (c.in-Settle.ensures.decides n k) change dropped out)
-    c.settle.ensures.settles c.settle.ensures.dropped c.settle.ensures.untold
+    ok_map3 c.settle.result _ _ _ _ (λ r change plain out tells n k s.
+    reacts_settled c.args.self.now r n (Datagram c.args.datagram.now) _ c.in-Settle.reply k (search rules) (c.in-Settle.ensures.decides n k) change plain out)
+    c.settle.ensures.settles c.settle.ensures.plain c.settle.ensures.untold
 
 pub returns-in-Settle-clause-unread : goal.returns-in-Settle-clause-unread
 returns-in-Settle-clause-unread g c =
-    ok_map3 c.settle.result _ _ _ _ (λ r change dropped out n k u.
-    reacts_settled c.args.self.now r n (Datagram c.args.datagram.now) _ c.in-Settle.reply k (search rules) (c.in-Settle.ensures.decides n k) change dropped out)
-    c.settle.ensures.settles c.settle.ensures.dropped c.settle.ensures.untold
+    ok_map3 c.settle.result _ _ _ _ (λ r change plain out n k u.
+    reacts_settled c.args.self.now r n (Datagram c.args.datagram.now) _ c.in-Settle.reply k (search rules) (c.in-Settle.ensures.decides n k) change plain out)
+    c.settle.ensures.settles c.settle.ensures.plain c.settle.ensures.untold
 
 pub returns-in-Settle-clause-so : goal.returns-in-Settle-clause-so
 returns-in-Settle-clause-so g c =
-    ok_map3 c.settle.result _ _ _ _ (λ r change dropped out n k.
-    reacts_settled_so c.args.self.now r n (Datagram c.args.datagram.now) _ c.in-Settle.reply k (search rules) (c.in-Settle.ensures.decides n k) change dropped out)
-    c.settle.ensures.settles c.settle.ensures.dropped c.settle.ensures.untold
+    ok_map3 c.settle.result _ _ _ _ (λ r change plain out n k.
+    reacts_settled_so c.args.self.now r n (Datagram c.args.datagram.now) _ c.in-Settle.reply k (search rules) (c.in-Settle.ensures.decides n k) change plain out)
+    c.settle.ensures.settles c.settle.ensures.plain c.settle.ensures.untold
 
 pub returns-in-Settle-clause-may : goal.returns-in-Settle-clause-may
 returns-in-Settle-clause-may g c =
     ok_map c.settle.result _ _ (λ r change.
     settled_may_come c.args.self.now r _ c.in-Settle.reply c.in-Settle.ensures.decides c.in-Settle.ensures.can change)
     c.settle.ensures.settles
+
+pub returns-in-Tell-clause-exact : goal.returns-in-Tell-clause-exact
+returns-in-Tell-clause-exact g c =
+    ok_map2 c.tell.result _ _ _ (λ r letters none tells n k s.
+    reacts_tells c.args.self.now r n (Datagram c.args.datagram.now) _ c.in-Tell.inquiry k (search rules) (c.in-Tell.ensures.decides n k) none letters)
+    c.tell.ensures.letters c.tell.ensures.none
+
+pub returns-in-Tell-clause-unread : goal.returns-in-Tell-clause-unread
+returns-in-Tell-clause-unread g c =
+    ok_map2 c.tell.result _ _ _ (λ r letters none n k u.
+    reacts_tells c.args.self.now r n (Datagram c.args.datagram.now) _ c.in-Tell.inquiry k (search rules) (c.in-Tell.ensures.decides n k) none letters)
+    c.tell.ensures.letters c.tell.ensures.none
+
+pub returns-in-Tell-clause-so : goal.returns-in-Tell-clause-so
+returns-in-Tell-clause-so g c =
+    ok_map2 c.tell.result _ _ _ (λ r letters none n k.
+    reacts_so r n (Datagram c.args.datagram.now) (reacts_tells c.args.self.now r n (Datagram c.args.datagram.now) _ c.in-Tell.inquiry k (search rules) (c.in-Tell.ensures.decides n k) none letters))
+    c.tell.ensures.letters c.tell.ensures.none
+
+pub returns-in-Hear-clause-exact : goal.returns-in-Hear-clause-exact
+returns-in-Hear-clause-exact g c =
+    ok_map2 c.hear.result _ _ _ (λ r sample plain tells n k s.
+    reacts_hears c.args.self.now r n (Datagram c.args.datagram.now) _ c.in-Hear.told k (search rules) (c.in-Hear.ensures.decides n k) sample plain.change plain.dropped plain.out)
+    c.hear.ensures.sample c.hear.ensures.plain
+
+pub returns-in-Hear-clause-unread : goal.returns-in-Hear-clause-unread
+returns-in-Hear-clause-unread g c =
+    ok_map2 c.hear.result _ _ _ (λ r sample plain n k u.
+    reacts_hears c.args.self.now r n (Datagram c.args.datagram.now) _ c.in-Hear.told k (search rules) (c.in-Hear.ensures.decides n k) sample plain.change plain.dropped plain.out)
+    c.hear.ensures.sample c.hear.ensures.plain
+
+pub returns-in-Hear-clause-so : goal.returns-in-Hear-clause-so
+returns-in-Hear-clause-so g c =
+    ok_map2 c.hear.result _ _ _ (λ r sample plain n k.
+    reacts_so r n (Datagram c.args.datagram.now) (reacts_hears c.args.self.now r n (Datagram c.args.datagram.now) _ c.in-Hear.told k (search rules) (c.in-Hear.ensures.decides n k) sample plain.change plain.dropped plain.out))
+    c.hear.ensures.sample c.hear.ensures.plain
+
+pub returns-in-Hear-clause-may : goal.returns-in-Hear-clause-may
+returns-in-Hear-clause-may g c = ok_map c.hear.result _ _ (λ r plain. none_may _ r.change plain.change) c.hear.ensures.plain
+
+pub returns-in-Hear-clause-few : goal.returns-in-Hear-clause-few
+returns-in-Hear-clause-few g c = ok_map c.hear.result _ _ (λ r plain. omega (arith, ap length plain.out)) c.hear.ensures.plain

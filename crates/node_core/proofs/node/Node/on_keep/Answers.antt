@@ -25,7 +25,7 @@ returns-clause-compared g c = λ tells n k s.
 
 pub returns-clause-exact : goal.returns-clause-exact
 returns-clause-exact g c = λ tells n k s.
-    keeps_new c.untold.result c.args.self.now n c.args.name.now c.args.bytes.now c.in_ok-change.change (search rules) (search rules) (search rules) (search rules) k
+    keeps_new c.untold.result c.args.self.now n c.args.name.now c.args.bytes.now c.in_ok-change.change (search rules) (search rules) (search rules) (search rules) (search rules) k
     (returns-clause-compared g c tells n k s)
     (c.in_ok-change.ensures (state n.history) (new_is c.args.self.now.names n.history c.args.name.now c.eq.result k.names (search rules)))
 
@@ -36,5 +36,5 @@ returns-clause-may g c =
 
 pub returns-clause-taken : goal.returns-clause-taken
 returns-clause-taken g c = λ n k.
-    keeps_taken c.untold.result c.args.self.now n c.args.name.now c.args.bytes.now c.in_ok-change.change (search rules) (search rules) (search rules) (search rules) k
+    keeps_taken c.untold.result c.args.self.now n c.args.name.now c.args.bytes.now c.in_ok-change.change (search rules) (search rules) (search rules) (search rules) (search rules) k
     (c.in_ok-change.ensures (state n.history) (new_is c.args.self.now.names n.history c.args.name.now c.eq.result k.names (search rules)))

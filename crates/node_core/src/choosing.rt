@@ -1,0 +1,28 @@
+//! The candidates among whom buddies are chosen.
+
+ghost use Rattle.std.specs.Prelude.{◌≡◌, ◌≤◌, IfOk};
+ghost use Rattle.node_core.specs.Choosing.{candidates_in};
+
+use crate::clocks::{Clock, sample_of};
+use psb_bytes::Memory;
+use psb_model::Candidate;
+use psb_settings::PeerRow;
+use sampling::add_candidate;
+use std::alloc::Global;
+
+/// The peers of which a sample of so many names is kept, in the order of the settings.
+pub(crate) fn candidates_of(
+    alloc: Global,
+    peers: &[PeerRow],
+    clocks: &[Clock],
+    names: u32,
+) -> Result<Vec<Candidate>, Memory>
+    requires few { names ≤ 32 }
+    ensures { IfOk result (λ found. found.items ≡ candidates_in peers.now clocks.now names) }
+{
+    let mut found = Vec::new(alloc);
+    for peer in peers {
+        add_candidate(&mut found, peer, sample_of(clocks, peer.id), names)?;
+    }
+    Ok(found)
+}
