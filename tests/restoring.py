@@ -27,7 +27,7 @@ import time
 import loopback
 from loopback import Wrong, frame, free_port, is_bound, left, read, run, same, sealed, sha, start, stop, write
 
-ACCEPTED, STORE = loopback.ACCEPTED, loopback.STORE
+ACCEPTED, ASK, STORE = loopback.ACCEPTED, 11, loopback.STORE
 HERE = "127.0.0.1"
 BIG = "\u5199\u771f/\u5927 big.raw"
 TURNS = "40"
@@ -202,6 +202,26 @@ class Node:
         self.run(deadline, ["restore", which, target, turns], status, said)
         same("whether the disk is as it was before a restore", read(self.disk) == before, True)
 
+    def restore_among_peers(self, deadline, which, target, turns, status, said):
+        """Restores while a peer serves: meanwhile that one may place a chunk here, which is added behind."""
+        before = read(self.disk)
+        self.run(deadline, ["restore", which, target, turns], status, said)
+        front = before[:-1]
+        same("whether the disk has what it had before a restore", read(self.disk)[: len(front)] == front, True)
+
+    def balanced(self, deadline, peer, least):
+        """Says that it holds so much for the peer, or more where it placed chunks with it meanwhile, and has as much there."""
+        process = start(self.program, self.disk, "ledger")
+        try:
+            said, _ = process.communicate(timeout=left(deadline))
+        except subprocess.TimeoutExpired:
+            raise Wrong("ledger had not ended") from None
+        finally:
+            stop(process)
+        row = re.fullmatch(rb"peer (\d+) held (\d+) back (\d+) debt 0\n", said)
+        same(f"whether {said!r} is a line of that peer in balance", bool(row) and int(row[1]) == peer.number and row[2] == row[3], True)
+        same(f"whether {said!r} has all that was stored", int(row[2]) >= least, True)
+
     @contextlib.contextmanager
     def serving(self, deadline):
         """Serves, until it is stopped."""
@@ -225,17 +245,27 @@ class Node:
             yield it
 
 
+def answered(deadline, link):
+    """The next frame that is no question which chunks are held, as a node asks each second before it chooses its buddies."""
+    while True:
+        link.settimeout(left(deadline))
+        try:
+            answer = link.recv(65_536)
+        except socket.timeout:
+            return None
+        if answer[4] != ASK:
+            return answer
+
+
 def store_all(deadline, held, at, owner):
     """Stores all bodies with the node that serves at a place, in the name of their owner."""
     with owner.posing() as link:
         for deal, (name, (_, body)) in enumerate(held.items(), 1):
             text = name + struct.pack(">HI", 0, len(body)) + body
             link.sendto(frame(STORE, owner.number, at.number, deal, text), (HERE, at.port))
-            link.settimeout(left(deadline))
-            try:
-                answer = link.recv(65_536)
-            except socket.timeout:
-                raise Wrong(f"no answer to Store {deal} came") from None
+            answer = answered(deadline, link)
+            if answer is None:
+                raise Wrong(f"no answer to Store {deal} came")
             accepted = frame(ACCEPTED, at.number, owner.number, deal, answer[28:-32])
             same(f"whether the answer to Store {deal} is an Accepted", answer == accepted, True)
 
@@ -296,10 +326,10 @@ def from_peer(folder, deadline, tree, ticket, first, second):
     with first.serving(deadline):
         store_all(deadline, held, first, second)
         out = new_folder(folder, "by ticket")
-        second.restore(deadline, ticket, out, TURNS, 0, b"restored %s\n" % counts(tree))
+        second.restore_among_peers(deadline, ticket, out, TURNS, 0, b"restored %s\n" % counts(tree))
         same_tree("the tree that was restored by its ticket", out, tree)
     units = sum((len(body) + 511) // 512 for _, body in held.values())
-    first.run(deadline, ["ledger"], 0, b"peer 2 held %d back %d debt 0\n" % (units, units))
+    first.balanced(deadline, second, units)
 
 
 def altered(folder, deadline, tree, ticket, first, second):
@@ -330,7 +360,7 @@ def altered(folder, deadline, tree, ticket, first, second):
     with first.serving(deadline):
         change(first.disk, byte)
         out = new_folder(folder, "altered by ticket")
-        second.restore(deadline, ticket, out, "9", 13, b"altered %s\n" % name.hex().encode())
+        second.restore_among_peers(deadline, ticket, out, "9", 13, b"altered %s\n" % name.hex().encode())
         same_tree("what was restored before the changed body", out, {**before, BIG: text[:begins]})
     change(first.disk, byte)
     out = new_folder(folder, "again")
