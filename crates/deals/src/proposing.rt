@@ -9,7 +9,7 @@ ghost use Rattle.deals.specs.Placing.{most_units, placed_with};
 
 use psb_bytes::{Digest, Memory, Object, ObjectList, PeerId, SlotList, units_of};
 use psb_ledger::Ledger;
-use psb_model::{Change, DealWhat, OutEntry, OwnEntry};
+use psb_model::{Change, DealWhat, OutEntry, OwnEntry, may_issue};
 use std::alloc::Global;
 
 /// What is looked up before a deal is proposed.
@@ -50,7 +50,7 @@ fn cancel(
 fn put_back(issued: u32, name: &Digest, units: u32) -> Option<DealWhat>
     ensures { result ≡ put_back issued name.now units }
 {
-    if u64::from(issued) + u64::from(units) > u64::from(u32::MAX) {
+    if !may_issue(issued, units) {
         return None;
     }
     Some(DealWhat::PutBack {

@@ -13,6 +13,7 @@ use crate::{DealView, Facts};
 use psb_bytes::{Digest, Object, PeerId, units_of};
 use psb_ledger::Ledger;
 use psb_machine::{Reason, Refusal};
+use psb_model::may_issue;
 use wire_codec::{ClaimsView, SlotsView};
 
 /// A refusal with its detail.
@@ -64,13 +65,13 @@ fn fresh_refusal(
     if let Some(why) = name_reason(ledger, peer, name, facts) {
         return Some(told(why, 0));
     }
-    let units = u64::from(units_of(bytes.len() as u32));
+    let units = units_of(bytes.len() as u32);
     let (used, debt) = (ledger.used(), ledger.debt_units(peer));
     let (why, detail) = if debt > 0 {
         (Reason::Indebted, debt)
-    } else if u64::from(used) + units > u64::from(facts.capacity) {
+    } else if u64::from(used) + u64::from(units) > u64::from(facts.capacity) {
         (Reason::Full, used)
-    } else if u64::from(facts.issued) + units > u64::from(u32::MAX) {
+    } else if !may_issue(facts.issued, units) {
         (Reason::Spent, facts.issued)
     } else {
         return None;
@@ -108,6 +109,7 @@ fn swap_refusal(
     None
 }
 
+// The facts stand for the clause alone: no reason of a cancel asks for them.
 fn cancel_refusal(
     ledger: &Ledger,
     peer: PeerId,
@@ -131,6 +133,7 @@ fn cancel_refusal(
     unequal(slots.len(), ledger.units_held(peer, &chunk))
 }
 
+// As of a cancel, the facts stand for the clause alone.
 fn put_back_refusal(
     ledger: &Ledger,
     peer: PeerId,

@@ -1,6 +1,7 @@
 -- The names of which paths are made.
 use Rattle.std.specs.Prelude.{ℕ, Bool, not, ◌&&◌, ◌==◌, List, length, bytes_eq, codes}
-use Rattle.std.specs.List.{list_any, slice_split}
+use Rattle.std.specs.List.{list_all, list_any, slice_split}
+use Rattle.std.specs.Str.{is_utf8}
 
 abbrev pub is_slash : ℕ → Bool
 is_slash b = b == 47
@@ -12,3 +13,7 @@ is_name part = not (length part == 0) && (not (list_any (λ b. b == 0) part) && 
 -- the parts of a path
 abbrev pub parts : List ℕ → List (List ℕ)
 parts path = slice_split is_slash path
+
+-- what a path is, of any length: UTF-8 whose parts are names
+abbrev pub has_names : List ℕ → Bool
+has_names path = is_utf8 path && list_all is_name (parts path)

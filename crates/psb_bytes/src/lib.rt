@@ -3,6 +3,7 @@
 
 mod digits;
 mod ids;
+mod limits;
 mod lists;
 mod names;
 mod numbers;
@@ -13,6 +14,7 @@ mod writing;
 
 pub use digits::{digest_text, hex_text, read_digest};
 pub use ids::{Digest, MOST_LEVELS, Object, PeerId, Ref, Seat, Ticket};
+pub use limits::{LAST_REASON, MOST_CLAIMS};
 pub use lists::{
     Bytes, ClaimList, DigestList, Items, Memory, ObjectList, PlaceList, RefList, Short, SlotClaim,
     SlotList, Text,

@@ -9,7 +9,8 @@ use Rattle.wire_codec.specs.Fields.{within, ascends, is_digest, is_claim, are_sl
 use Rattle.wire_codec.specs.Frames.{fits}
 use Rattle.wire_codec.specs.declared.frame.Frame.{Frame}
 use Rattle.wire_codec.specs.declared.frame.Frame.TheVariants as frame
-use Rattle.wire_codec.specs.declared.limits.TheConstants.{MOST_SLOTS, CLAIM_BYTES, LAST_REASON}
+use Rattle.wire_codec.specs.declared.limits.TheConstants.{MOST_SLOTS, CLAIM_BYTES}
+use Rattle.psb_bytes.specs.declared.limits.TheConstants.{LAST_REASON}
 use Rattle.psb_machine.specs.Deals.{Deal, StoreFresh, StoreSwap, Cancel, PutBack, deal_of, slots_of}
 use Rattle.psb_machine.specs.Settling.{Reply, Accepts, Refuses, replied_by}
 use Rattle.psb_machine.specs.Judging.{SlotsFit, SwapFits, CancelFits, PutBackFits, DealFits, ReplyFits}

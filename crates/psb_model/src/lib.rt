@@ -5,6 +5,7 @@ mod change;
 mod deals;
 mod entries;
 mod laws;
+mod limits;
 
 pub use change::Change;
 pub use deals::{Deal, DealWhat, LastDeal};
@@ -13,3 +14,4 @@ pub use entries::{
     Snapshot,
 };
 pub use laws::{balance_law, capacity_law, explanation_law, sums_law, worked_rows};
+pub use limits::{bars_name, may_issue};

@@ -4,11 +4,12 @@ use Rattle.std.specs.Prelude.{nat_lt}
 use Rattle.std.proofs.lemmas.Bool.{and_parts, eqb-true}
 use Rattle.std.proofs.lemmas.List.{append-nil}
 use Rattle.psb_bytes.specs.Numbers.{AreBytes, u32_bytes, u64_bytes}
+use Rattle.psb_bytes.specs.declared.limits.TheConstants.{LAST_REASON}
 use Rattle.psb_bytes.specs.declared.ids.Object.{Object}
 use Rattle.psb_bytes.specs.declared.lists.SlotClaim.{SlotClaim}
 use Rattle.wire_codec.specs.declared.frame.Frame.{Frame}
 use Rattle.wire_codec.specs.declared.frame.Frame.TheVariants.{Store, Cancel, PutBack, Replace, Accepted, Refused, Declined, Get, Here, Probe, Proof, Ask, Sample}
-use Rattle.wire_codec.specs.declared.limits.TheConstants.{DIGEST_BYTES, CLAIM_BYTES, LAST_REASON}
+use Rattle.wire_codec.specs.declared.limits.TheConstants.{DIGEST_BYTES, CLAIM_BYTES}
 use Rattle.wire_codec.specs.Fields.{◌>>=◌, ended, within, text_bytes, slots_bytes, claims_bytes, places_bytes, objects_bytes, names_bytes, is_digest, is_u32, are_slots, are_claims, are_places, are_objects, are_names, is_text, bytes_at, u8_at, u32_at, u64_at, slots_at, claims_at, places_at, names_at, objects_at, text_at}
 use Rattle.wire_codec.specs.Frames.{kind_of, body_of, fits, store_at, cancel_at, put_back_at, release_at, replace_at, accepted_at, refused_at, declined_at, get_at, here_at, probe_at, proof_at, ask_at, sample_at, read_body}
 use Rattle.wire_codec.proofs.Found.{bind_some, then_some, some_is}

@@ -1,12 +1,13 @@
 -- The frame grammar: the one datagram of each frame, and how a datagram is read.
 use Rattle.std.specs.Prelude.{ℕ, ◌+◌, ◌-◌, ◌^◌, Bool, not, ◌&&◌, ◌==◌, nat_lt, if◌then◌else◌, List, [], ◌∷◌, ◌++◌, length, take, drop, slice_index, bytes_eq, Option, Some, None, Result, Ok, Err}
 use Rattle.psb_bytes.specs.Numbers.{u32_bytes, u64_bytes, u32_of, u64_of}
+use Rattle.psb_bytes.specs.declared.limits.TheConstants.{LAST_REASON}
 use Rattle.psb_digest.specs.Hashes.{hmac}
 use Rattle.wire_codec.specs.declared.frame.Frame.{Frame}
 use Rattle.wire_codec.specs.declared.frame.Frame.TheVariants.{Store, Cancel, PutBack, Replace, Accepted, Refused, Declined, Get, Here, Probe, Proof, Ask, Sample}
 use Rattle.wire_codec.specs.declared.frame.Dropped.{Dropped}
 use Rattle.wire_codec.specs.declared.frame.Dropped.TheVariants.{Short, BadMagic, BadKind, NotForMe, Stranger, BadTag, BadBody}
-use Rattle.wire_codec.specs.declared.limits.TheConstants.{MAGIC, HEADER_BYTES, TAG_BYTES, LAST_KIND, LAST_REASON, DIGEST_BYTES, CLAIM_BYTES}
+use Rattle.wire_codec.specs.declared.limits.TheConstants.{MAGIC, HEADER_BYTES, TAG_BYTES, LAST_KIND, DIGEST_BYTES, CLAIM_BYTES}
 use Rattle.wire_codec.specs.Fields.{◌>>=◌, ended, within, is_digest, is_u32, are_bytes, are_slots, are_claims, are_places, are_objects, are_names, is_text, text_bytes, slots_bytes, claims_bytes, places_bytes, objects_bytes, names_bytes, bytes_at, u8_at, u32_at, u64_at, slots_at, claims_at, places_at, objects_at, names_at, text_at}
 
 -- ---- how a frame is spelled

@@ -10,9 +10,10 @@ use crate::fields::{
     take_bytes, take_claims, take_names, take_places, take_slots, take_text, take_u8, take_u32,
     take_u64,
 };
-use crate::limits::{CLAIM_BYTES, DIGEST_BYTES, LAST_REASON};
+use crate::limits::{CLAIM_BYTES, DIGEST_BYTES};
 use crate::objects::take_objects;
 use crate::view::BodyView;
+use psb_bytes::LAST_REASON;
 
 #[tactic(auto, unfolding(crate::specs::Frames::store_at))]
 fn store(body: &[u8]) -> Option<BodyView<'_>>

@@ -18,8 +18,8 @@ pub use frame::{Dropped, Frame};
 pub use keys::{KeyError, Keys};
 pub use laws::{one_datagram, one_frame, read_is_spelled, spelled_is_read};
 pub use limits::{
-    CLAIM_BYTES, DIGEST_BYTES, HEADER_BYTES, LAST_KIND, LAST_REASON, MAGIC, MOST_BYTES,
-    MOST_FRAME_BYTES, MOST_OBJECTS, MOST_SLOTS, TAG_BYTES,
+    CLAIM_BYTES, DIGEST_BYTES, HEADER_BYTES, LAST_KIND, MAGIC, MOST_BYTES, MOST_FRAME_BYTES,
+    MOST_OBJECTS, MOST_SLOTS, TAG_BYTES,
 };
 pub use objects::ObjectsView;
 pub use reading::decode;

@@ -29,9 +29,6 @@ pub const MOST_OBJECTS: u16 = 32;
 /// The most sealed bytes of a chunk.
 pub const MOST_BYTES: u32 = LONGEST_CHUNK;
 
-/// The reasons of a refusal are 1 to this.
-pub const LAST_REASON: u8 = 9;
-
 /// The most bytes of a frame: a Store with the most slots and the most bytes has as many.
 pub const MOST_FRAME_BYTES: usize = HEADER_BYTES
     + DIGEST_BYTES

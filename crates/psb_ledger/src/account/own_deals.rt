@@ -13,7 +13,7 @@ ghost use Rattle.psb_ledger.specs.OwnDeals.{number_of, barred_after, placed_name
 use super::barred::Barred;
 use crate::entries::is_slot_of;
 use psb_bytes::{Digest, Memory, Object, PeerId};
-use psb_model::{Deal, DealWhat};
+use psb_model::{Deal, DealWhat, bars_name};
 use std::alloc::Global;
 use std::marker::Model;
 
@@ -288,7 +288,7 @@ impl OwnDeals {
     {
         let named = self.named();
         let cancelled = self.cancelled();
-        if 2 <= why && why <= 4 {
+        if bars_name(why) {
             bar(&mut self.barred, named, change);
         }
         bar(&mut self.turned_cancels, cancelled, change);

@@ -40,6 +40,7 @@ impl Book {
         Ok(())
     }
 
+    // The body stands for the clause alone: what it says was read as room was made.
     pub(super) fn begin(&mut self, body: &Option<Bytes>) -> Result<(), NotNow>
         requires { HasBegunRoom self.old body.now }
         ensures when { IsTrue (is_built (Begun body.now) && allowed self.old.state (Begun body.now)) ↔ IsOk result }

@@ -11,7 +11,7 @@ use super::accounts::place_of;
 use super::{Book, NotNow};
 use crate::account::Account;
 use crate::codec::RefusedFields;
-use psb_bytes::{Memory, PeerId};
+use psb_bytes::{LAST_REASON, Memory, PeerId};
 
 /// Whether the deal is the next of the peer.
 pub(super) fn is_next(account: &Account, deal: u64) -> bool
@@ -23,7 +23,7 @@ pub(super) fn is_next(account: &Account, deal: u64) -> bool
 fn allows_refusal(account: &Account, x: &RefusedFields) -> bool
     ensures { result ≡ all_of (refusal_tests account.now.row x.now.deal x.now.why) }
 {
-    is_next(account, x.deal) && 1 <= x.why && x.why <= 9
+    is_next(account, x.deal) && 1 <= x.why && x.why <= LAST_REASON
 }
 
 impl Book {

@@ -18,7 +18,7 @@ use super::{Book, NotNow};
 use crate::account::Account;
 use crate::snapshots::is_listed;
 use psb_bytes::{Digest, Object, PeerId};
-use psb_model::{Deal, DealWhat};
+use psb_model::{Deal, DealWhat, may_issue};
 
 /// Whether the deal is the next own one, and none is pending.
 fn is_next_own(account: &Account, deal: u64) -> bool
@@ -91,6 +91,7 @@ impl Book {
             && self.unties_in(peer, slots)
     }
 
+    // The peer stands for the clause alone: its account is given.
     fn allows_put_back(&self, peer: PeerId, account: &Account, name: &Digest, first: u32) -> bool
         requires { account.now.row ≡ row self.now.state peer }
         ensures { result ≡ all_of (propose_tests self.now.state peer (PutBack name.now first)) }
@@ -100,7 +101,7 @@ impl Book {
             && self.own.is_marked(name)
             && !account.ties_out(&chunk)
             && first == self.issued
-            && self.issued as u64 + account.units_out(&chunk) as u64 <= u32::MAX as u64
+            && may_issue(self.issued, account.units_out(&chunk))
     }
 
     /// The objects of the deal stand where it needs them, and no deal ties them.

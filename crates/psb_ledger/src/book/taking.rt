@@ -14,6 +14,7 @@ use super::{Book, NotNow};
 use crate::account::Account;
 use crate::codec::FreshFields;
 use psb_bytes::{Object, units_of};
+use psb_model::may_issue;
 use psb_settings::Settings;
 
 pub(super) fn capacity_of(settings: &Option<Settings>) -> u32
@@ -44,7 +45,7 @@ fn allows_fresh(account: &Account, x: &FreshFields, m: Measure) -> bool
         && account.debt() == 0
         && m.used as u64 + m.units as u64 <= m.capacity as u64
         && x.first == m.issued
-        && m.issued as u64 + m.units as u64 <= u32::MAX as u64
+        && may_issue(m.issued, m.units)
 }
 
 impl Book {

@@ -15,6 +15,37 @@ use psb_bytes::{Digest, Memory, Page, PeerId};
 use psb_model::{Candidate, Change, DealWhat};
 use std::alloc::Global;
 
+/// The bytes of the fields of a head.
+const KIND: usize = 1;
+
+const FLAG: usize = 1;
+
+const WHAT: usize = 1;
+
+const REASON: usize = 1;
+
+const NUMBER: usize = 4;
+
+const COUNT: usize = 4;
+
+const SLOT: usize = 4;
+
+const LEN: usize = 4;
+
+const DETAIL: usize = 8;
+
+const CANDIDATE: usize = 16;
+
+const NAME: usize = 32;
+
+const TICKET: usize = 69;
+
+/// The kind, the peer and the number of its deal, which a head of a deal begins with.
+const DEAL: usize = KIND + 4 + 8;
+
+/// The head of a Snapped in front of its names.
+const SNAPPED: usize = KIND + NUMBER + TICKET + 2 * COUNT + 8 + 2 * COUNT;
+
 /// The head of a change: its kind, and its fields in order, numbers high byte first.
 pub fn encode_change(alloc: Global, c: &Change) -> Result<Vec<u8>, Memory>
     requires kind { IsTrue (is_built c.now) }
@@ -178,7 +209,7 @@ pub fn encode_change(alloc: Global, c: &Change) -> Result<Vec<u8>, Memory>
 fn begun(alloc: Global) -> Result<Vec<u8>, Memory>
     ensures { IfOk result (λ v. v.items ≡ head_of (Begun None)) }
 {
-    let mut page = Page::with_room(alloc, 1)?;
+    let mut page = Page::with_room(alloc, KIND)?;
     page.put_u8(1);
     Ok(page.done())
 }
@@ -186,7 +217,7 @@ fn begun(alloc: Global) -> Result<Vec<u8>, Memory>
 fn kept(alloc: Global, x: KeptFields) -> Result<Vec<u8>, Memory>
     ensures { IfOk result (λ v. v.items ≡ head_of (Kept x.name x.len x.new None)) }
 {
-    let mut page = Page::with_room(alloc, 38)?;
+    let mut page = Page::with_room(alloc, KIND + NAME + LEN + FLAG)?;
     page.put_u8(2);
     page.put_slice(&x.name.0);
     page.put_u32(x.len);
@@ -198,7 +229,7 @@ fn snapped(alloc: Global, x: SnappedFields, names: &[Digest]) -> Result<Vec<u8>,
     requires { length names.now < 2 ^ 32 }
     ensures { IfOk result (λ v. v.items ≡ head_of (Snapped x.number x.ticket x.files x.folders x.bytes x.left names.now)) }
 {
-    let mut page = Page::with_room(alloc, 98 + 32 * names.len())?;
+    let mut page = Page::with_room(alloc, SNAPPED + NAME * names.len())?;
     page.put_u8(3);
     page.put_u32(x.number);
     page.put_slice(&x.ticket.bytes());
@@ -223,7 +254,7 @@ fn put_names(page: &mut Page, names: &[Digest])
 fn forgot(alloc: Global, number: u32) -> Result<Vec<u8>, Memory>
     ensures { IfOk result (λ v. v.items ≡ head_of (Forgot number)) }
 {
-    let mut page = Page::with_room(alloc, 5)?;
+    let mut page = Page::with_room(alloc, KIND + NUMBER)?;
     page.put_u8(4);
     page.put_u32(number);
     Ok(page.done())
@@ -232,7 +263,7 @@ fn forgot(alloc: Global, number: u32) -> Result<Vec<u8>, Memory>
 fn took_fresh(alloc: Global, x: FreshFields) -> Result<Vec<u8>, Memory>
     ensures { IfOk result (λ v. v.items ≡ head_of (TookFresh x.peer x.deal x.name x.first x.len x.new None)) }
 {
-    let mut page = Page::with_room(alloc, 54)?;
+    let mut page = Page::with_room(alloc, DEAL + NAME + NUMBER + LEN + FLAG)?;
     page.put_u8(5);
     page.put_u32(x.peer.0);
     page.put_u64(x.deal);
@@ -247,7 +278,7 @@ fn took_swap(alloc: Global, x: SwapFields, slots: &[u32]) -> Result<Vec<u8>, Mem
     requires { length slots.now < 2 ^ 32 }
     ensures { IfOk result (λ v. v.items ≡ 6 ∷ swap_bytes x slots.now) }
 {
-    let mut page = Page::with_room(alloc, 54 + 4 * slots.len())?;
+    let mut page = Page::with_room(alloc, DEAL + NAME + COUNT + LEN + FLAG + SLOT * slots.len())?;
     page.put_u8(6);
     page.put_u32(x.peer.0);
     page.put_u64(x.deal);
@@ -263,7 +294,7 @@ fn cancelled(alloc: Global, kind: u8, x: CancelFields, slots: &[u32]) -> Result<
     requires { length slots.now < 2 ^ 32 }
     ensures { IfOk result (λ v. v.items ≡ kind ∷ cancel_bytes x slots.now) }
 {
-    let mut page = Page::with_room(alloc, 49 + 4 * slots.len())?;
+    let mut page = Page::with_room(alloc, DEAL + NAME + COUNT + SLOT * slots.len())?;
     page.put_u8(kind);
     page.put_u32(x.peer.0);
     page.put_u64(x.deal);
@@ -290,7 +321,7 @@ fn put_slots(page: &mut Page, slots: &[u32])
 fn refused(alloc: Global, kind: u8, x: RefusedFields) -> Result<Vec<u8>, Memory>
     ensures { IfOk result (λ v. v.items ≡ kind ∷ refused_bytes x) }
 {
-    let mut page = Page::with_room(alloc, 22)?;
+    let mut page = Page::with_room(alloc, DEAL + REASON + DETAIL)?;
     page.put_u8(kind);
     page.put_u32(x.peer.0);
     page.put_u64(x.deal);
@@ -352,7 +383,7 @@ fn proposed(alloc: Global, peer: PeerId, deal: u64, what: &DealWhat) -> Result<V
 fn placed(alloc: Global, x: ProposedFront) -> Result<Vec<u8>, Memory>
     ensures { IfOk result (λ v. v.items ≡ 11 ∷ proposed_front x) }
 {
-    let mut page = Page::with_room(alloc, 46)?;
+    let mut page = Page::with_room(alloc, DEAL + WHAT + NAME)?;
     page.put_u8(11);
     page.put_u32(x.peer.0);
     page.put_u64(x.deal);
@@ -366,7 +397,7 @@ fn listing(alloc: Global, x: ProposedFront, slots: &[u32]) -> Result<Vec<u8>, Me
     requires { length slots.now < 2 ^ 32 }
     ensures { IfOk result (λ v. v.items ≡ 11 ∷ (proposed_front x ++ counted u32_bytes slots.now)) }
 {
-    let mut page = Page::with_room(alloc, 50 + 4 * slots.len())?;
+    let mut page = Page::with_room(alloc, DEAL + WHAT + NAME + COUNT + SLOT * slots.len())?;
     page.put_u8(11);
     page.put_u32(x.peer.0);
     page.put_u64(x.deal);
@@ -380,7 +411,7 @@ fn listing(alloc: Global, x: ProposedFront, slots: &[u32]) -> Result<Vec<u8>, Me
 fn numbered(alloc: Global, x: ProposedFront, first: u32) -> Result<Vec<u8>, Memory>
     ensures { IfOk result (λ v. v.items ≡ 11 ∷ (proposed_front x ++ u32_bytes first)) }
 {
-    let mut page = Page::with_room(alloc, 50)?;
+    let mut page = Page::with_room(alloc, DEAL + WHAT + NAME + NUMBER)?;
     page.put_u8(11);
     page.put_u32(x.peer.0);
     page.put_u64(x.deal);
@@ -394,7 +425,7 @@ fn settled(alloc: Global, x: ReplyFields, slots: &[u32]) -> Result<Vec<u8>, Memo
     requires { length slots.now < 2 ^ 32 }
     ensures { IfOk result (λ v. v.items ≡ 12 ∷ settled_bytes x slots.now) }
 {
-    let mut page = Page::with_room(alloc, 17 + 4 * slots.len())?;
+    let mut page = Page::with_room(alloc, DEAL + COUNT + SLOT * slots.len())?;
     page.put_u8(12);
     page.put_u32(x.peer.0);
     page.put_u64(x.deal);
@@ -406,7 +437,7 @@ fn chose(alloc: Global, candidates: &[Candidate]) -> Result<Vec<u8>, Memory>
     requires { length candidates.now < 2 ^ 32 }
     ensures { IfOk result (λ v. v.items ≡ 19 ∷ counted candidate candidates.now) }
 {
-    let mut page = Page::with_room(alloc, 5 + 16 * candidates.len())?;
+    let mut page = Page::with_room(alloc, KIND + COUNT + CANDIDATE * candidates.len())?;
     page.put_u8(19);
     page.put_u32(candidates.len() as u32);
     put_candidates(&mut page, candidates);
