@@ -1,0 +1,7 @@
+pub mod Worlds
+pub mod Finding
+pub mod Agreeing
+pub mod Laws
+pub mod Letters
+pub mod Pairs
+pub mod Worked
