@@ -5,16 +5,21 @@
     tests/loopback.py --image FILE        writes the image of the program's stored run
 
 This script begins nodes from crates/psb/data/node.toml, and is the node's one peer. It stores 512 bytes
-with the node, sends a forged frame, compares the answer byte for byte, the lines said, the exit status
-and the file afterwards, and opens the node again. It backs up folders with links, empty files and names of other
-scripts, and compares tickets, records and the folders. It works all values out by itself, from the formats of
-docs/FORMATS.md. It ends within about half a minute for each program, with status 0 where all is well and
-1 where something is not.
+with the node, sends a forged frame and the longest ones, compares the answers byte for byte, the lines said, the exit
+status and the file afterwards, and opens the node again. It counts the questions that a node asks in some seconds. It
+backs up folders with links, empty files, names of other scripts and the node's own file, and compares tickets, records
+and the folders. It runs each command with standard descriptors closed, and where strace is installed it counts the
+syncs of a backup. It works all values out by itself, from the formats of docs/FORMATS.md. It ends within about a
+minute for each program, with status 0 where all is well and 1 where something is not.
 """
 
+import contextlib
 import hashlib
 import hmac
 import os
+import random
+import re
+import shutil
 import signal
 import socket
 import stat
@@ -28,6 +33,7 @@ TOP = os.path.dirname(os.path.dirname(os.path.abspath(__file__)))
 PROGRAM = os.path.join(TOP, "crates", "psb", "out", "psb")
 STORED_IMAGE = os.path.join(TOP, "crates", "psb", "data", "node.img")
 STORED_SETTINGS = os.path.join(TOP, "crates", "psb", "data", "node.toml")
+# How long a part may take; `try_all` sets it by how fast the program is on this machine.
 SECONDS = 30
 
 NODE, PEER = 1, 2
@@ -35,7 +41,8 @@ SEED = bytes(range(32))
 KEY = bytes(range(32, 64))
 LONGEST = 32768
 BODY = bytes(i % 251 for i in range(512))
-STORE, ACCEPTED = 1, 4
+STORE, ACCEPTED, REFUSED, ASK = 1, 4, 5, 11
+NOT_THERE = 5
 MASK = 0xFFFFFFFF
 
 
@@ -92,6 +99,22 @@ def frame(kind, sender, receiver, number, body):
 def store(deal):
     body = sha(BODY) + struct.pack(">HI", 0, len(BODY)) + BODY
     return frame(STORE, PEER, NODE, deal, body)
+
+
+def longest_store(deal):
+    """The longest frame that there is: a chunk of the most bytes in the place of the most slots."""
+    chunk = bytes(LONGEST)
+    body = sha(chunk) + struct.pack(">H64II", 64, *range(1, 65), len(chunk)) + chunk
+    return frame(STORE, PEER, NODE, deal, body)
+
+
+def refused(deal, reason, detail):
+    return frame(REFUSED, NODE, PEER, deal, struct.pack(">BQ", reason, detail))
+
+
+def noted_refusal(deal, reason, detail):
+    """The record of a deal that was refused."""
+    return record(struct.pack(">BIQBQ", 10, PEER, deal, reason, detail), b"")
 
 
 def accepted(deal, slot):
@@ -214,9 +237,15 @@ def is_bound(port):
         return any(line.split()[1].endswith(f":{port:04X}") for line in table.readlines()[1:])
 
 
-def start(program, *words):
+def start(program, *words, closed=()):
+    """Starts the program, with these descriptors closed."""
+
+    def close():
+        for descriptor in closed:
+            os.close(descriptor)
+
     streams = {"stdin": subprocess.DEVNULL, "stdout": subprocess.PIPE}
-    return subprocess.Popen([program, *words], start_new_session=True, **streams)
+    return subprocess.Popen([program, *words], start_new_session=True, preexec_fn=close if closed else None, **streams)
 
 
 def end(process, deadline, status, said):
@@ -236,8 +265,8 @@ def stop(process):
     process.communicate()
 
 
-def run(deadline, program, words, status, said):
-    process = start(program, *words)
+def run(deadline, program, words, status, said, closed=()):
+    process = start(program, *words, closed=closed)
     try:
         end(process, deadline, status, said)
     finally:
@@ -260,6 +289,13 @@ def beginnings(program, folder, deadline):
     run(deadline, program, [disk, "init", STORED_SETTINGS], 0, b"node 1 peers 1\n")
     same("the file of a node that began", read(disk), stored_image())
     same("who may read a file that was made", stat.S_IMODE(os.stat(disk).st_mode), 0o600)
+    there = os.path.join(folder, "there.img")
+    write(there, b"")
+    os.chmod(there, 0o644)
+    run(deadline, program, [there, "ledger"], 7, b"not a node\n")
+    same("who may read an empty file that holds no node", stat.S_IMODE(os.stat(there).st_mode), 0o644)
+    run(deadline, program, [there, "init", STORED_SETTINGS], 0, b"node 1 peers 1\n")
+    same("who may read a file in which a node began", stat.S_IMODE(os.stat(there).st_mode), 0o600)
     run(deadline, program, [disk, "init", STORED_SETTINGS], 8, b"disk not empty\n")
     same("the file that was refused", read(disk), stored_image())
     third = f'''[[peer]]
@@ -352,6 +388,122 @@ def backups(program, folder, deadline):
     same("the folder that was backed up", sorted(below for below in tree if tree[below] is None or read(os.path.join(home, below)) == tree[below]), sorted(tree))
 
 
+def own_file(program, folder, deadline):
+    """The node's own file is no part of a folder that is backed up, by whatever path it is reached."""
+    home = os.path.join(folder, "own")
+    below = os.path.join(home, "below")
+    os.makedirs(below)
+    path = os.path.join(below, "node.img")
+    file = os.path.join(folder, "own.toml")
+    write(file, settings())
+    run(deadline, program, [path, "init", file], 0, b"node 1 peers 1\n")
+    write(os.path.join(home, "kept"), b"kept")
+    os.link(path, os.path.join(home, "other name"))
+    records = [begun(settings())]
+    for number, root, tree, others in ((1, home, {"below": None, "kept": b"kept"}, 2), (2, below, {}, 1)):
+        line, noted, kept = snapshot(number, tree, others)
+        run(deadline, program, [path, "backup", root], 0, line)
+        records += [own(piece) for piece in kept] + [noted]
+        same("the node's own file after a backup of its folder", read(path), image(*records))
+    out = os.path.join(folder, "own again")
+    os.mkdir(out)
+    run(deadline, program, [path, "restore", "1", out, "1"], 0, b"restored files 1 folders 1 bytes 4\n")
+    same("what came back of a folder with the node's own file", sorted(os.listdir(out)), ["below", "kept"])
+
+
+def closed_descriptors(program, folder, deadline):
+    """Each command with standard descriptors closed leaves the file as it was, or as the command makes it."""
+    file = os.path.join(folder, "closed.toml")
+    write(file, settings())
+    home = os.path.join(folder, "closed")
+    os.mkdir(home)
+    write(os.path.join(home, "a"), b"a")
+    path = os.path.join(folder, "closed.img")
+    whole = os.path.join(folder, "whole.img")
+    run(deadline, program, [whole, "init", file], 0, b"node 1 peers 1\n")
+    run(deadline, program, [whole, "backup", home], 0, snapshot(1, {"a": b"a"}, 0)[0])
+    begins = lambda: write(path, b"")
+    opens = lambda: write(path, read(whole))
+    out = os.path.join(folder, "closed again")
+
+    def emptied():
+        shutil.rmtree(out, ignore_errors=True)
+        os.mkdir(out)
+        opens()
+
+    for before, words, status in (
+        (begins, ["init", file], 0),
+        (opens, ["init", file], 8),
+        (opens, ["ledger"], 0),
+        (opens, ["snapshots"], 0),
+        (opens, ["serve", "1"], 0),
+        (opens, ["backup", home], 0),
+        (opens, ["backup", file], 5),
+        (emptied, ["restore", "1", out, "1"], 0),
+        (opens, ["restore", "9", out, "1"], 10),
+        (opens, ["forget", "1"], 0),
+        (opens, ["forget", "9"], 10),
+        (begins, ["ledger"], 7),
+        (opens, ["no command"], 2),
+    ):
+        before()
+        process = start(program, path, *words)
+        said, _ = process.communicate(timeout=left(deadline))
+        same(f"the status of {words!r}", process.returncode, status)
+        made = read(path)
+        for closed in ((0,), (1,), (2,), (0, 1, 2)):
+            before()
+            quiet = 1 in closed
+            # A refusal has its own status though its line could not be said.
+            wanted = 6 if quiet and status == 0 else status
+            run(deadline, program, [path, *words], wanted, b"" if quiet else said, closed=closed)
+            same(f"the file after {words!r} with {closed} closed", read(path) == made, True)
+        if words[0] == "restore" and status == 0:
+            same("what was restored with all closed", read(os.path.join(out, "a")), b"a")
+
+
+def syncs(program, folder, deadline):
+    """A backup syncs the file twice for each record, and once where it opens the node."""
+    if shutil.which("strace") is None:
+        return
+    path = os.path.join(folder, "synced.img")
+    file = os.path.join(folder, "synced.toml")
+    write(file, settings())
+    run(deadline, program, [path, "init", file], 0, b"node 1 peers 1\n")
+    home = os.path.join(folder, "synced")
+    os.mkdir(home)
+    write(os.path.join(home, "a"), b"a")
+    line, _, kept = snapshot(1, {"a": b"a"}, 0)
+    calls = os.path.join(folder, "calls")
+    run(deadline, shutil.which("strace"), ["-f", "-e", "trace=fdatasync", "-o", calls, program, path, "backup", home], 0, line)
+    same("how often a backup synced the file", len(re.findall(rb"fdatasync\(\d+\) += 0", read(calls))), 1 + 2 * (len(kept) + 1))
+
+
+def seconds(program, folder, deadline):
+    """A node ticks once a second: each tick sends its question, as long as nobody answers."""
+    path = os.path.join(folder, "clock.img")
+    home = os.path.join(folder, "clock")
+    os.mkdir(home)
+    write(os.path.join(home, "a"), b"a")
+    with socket.socket(socket.AF_INET, socket.SOCK_DGRAM) as peer:
+        peer.bind(("127.0.0.1", 0))
+        peer.setblocking(False)
+        file = os.path.join(folder, "clock.toml")
+        write(file, settings(f"127.0.0.1:{free_port()}", f"127.0.0.1:{peer.getsockname()[1]}"))
+        run(deadline, program, [path, "init", file], 0, b"node 1 peers 1\n")
+        run(deadline, program, [path, "backup", home], 0, snapshot(1, {"a": b"a"}, 0)[0])
+        begin = time.time()
+        said = b"peer 2 held 0 back 0 debt 0\nturns 16 taken 0 dropped 0 lost 0\n"
+        run(deadline, program, [path, "serve", "16"], 0, said)
+        passed = time.time() - begin
+        asked = 0
+        with contextlib.suppress(BlockingIOError):
+            while True:
+                asked += peer.recv(65_536)[4] == ASK
+    # Sixteen turns, in which nothing comes, wait four seconds.
+    same(f"whether {asked} questions in {passed:.1f} seconds are one for each second", 3 <= asked <= passed + 2, True)
+
+
 def serving(program, folder, deadline):
     """A Store is taken and a forged frame is not; the node opens again with what it took."""
     path = os.path.join(folder, "node.img")
@@ -380,7 +532,13 @@ def serving(program, folder, deadline):
             peer.sendto(store(1), ("127.0.0.1", port))
             peer.settimeout(left(deadline))
             same("the answer", peer.recvfrom(65536), (accepted(1, 0), ("127.0.0.1", port)))
-            said = b"peer 2 held 1 back 1 debt 0\nturns 40 taken 2 dropped 1 lost 0\n"
+            # The longest datagram is no frame, and the longest frame is read to its end.
+            peer.sendto(bytes(65_507), ("127.0.0.1", port))
+            same("the bytes of the longest frame", len(longest_store(2)), 33_122)
+            peer.sendto(longest_store(2), ("127.0.0.1", port))
+            peer.settimeout(left(deadline))
+            same("the answer to the longest", peer.recvfrom(65536), (refused(2, NOT_THERE, 1), ("127.0.0.1", port)))
+            said = b"peer 2 held 1 back 1 debt 0\nturns 40 taken 4 dropped 2 lost 0\n"
             end(node, deadline, 0, said)
         except socket.timeout:
             raise Wrong("no answer came") from None
@@ -391,33 +549,70 @@ def serving(program, folder, deadline):
             raise Wrong(f"a second answer came: {peer.recv(65536)!r}")
         except BlockingIOError:
             pass
-    same("the file", read(path), image(first, took_fresh(1, 0)))
+    records = (first, took_fresh(1, 0), noted_refusal(2, NOT_THERE, 1))
+    same("the file", read(path), image(*records))
     said = b"peer 2 held 1 back 1 debt 0\n"
     run(deadline, program, [path, "serve", "1"], 0, said + b"turns 1 taken 0 dropped 0 lost 0\n")
     run(deadline, program, [path, "ledger"], 0, said)
-    same("the file that was looked at", read(path), image(first, took_fresh(1, 0)))
+    same("the file that was looked at", read(path), image(*records))
+
+
+# Programs that are tried.
+
+
+def patience(program):
+    """How long a part may take: 30 seconds where a backup of some bytes takes a fifth of a second at most, and as much
+    longer as it takes longer, on a slow machine or one that does something else too."""
+    with tempfile.TemporaryDirectory(prefix="psb-patience-") as folder:
+        disk, home = os.path.join(folder, "node.img"), os.path.join(folder, "home")
+        os.mkdir(home)
+        write(os.path.join(home, "a"), random.Random(1).randbytes(200_000))
+        began = time.monotonic()
+        for words in (["init", STORED_SETTINGS], ["backup", home]):
+            process = start(program, disk, *words)
+            process.communicate()
+            same(f"the status of a first {words[0]}", process.returncode, 0)
+        return 30 * max(1, (time.monotonic() - began) / 0.2)
+
+
+def try_all(name, words, doc, course, done):
+    """Tries each program that is named, or the one that was built; answers the exit status of the script."""
+    global SECONDS
+    if words and words[0] in ("-h", "--help"):
+        print(doc)
+        return 0
+    for program in words or [PROGRAM]:
+        if not os.path.isfile(program):
+            print(f"{name}: there is no program at {program}: build it with `rt run` in crates/psb, or name another one")
+            return 1
+    try:
+        for program in map(os.path.abspath, words or [PROGRAM]):
+            SECONDS = patience(program)
+            with tempfile.TemporaryDirectory(prefix=f"psb-{name}-") as folder:
+                course(program, folder)
+    except (Wrong, OSError, subprocess.TimeoutExpired) as error:
+        print(f"{name}: FAILED: {error}")
+        return 1
+    print(f"{name}: {done}")
+    return 0
+
+
+def course(program, folder):
+    """All parts; each has its own deadline."""
+    same("the image of the stored run", read(STORED_IMAGE), stored_image())
+    for part in (beginnings, refusals, backups, own_file, closed_descriptors, syncs, seconds, serving):
+        part(program, folder, time.monotonic() + SECONDS)
 
 
 def main(words):
     if words[:1] == ["--image"]:
         write(words[1], stored_image())
         return 0
-    try:
-        same("the image of the stored run", read(STORED_IMAGE), stored_image())
-        for program in words or [PROGRAM]:
-            deadline = time.monotonic() + SECONDS
-            with tempfile.TemporaryDirectory(prefix="psb-loopback-") as folder:
-                beginnings(os.path.abspath(program), folder, deadline)
-                refusals(os.path.abspath(program), folder, deadline)
-                backups(os.path.abspath(program), folder, deadline)
-                serving(os.path.abspath(program), folder, deadline)
-    except (Wrong, OSError) as error:
-        print(f"loopback: FAILED: {error}")
-        return 1
-    print("loopback: nodes began once each, in files that nobody else may read; folders were backed up, with the"
-          " tickets and records that were worked out here; a second program was refused;"
-          " a Store was taken, answered byte for byte and found again; a forged frame was dropped")
-    return 0
+    return try_all("loopback", words, __doc__, course,
+        "nodes began once each, in files that nobody else may read; folders were backed up, with the tickets and records"
+        " that were worked out here, and without the node's own file; no command wrote a line into that, whatever was"
+        " closed; a second program was refused; a Store was taken, answered byte for byte and found again; a forged frame"
+        " and one that is too long were dropped")
 
 
 if __name__ == "__main__":

@@ -20,7 +20,6 @@ import shutil
 import struct
 import subprocess
 import sys
-import tempfile
 import time
 
 import loopback
@@ -31,7 +30,6 @@ from restoring import HERE, bodies, counts, new_folder, same_tree
 PROPOSED, SETTLED, CHOSE = 11, 12, 19
 PLACES = 1, 2
 TURNS = "40"
-SECONDS = 55
 
 # Less than a chunk at least has, so that it is one chunk of each folder.
 COMMON = random.Random(0).randbytes(2_000)
@@ -198,9 +196,9 @@ def lose(deadline, node, nodes, ticket, folder):
         print(f"node {node.number} restored its folder from {which}: equal byte for byte", flush=True)
 
 
-def course(folder, program):
+def course(program, folder):
     """All of it."""
-    deadline = time.monotonic() + SECONDS
+    deadline = time.monotonic() + 2 * loopback.SECONDS
     nodes = [Node(program, folder, number) for number in (1, 2, 3)]
     tickets = {}
     for node in nodes:
@@ -213,16 +211,9 @@ def course(folder, program):
     lose(deadline, nodes[0], nodes, tickets[1], folder)
 
 
-def main(programs):
-    try:
-        for program in programs or [loopback.PROGRAM]:
-            with tempfile.TemporaryDirectory(prefix="psb-lost-machine-") as folder:
-                course(folder, os.path.abspath(program))
-    except (Wrong, OSError) as error:
-        print(f"lost_machine: FAILED: {error}")
-        return 1
-    print("lost_machine: three nodes chose and backed up to one another, and one that lost all came back from the others")
-    return 0
+def main(words):
+    return loopback.try_all("lost-machine", words, __doc__, course,
+        "three nodes chose and backed up to one another, and one that lost all came back from the others")
 
 
 if __name__ == "__main__":

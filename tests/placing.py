@@ -16,7 +16,6 @@ import re
 import struct
 import subprocess
 import sys
-import tempfile
 import time
 
 import loopback
@@ -87,7 +86,7 @@ def serve_until(deadline, first, second, units):
     same("the ledger of the other node", second.ledger(deadline), balanced(first, units))
 
 
-def course(folder, program):
+def course(program, folder):
     """All of it; each part has its own deadline."""
     first, second = Node(program, folder, 1), Node(program, folder, 2)
 
@@ -119,17 +118,9 @@ def course(folder, program):
     serve_until(deadline(), first, second, 0)
 
 
-def main(programs):
-    try:
-        for program in programs or [loopback.PROGRAM]:
-            with tempfile.TemporaryDirectory(prefix="psb-placing-") as folder:
-                course(folder, os.path.abspath(program))
-    except (Wrong, OSError) as error:
-        print(f"placing: FAILED: {error}")
-        return 1
-    print("placing: a snapshot was placed with a peer, came back from there when its disk was lost, and was let go;"
-          " both ledgers balanced")
-    return 0
+def main(words):
+    return loopback.try_all("placing", words, __doc__, course,
+        "a snapshot was placed with a peer, came back from there when its disk was lost, and was let go; both ledgers balanced")
 
 
 if __name__ == "__main__":

@@ -13,6 +13,7 @@ where all is well and 1 where something is not.
 """
 
 import contextlib
+import math
 import os
 import random
 import re
@@ -21,13 +22,12 @@ import stat
 import struct
 import subprocess
 import sys
-import tempfile
 import time
 
 import loopback
 from loopback import Wrong, frame, free_port, is_bound, left, read, run, same, sealed, sha, start, stop, write
 
-ACCEPTED, ASK, STORE = loopback.ACCEPTED, 11, loopback.STORE
+ACCEPTED, ASK, STORE = loopback.ACCEPTED, loopback.ASK, loopback.STORE
 HERE = "127.0.0.1"
 BIG = "\u5199\u771f/\u5927 big.raw"
 TURNS = "40"
@@ -360,7 +360,9 @@ def altered(folder, deadline, tree, ticket, first, second):
     with first.serving(deadline):
         change(first.disk, byte)
         out = new_folder(folder, "altered by ticket")
-        second.restore_among_peers(deadline, ticket, out, "9", 13, b"altered %s\n" % name.hex().encode())
+        # Nine turns, so that the node asks again behind the eighth; as many more as this machine is slower.
+        turns = str(math.ceil(9 * loopback.SECONDS / 30))
+        second.restore_among_peers(deadline, ticket, out, turns, 13, b"altered %s\n" % name.hex().encode())
         same_tree("what was restored before the changed body", out, {**before, BIG: text[:begins]})
     change(first.disk, byte)
     out = new_folder(folder, "again")
@@ -368,7 +370,7 @@ def altered(folder, deadline, tree, ticket, first, second):
     same_tree("the tree that was restored again", out, tree)
 
 
-def course(folder, program):
+def course(program, folder):
     """All of it; each part has its own deadline."""
     tree = made_tree()
     first, second = Node(program, folder, 1), Node(program, folder, 2)
@@ -385,17 +387,10 @@ def course(folder, program):
     same_tree("the tree that was backed up", os.path.join(folder, "home"), {**tree, **links})
 
 
-def main(programs):
-    try:
-        for program in programs or [loopback.PROGRAM]:
-            with tempfile.TemporaryDirectory(prefix="psb-restoring-") as folder:
-                course(folder, os.path.abspath(program))
-    except (Wrong, OSError) as error:
-        print(f"restoring: FAILED: {error}")
-        return 1
-    print("restoring: a tree was backed up, and came back byte for byte by its number, and from a peer by its ticket;"
-          " nothing was written over; of a body that was changed on the disk nothing was restored")
-    return 0
+def main(words):
+    return loopback.try_all("restoring", words, __doc__, course,
+        "a tree was backed up, and came back byte for byte by its number, and from a peer by its ticket; nothing was"
+        " written over; of a body that was changed on the disk nothing was restored")
 
 
 if __name__ == "__main__":

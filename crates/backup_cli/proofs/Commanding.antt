@@ -156,6 +156,7 @@ module _ {L : Type 0} (holds : L → List Entry → List ℕ → Type 0) (stands
       let tries = tried_lines r.failed tried in
       let P : List ℕ → ℕ → Type 0 = λ c k. IsMoment stands h done failed refused v1.told c k in
       let kept_sent : v3.outside.sent ≡ v2.outside.sent = ap (λ (o : Outside). o.sent) u.kept in
+      let kept_tried : v3.outside.tried ≡ v2.outside.tried = ap (λ (o : Outside). o.tried) u.kept in
       let kept_faults : v3.outside.send_faults ≡ v2.outside.send_faults = ap (λ (o : Outside). o.send_faults) u.kept in
       let sent : sent_in n done ≡ sent_in n r.done = sent_in-append n r.done (says said) ∙ ap (λ (l : List (ℕ × List ℕ)). sent_in n r.done ++ l) (sent_says (after_all n r.done) said) ∙ append-nil (sent_in n r.done) in
       let said_is : joined_lines (said_in n done) ≡ joined_lines (said_in n r.done) ++ joined_lines said =
@@ -182,6 +183,7 @@ module _ {L : Type 0} (holds : L → List Entry → List ℕ → Type 0) (stands
             told_as v1.told v3.told (length (tellings n r.done) + tried_in r.failed + (length said + length tried + refused)) (told_in h done failed refused) (omega (arith, many, tries))
             (told_then v1.told v2.told v3.told (length (tellings n r.done) + tried_in r.failed) (length said + length tried + refused) r.told u.told);
         lost = r.lost;
+        tried = subst (λ (l : List (ℕ × List ℕ)). Grows v1.outside.tried v3.outside.tried l) (sym sent) (subst (λ (o : Option (List (ℕ × List ℕ))). Grows v1.outside.tried o (sent_in n r.done)) (sym kept_tried) r.tried);
         sent = (
           r.sent.0,
           subst (λ (l : List (ℕ × List ℕ)). AreSent l r.sent.0 r.lost) (sym sent) r.sent.1,
@@ -248,6 +250,7 @@ from_before stands h course counts refusal refused v0 v1 v3 e now keeps d moment
       stands_for = d.stands_for;
       told = subst (λ (m : ℕ). ToldMore m v3.told (told_in h d.done d.failed refused)) keeps.works.told d.told;
       lost = d.lost;
+      tried = subst (λ (o : Outside). Grows o.tried v3.outside.tried (sent_in (fresh h) d.done)) same d.tried;
       sent = (d.sent.0, d.sent.1, subst (λ (o : Outside). Grows o.sent v3.outside.sent d.sent.0) same d.sent.2);
       lost_cause = omega (arith, d.lost_cause, ap (λ (o : Outside). o.send_faults) same);
       said = subst (λ (o : Outside). Grows o.said v3.outside.said (joined_lines (said_in (fresh h) d.done) ++ refusal)) same d.said;

@@ -17,3 +17,4 @@ pub mod Elsewhere
 pub mod Restorings
 pub mod Tickets
 pub mod Supplied
+pub mod Completing

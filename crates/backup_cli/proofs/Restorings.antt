@@ -1,5 +1,5 @@
 -- What `restore` comes to.
-use Rattle.std.proofs.Common.{◌≡◌, ◌≢◌, ◌⊎◌, inl, inr, ⊎_elim, ℕ, ◌+◌, ◌≤◌, Bool, true, false, List, [], ◌∷◌, ◌++◌, length, take, Some, None, Ok, Err, refl, sym, ◌∙◌, ap, subst, arith}
+use Rattle.std.proofs.Common.{◌≡◌, ◌≢◌, ◌⊎◌, inl, inr, ⊎_elim, ℕ, ◌+◌, ◌≤◌, Bool, true, false, if◌then◌else◌, List, [], ◌∷◌, ◌++◌, length, take, Some, None, Ok, Err, refl, sym, ◌∙◌, ap, subst, arith}
 use Rattle.std.proofs.lemmas.Bool.{false≢true}
 use Rattle.std.proofs.lemmas.List.{append-nil}
 use Rattle.psb_bytes.specs.declared.ids.Ticket.{Ticket}
@@ -10,14 +10,14 @@ use Rattle.node_journal.specs.Entry.{Entry}
 use Rattle.psb_settings.specs.declared.settings.Settings.{Settings}
 use Rattle.psb_model.specs.History.{state}
 use Rattle.psb_model.specs.declared.change.Change.{Change}
-use Rattle.psb_machine.specs.Machine.{fresh}
+use Rattle.psb_machine.specs.Machine.{Situation, fresh}
 use Rattle.psb_machine.specs.Course.{Step, after_all}
 use Rattle.node_core.specs.declared.node.Node.{Node}
 use Rattle.node_core.specs.Stored.{Knows, Stored}
 use Rattle.node_serve.specs.Hears.{Hears}
 use Rattle.node_serve.specs.Joins.{nodes_of, join_answers, JoinsAll}
-use Rattle.node_serve.specs.Spans.{no_tally, Fed}
-use Rattle.node_serve.proofs.Runs.{hears_then, fed_then, uncounted, all_done}
+use Rattle.node_serve.specs.Spans.{no_tally, Fed, FedBy}
+use Rattle.node_serve.proofs.Runs.{hears_then, uncounted, all_done, no_steps, by_whole}
 use Rattle.snapshot_restore.specs.Course.{heard_in, restore_steps}
 use Rattle.snapshot_restore.specs.Taken.{fetches}
 use Rattle.snapshot_restore.specs.Restored.{Restores, StopsRestore}
@@ -25,21 +25,21 @@ use Rattle.snapshot_restore.specs.declared.fault.RestoreFault.{RestoreFault}
 use Rattle.snapshot_restore.specs.declared.restoring.Restored.{Restored}
 use Rattle.snapshot_restore.specs.declared.fault.RestoreFault.TheVariants as restore_fault
 use Rattle.psb_station.specs.Calls.{Grows}
-use Rattle.psb_machine.specs.Commands.{says}
+use Rattle.psb_machine.specs.Commands.{peer_ids, says}
 use Rattle.node_serve.proofs.Runs.{hears_none, fed_none}
 use Rattle.node_serve.proofs.Tries.{grows_none}
 use Rattle.backup_cli.specs.Commanded.{Halted, IfThrough, UnlessHarmed, joined_lines}
 use Rattle.backup_cli.specs.Lines.{restored_line}
 use Rattle.backup_cli.specs.Says.{Utters, IsRefusal, NotOpened}
 use Rattle.backup_cli.specs.Served.{ending_of, refused_of}
-use Rattle.backup_cli.specs.RestoredTo.{status_of, kept_ticket, ticket_at, Fares, RestoresTo, RestoresOn}
+use Rattle.backup_cli.specs.RestoredTo.{status_of, kept_ticket, ticket_at, FallsShort, EndsSaying, AnyOutcome, Fares, RestoresTo, RestoresOn}
 use Rattle.backup_cli.specs.declared.words.Which.{Which}
 use Rattle.backup_cli.specs.declared.words.Which.TheVariants.{Number}
 use Rattle.backup_cli.specs.declared.status.Status.{Status}
 use Rattle.backup_cli.specs.declared.status.Status.TheVariants.{Done, DiskFault, LinkFault, SayFault, NoSnapshot, Memory}
 use Rattle.backup_cli.proofs.Commanding.{NoOther, long_says, ended, lines_behind, lines_left, from_before}
 use Rattle.backup_cli.proofs.Ends.{refused_since, unopened_command}
-use Rattle.backup_cli.proofs.Outcomes.{hears_still, utters_as}
+use Rattle.backup_cli.proofs.Outcomes.{hears_still, last_input, by_joined, utters_as}
 
 -- ---- the statuses of what falls short
 
@@ -92,12 +92,11 @@ module _ {L : Type 0} (holds : L → List Entry → List ℕ → Type 0) (stands
       let f = j.fed sound tells st in
       subst (λ (l : List Step). Stored holds n0 (after_all (fresh h) l).history m) (sym (all_done holds stands broken law n0 n0 v1 m (fresh h) [] (Some no_tally) f)) (f.stored sound)
 
-  fed_joined : (n0 n2 : Node L) (h : List Change) (settings : Settings) (v1 m v2 : View) (steps : List Step) (ok : Bool) → broken n0.log ≡ false → Tells_bytes m → Stored holds n0 h v1 → JoinsAll holds stands broken n0 v1 m (fresh h) settings true
-      → Fed holds stands broken n0 n2 m v2 (fresh h) steps None ok → Fed holds stands broken n0 n2 v1 v2 (fresh h) steps None ok
-  fed_joined n0 n2 h settings v1 m v2 steps ok sound tells st j r =
-      let f = j.fed sound tells st in
-      fed_then holds stands broken law n0 n0 n2 v1 m v2 (fresh h) [] steps (Some no_tally) None ok f
-      (subst (λ (l : List Step). Fed holds stands broken n0 n2 m v2 (after_all (fresh h) l) steps None ok) (all_done holds stands broken law n0 n0 v1 m (fresh h) [] (Some no_tally) f) r)
+  fed_joined : (n0 n2 : Node L) (h : List Change) (settings : Settings) (v1 m v2 : View) (heard : List Heard) (steps : List Step) (ok : Bool) → broken n0.log ≡ false → Tells_bytes m → Stored holds n0 h v1 → (j : JoinsAll holds stands broken n0 v1 m (fresh h) settings true)
+      → FedBy holds stands broken n0 n2 m v2 (fresh h) (peer_ids settings) 0 heard steps None ok → FedBy holds stands broken n0 n2 v1 v2 (fresh h) (peer_ids settings) 0 (join_answers j.made true ++ heard) steps None ok
+  fed_joined n0 n2 h settings v1 m v2 heard steps ok sound tells st j r =
+      by_joined holds stands broken law n0 n2 h settings v1 m v2 heard steps None ok sound st tells j
+      (λ n here knows stored. subst (λ (l : Situation). FedBy holds stands broken n0 n2 m v2 l (peer_ids settings) 0 heard steps None ok) (sym here) r)
 
   hears_joined : (n0 : Node L) (h : List Change) (settings : Settings) (v1 m v2 : View) (heard : List Heard) → (j : JoinsAll holds stands broken n0 v1 m (fresh h) settings true) → Hears m v2 [] heard
       → Hears v1 v2 (take j.made (nodes_of settings)) (join_answers j.made true ++ heard)
@@ -122,9 +121,9 @@ module _ {L : Type 0} (holds : L → List Entry → List ℕ → Type 0) (stands
         steps = steps;
         ok = true;
         hears = hears_joined n0 h settings v1 m v2 (heard_in (fetches ts)) j b.run.hears;
-        fed = fed_joined n0 n2 h settings v1 m v2 steps true sound mid st j a.fed;
+        fed = fed_joined n0 n2 h settings v1 m v2 (heard_in (fetches ts)) steps true sound mid st j (by_whole holds stands broken law n0 n2 m v2 (fresh h) (peer_ids settings) 0 (heard_in (fetches ts)) steps None a.fed);
         all_fed = λ is. refl;
-        comes_to = record { tree = b.made; exact = r.exact; taken = a.taken; hears = record { all_joined = j.whole refl; answers_are = refl }; steps_are = refl };
+        comes_to = record { tree = b.made; exact = r.exact; empty = r.empty; taken = a.taken; hears = record { all_joined = j.whole refl; answers_are = refl }; steps_are = refl };
       }
 
   pub fares_short : (n0 n2 : Node L) (h : List Change) (settings : Settings) (v1 m v2 : View) (t : Ticket) (root : List ℕ) (turns : ℕ) (was is : FolderView) (e : RestoreFault) (status : Status)
@@ -136,15 +135,35 @@ module _ {L : Type 0} (holds : L → List Entry → List ℕ → Type 0) (stands
       let mid = b.run.tells tells in
       let a = b.all tells (fresh h) settings knows (stored_joined n0 h settings v1 m sound mid st j) present in
       let steps = restore_steps settings 0 (fetches l.ts ++ l.last) in
+      let heard = heard_in (fetches l.ts ++ l.last) in
+      let all = join_answers j.made true ++ heard in
+      let fed = fed_joined n0 n2 h settings v1 m v2 heard steps l.ok sound mid st j a.fed in
       record {
         made = j.made;
-        answers = join_answers j.made true ++ heard_in (fetches l.ts ++ l.last);
+        answers = all;
         steps = steps;
-        ok = a.ok;
-        hears = hears_joined n0 h settings v1 m v2 (heard_in (fetches l.ts ++ l.last)) j b.run.hears;
-        fed = fed_joined n0 n2 h settings v1 m v2 steps a.ok sound mid st j a.fed;
+        ok = l.ok;
+        hears = hears_joined n0 h settings v1 m v2 heard j b.run.hears;
+        fed = fed;
         all_fed = λ is. absurd (false≢true is);
-        comes_to = inr (e, record { left = l; met = r.met; taken = a.taken; ok = a.ok; in_vain = a.in_vain; at_once = r.at_once; hears = record { all_joined = j.whole refl; answers_are = refl }; steps_are = refl }, by);
+        comes_to = inr (
+          e,
+          record {
+            left = l;
+            met = r.met;
+            taken = a.taken;
+            in_vain = a.in_vain;
+            at_once = r.at_once;
+            hears = record { all_joined = j.whole refl; answers_are = refl };
+            steps_are = refl;
+            all_fed = λ is. (no_steps fed.fed.failed (fed.fed.one ∙ ap (λ (b : Bool). if b then 0 else 1) is), fed.fed.whole is);
+            fails = λ is.
+                let last = fed.in_last is in
+                let x = last_input (peer_ids settings) 0 all fed.fed.failed fed.fed.undone last (fed.fed.one ∙ ap (λ (b : Bool). if b then 0 else 1) is) in
+                (x.0, x.1, record { rest = fed.fed.undone; in_last = last; undone_is = sym (append-nil fed.fed.undone) });
+          },
+          by,
+        );
       }
 
   pub fares_unjoined : (n0 : Node L) (h : List Change) (settings : Settings) (v1 m : View) (t : Ticket) (root : List ℕ) (turns : ℕ) (was : FolderView) → broken n0.log ≡ false → Stored holds n0 h v1 → Tells_bytes m → JoinsAll holds stands broken n0 v1 m (fresh h) settings false
@@ -155,7 +174,7 @@ module _ {L : Type 0} (holds : L → List Entry → List ℕ → Type 0) (stands
     steps = [];
     ok = true;
     hears = j.hears;
-    fed = uncounted holds stands broken law n0 n0 v1 m (fresh h) [] (Some no_tally) true (j.fed sound tells st);
+    fed = by_whole holds stands broken law n0 n0 v1 m (fresh h) (peer_ids settings) 0 (join_answers j.made false) [] None (uncounted holds stands broken law n0 n0 v1 m (fresh h) [] (Some no_tally) true (j.fed sound tells st));
     all_fed = λ is. refl;
     comes_to = inl (record { status_is = refl; some_joined = j.early refl; answers_are = refl; none = refl; target = refl });
   }
@@ -164,13 +183,13 @@ module _ {L : Type 0} (holds : L → List Entry → List ℕ → Type 0) (stands
 
   -- The tree stands in the target; then its line was said, or tried, or memory was short for it.
   line_told : (status : Status) (n0 n2 : Node L) (h : List Change) (settings : Settings) (which : Which) (t : Ticket) (root : List ℕ) (turns : ℕ) (v1 v2 v3 : View) (was is : FolderView) (d : Restored) (text : List ℕ) (said tried rest : List (List ℕ))
-      → (status ≡ Done) ⊎ (status ≡ SayFault) ⊎ (status ≡ Memory) → IfThrough (ending_of status) ((tried ≡ []) × (rest ≡ [])) → ((P : Type 0) → P → UnlessHarmed (ending_of status) P) → ((P Q : Type 0) → (P → Q) → IfThrough (ending_of status) P → IfThrough (ending_of status) Q)
+      → ((failed undone : List Step) → failed ≡ says tried → undone ≡ says rest → EndsSaying status (restored_line d.files d.folders d.bytes) failed undone) → IfThrough (ending_of status) ((tried ≡ []) × (rest ≡ [])) → ((P : Type 0) → P → UnlessHarmed (ending_of status) P) → ((P Q : Type 0) → (P → Q) → IfThrough (ending_of status) P → IfThrough (ending_of status) Q)
       → (status ≡ SayFault → (line : List ℕ) × (tried ≡ line ∷ [])) → length tried ≤ 1 → restored_line d.files d.folders d.bytes ∷ [] ≡ said ++ tried ++ rest → broken n2.log ≡ false → NoOther v1 → Tells_bytes v3 → ticket_at (state h).kept which ≡ Some t
       → Fares holds stands broken n0 n2 h settings v1 v2 t root turns was is (Ok d) → Utters v2 v3 (length said + length tried + refused_of status) (joined_lines said ++ text) → IsRefusal status text v1 v3
       → RestoresOn stands h settings which root turns v1 v3 was is status
-  line_told status n0 n2 h settings which t root turns v1 v2 v3 was is d text said tried rest well through unless lift one few lines_are sound now tells found f u how =
+  line_told status n0 n2 h settings which t root turns v1 v2 v3 was is d text said tried rest ends through unless lift one few lines_are sound now tells found f u how =
       let line = restored_line d.files d.folders d.bytes in
-      let r = subst (λ (ok : Bool). Fed holds stands broken n0 n2 v1 v2 (fresh h) f.steps None ok) (f.all_fed refl) f.fed in
+      let r = subst (λ (ok : Bool). Fed holds stands broken n0 n2 v1 v2 (fresh h) f.steps None ok) (f.all_fed refl) f.fed.fed in
       let b = lines_behind holds stands broken law n0 n2 h v1 v2 f.steps None (line ∷ []) said tried rest r lines_are in
       let many : length (r.failed ++ says tried) ≤ 1 = omega (arith, few, long_says tried, ap (λ (l : List Step). length l) b.1) in
       let c = ended holds stands broken law n0 n2 h v1 v2 v3 f.steps (f.steps ++ says (line ∷ [])) said tried rest None true text (refused_of status) (ending_of status)
@@ -186,7 +205,7 @@ module _ {L : Type 0} (holds : L → List Entry → List ℕ → Type 0) (stands
           how = how;
           course = c.0.0;
           unopened = λ is. absurd (false≢true (sym is));
-          comes_to = λ is. inr (t, found, inr (inl (d, f.comes_to, refl, well)));
+          comes_to = λ is. inr (t, found, inr (inl (d, f.comes_to, refl, ends c.0.0.failed c.0.0.undone (c.1 ∙ b.1) (c.2 ∙ b.2))));
           unsaid = λ is. let l = one is in (l.0, c.1 ∙ b.1 ∙ ap says l.1);
         },
         c.0.1,
@@ -196,20 +215,20 @@ module _ {L : Type 0} (holds : L → List Entry → List ℕ → Type 0) (stands
       → Fares holds stands broken n0 n2 h settings v1 v2 t root turns was is (Ok d) → Utters v2 v3 1 (restored_line d.files d.folders d.bytes) → RestoresOn stands h settings which root turns v1 v3 was is Done
   line_said n0 n2 h settings which t root turns v1 v2 v3 was is d sound now tells found f u =
       let line = restored_line d.files d.folders d.bytes in
-      line_told Done n0 n2 h settings which t root turns v1 v2 v3 was is d [] (line ∷ []) [] [] (inl refl) (refl, refl) (λ P p. p) (λ P Q g p. g p) (λ e. absurd (cc (e))) (omega arith) refl sound now tells found f
+      line_told Done n0 n2 h settings which t root turns v1 v2 v3 was is d [] (line ∷ []) [] [] (λ failed undone a b. (a, b)) (refl, refl) (λ P p. p) (λ P Q g p. g p) (λ e. absurd (cc (e))) (omega arith) refl sound now tells found f
       (utters_as v2 v3 1 (1 + 0 + 0) line (joined_lines (line ∷ []) ++ []) (omega arith) (sym (append-nil (joined_lines (line ∷ [])) ∙ append-nil line)) u) (inl refl)
 
   pub line_failed : (n0 n2 : Node L) (h : List Change) (settings : Settings) (which : Which) (t : Ticket) (root : List ℕ) (turns : ℕ) (v1 v2 v3 : View) (was is : FolderView) (d : Restored) → broken n2.log ≡ false → NoOther v1 → Tells_bytes v3 → ticket_at (state h).kept which ≡ Some t
       → Fares holds stands broken n0 n2 h settings v1 v2 t root turns was is (Ok d) → Utters v2 v3 1 [] → RestoresOn stands h settings which root turns v1 v3 was is SayFault
   line_failed n0 n2 h settings which t root turns v1 v2 v3 was is d sound now tells found f u =
       let line = restored_line d.files d.folders d.bytes in
-      line_told SayFault n0 n2 h settings which t root turns v1 v2 v3 was is d [] [] (line ∷ []) [] (inr (inl refl)) tt (λ P p. p) (λ P Q g p. tt) (λ e. (line, refl)) (omega arith) refl sound now tells found f
+      line_told SayFault n0 n2 h settings which t root turns v1 v2 v3 was is d [] [] (line ∷ []) [] (λ failed undone a b. (a, b)) tt (λ P p. p) (λ P Q g p. tt) (λ e. (line, refl)) (omega arith) refl sound now tells found f
       (utters_as v2 v3 1 (0 + 1 + 0) [] [] (omega arith) refl u) (inl refl)
 
   pub line_unmade : (n0 n2 : Node L) (h : List Change) (settings : Settings) (which : Which) (t : Ticket) (root : List ℕ) (turns : ℕ) (v1 v2 v3 : View) (was is : FolderView) (d : Restored) (text : List ℕ) → broken n2.log ≡ false → NoOther v1 → Tells_bytes v3 → ticket_at (state h).kept which ≡ Some t
       → v2.outside.say_faults ≡ v1.outside.say_faults → Fares holds stands broken n0 n2 h settings v1 v2 t root turns was is (Ok d) → Utters v2 v3 1 text → IsRefusal Memory text v2 v3 → RestoresOn stands h settings which root turns v1 v3 was is Memory
   line_unmade n0 n2 h settings which t root turns v1 v2 v3 was is d text sound now tells found quiet f u how =
-      line_told Memory n0 n2 h settings which t root turns v1 v2 v3 was is d text [] [] (restored_line d.files d.folders d.bytes ∷ []) (inr (inr refl)) tt (λ P p. p) (λ P Q g p. tt) (λ e. absurd (cc (e))) (omega arith) refl sound now tells found f
+      line_told Memory n0 n2 h settings which t root turns v1 v2 v3 was is d text [] [] (restored_line d.files d.folders d.bytes ∷ []) (λ failed undone a b. (a, b)) tt (λ P p. p) (λ P Q g p. tt) (λ e. absurd (cc (e))) (omega arith) refl sound now tells found f
       (utters_as v2 v3 1 (0 + 0 + 1) text text (omega arith) refl u) (refused_since Memory text v1 v2 v3 quiet how)
 
   -- it fell short by this fault, and the refusal was tried
@@ -218,9 +237,10 @@ module _ {L : Type 0} (holds : L → List Entry → List ℕ → Type 0) (stands
       → RestoresOn stands h settings which root turns v1 v3 was is (status_of e)
   short e n0 n2 h settings which t root turns v1 v2 v3 was is text why now tells found quiet f u how =
       let status = status_of e in
-      let b = lines_left holds stands broken law n0 n2 h v1 v2 f.steps None f.ok [] f.fed in
+      let r = f.fed.fed in
+      let b = lines_left holds stands broken law n0 n2 h v1 v2 f.steps None f.ok [] r in
       let c = ended holds stands broken law n0 n2 h v1 v2 v3 f.steps (f.steps ++ []) [] [] [] None f.ok text (refused_of status) (ending_of status)
-      now tells (sound_unless e (broken n2.log) why) f.fed (utters_as v2 v3 1 (0 + 0 + refused_of status) text text (omega (arith, one_refusal e)) refl u) b.0 b.2 (not_through e _) in (
+      now tells (sound_unless e (broken n2.log) why) r (utters_as v2 v3 1 (0 + 0 + refused_of status) text text (omega (arith, one_refusal e)) refl u) b.0 b.2 (not_through e _) in (
         record {
           made = f.made;
           answers = f.answers;
@@ -231,7 +251,19 @@ module _ {L : Type 0} (holds : L → List Entry → List ℕ → Type 0) (stands
           how = refused_since status text v1 v2 v3 quiet how;
           course = c.0.0;
           unopened = λ is. absurd (false≢true (sym is));
-          comes_to = λ is. inr (t, found, ⊎_elim (λ unjoined. inl (unjoined, refl)) (λ left. inr (inr (left.0, left.1, refl, left.2))) f.comes_to);
+          comes_to = λ opened. inr (
+            t,
+            found,
+            ⊎_elim (λ unjoined. inl (unjoined, refl))
+                (λ left. inr (inr (
+                  left.0,
+                  subst (λ (l : List Step). FallsShort h settings t root turns was is f.made f.answers f.steps l c.0.0.undone left.0) (sym (c.1 ∙ b.1))
+                      (subst (λ (l : List Step). FallsShort h settings t root turns was is f.made f.answers f.steps r.failed l left.0) (sym (c.2 ∙ append-nil r.undone)) left.1),
+                  refl,
+                  left.2,
+                )))
+                f.comes_to,
+          );
           unsaid = λ is. absurd (not_unsaid e is);
         },
         c.0.1,
@@ -263,7 +295,7 @@ module _ {L : Type 0} (holds : L → List Entry → List ℕ → Type 0) (stands
           how = how;
           course = c.0.0;
           unopened = λ is. absurd (false≢true (sym is));
-          comes_to = λ opened. inl (record { number = number; which_is = is; absent = none; status_is = refl }, record { none_joined = refl; none_heard = refl; none = refl; target = refl });
+          comes_to = λ opened. inl (record { number = number; which_is = is; absent = none; status_is = refl }, record { none_joined = refl; none_heard = refl; none = refl; target = refl }, refl);
           unsaid = λ is. absurd (cc (is));
         },
         c.0.1,
@@ -316,6 +348,8 @@ restores_from stands h settings which root turns v0 v1 v3 was is status now keep
       how = refused_since status r.refusal v0 v1 v3 (ap (λ (o : Outside). o.say_faults) same) r.how;
       course = c.0;
       unopened = λ is. absurd (false≢true (sym is));
-      comes_to = r.comes_to;
+      comes_to = λ opened.
+          subst (λ (l : List Step). AnyOutcome h settings which root turns was is r.made r.answers r.steps r.lines l c.0.undone status) (sym c.1)
+          (subst (λ (l : List Step). AnyOutcome h settings which root turns was is r.made r.answers r.steps r.lines r.course.failed l status) (sym c.2) (r.comes_to opened));
       unsaid = λ is. let l = r.unsaid is in (l.0, c.1 ∙ l.1);
     }

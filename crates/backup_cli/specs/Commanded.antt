@@ -60,6 +60,8 @@ pub record Commanded (stands : List Entry → List ℕ → Type 0) (h : List Cha
   -- what was told outside: frames in their order without those that were lost, and lines
   pub told : ToldMore old.told new.told (told_in h done failed refused)
   pub lost : ℕ
+  -- each letter of what was done was tried once, in order; these were sent
+  pub tried : Grows old.outside.tried new.outside.tried (sent_in (fresh h) done)
   pub sent : (out : List (ℕ × List ℕ)) × AreSent (sent_in (fresh h) done) out lost × Grows old.outside.sent new.outside.sent out
   pub lost_cause : LostFor lost old.outside.send_faults new.outside.send_faults
   pub said : Grows old.outside.said new.outside.said (joined_lines (said_in (fresh h) done) ++ refusal)

@@ -10,3 +10,4 @@ pub mod Files
 pub mod Begun
 pub mod BackedUp
 pub mod RestoredTo
+pub mod Completeness

@@ -4,6 +4,8 @@ ghost use Rattle.psb_digest.specs.Clashes.{Pair, Clashes};
 ghost use Rattle.psb_station.specs.Calls.{Rose};
 ghost use Rattle.psb_station.specs.Folder.{Tells_content};
 ghost use Rattle.psb_station.specs.Span.{Tells_bytes};
+ghost use Rattle.psb_model.specs.State.{snaps_made};
+ghost use Rattle.psb_model.specs.History.{state};
 ghost use Rattle.psb_model.specs.Needed.{IsValid};
 ghost use Rattle.psb_model.specs.declared.change.Change.{Change};
 ghost use Rattle.psb_machine.specs.Machine.{fresh};
@@ -11,7 +13,7 @@ ghost use Rattle.node_core.specs.Stands.{HoldsHistory};
 ghost use Rattle.node_core.specs.Stored.{Knows, Stored};
 ghost use Rattle.snapshot_backup.specs.Backed.{ListsThenReads};
 ghost use Rattle.node_serve.specs.Spans.{IsUp};
-ghost use Rattle.backup_cli.specs.BackedUp.{BacksUpTo, BacksUpOn, status_of_node, status_of};
+ghost use Rattle.backup_cli.specs.BackedUp.{BacksUpTo, BacksUpOn, ComesToEnd, status_of_node, status_of};
 ghost use Rattle.backup_cli.specs.Says.{Refuses};
 ghost use Rattle.backup_cli.specs.Status.{IsElsewhere};
 ghost use Rattle.backup_cli.specs.Served.{IsNode};
@@ -72,9 +74,10 @@ fn backup_opened<L: Log, S: Station, F: Folder>(
     ensures folder { (result ≡ Status.FolderFault) ⊎ ((F.view folder.new).folder_faults ≡ (F.view folder.old).folder_faults) }
     ensures all_said { result ≡ Status.Done → (S.view station.new).outside.say_faults ≡ (S.view station.old).outside.say_faults }
     ensures content { Tells_content (F.view folder.new) → (F.view folder.new).content ≡ (F.view folder.old).content }
-    ensures calls { ListsThenReads (F.view folder.old) (F.view folder.new) }
+    ensures calls { ListsThenReads path.now (F.view folder.old) (F.view folder.new) }
     ensures only { (result ≢ Status.Usage) × (result ≢ Status.LinkFault) × (result ≢ Status.Already) × (result ≢ Status.BadSettings) }
     ensures no_number { (k : ℕ) → result ≢ Status.NoSnapshot k }
+    ensures idle { (h : List Change) → Knows node.old (fresh h) → snaps_made (state h) ≡ 4294967295 → folder.new ≡ folder.old }
     ensures altered { result ≡ Status.NotNode → Tells_bytes (S.view station.new) → (h : List Change) → Knows node.old (fresh h) → ¬ Stored L.holds node.old h (S.view station.old) }
     ensures elsewhere { IsElsewhere result }
 {
@@ -102,6 +105,9 @@ pub(crate) fn backup_command<L: Log, S: Station, F: Folder>(
     ensures backs_up { Tells_bytes (S.view station.new) → (h : List Change) → IsNode L.stands h (S.view station.old)
         → (opened : Bool) × BacksUpTo L.stands h path.now opened (S.view station.old) (S.view station.new) (F.view folder.new) result }
 
+    // A folder that can be backed up is, unless a device fails or memory is short.
+    ensures complete { ComesToEnd L.stands path.now (S.view station.old) (S.view station.new) (F.view folder.old) (F.view folder.new) result }
+
     // Whatever the disk is, nothing is joined, heard or sent, and the clock is not asked.
     ensures quiet { (S.view station.new).outside ≡ record (S.view station.old).outside { said = (S.view station.new).outside.said; say_faults = (S.view station.new).outside.say_faults } }
 
@@ -122,9 +128,11 @@ pub(crate) fn backup_command<L: Log, S: Station, F: Folder>(
     ensures folder { (result ≡ Status.FolderFault) ⊎ ((F.view folder.new).folder_faults ≡ (F.view folder.old).folder_faults) }
     ensures all_said { result ≡ Status.Done → (S.view station.new).outside.say_faults ≡ (S.view station.old).outside.say_faults }
 
-    // The folder is as before; all folders are listed before the first file is read.
+    // The folder is as before: it is listed, then each folder that was found in it, and then the files are read. Where so
+    // many snapshots were made that there is no number for another, it is not looked at.
+    ensures idle { Tells_bytes (S.view station.new) → (h : List Change) → IsNode L.stands h (S.view station.old) → snaps_made (state h) ≡ 4294967295 → folder.new ≡ folder.old }
     ensures content { Tells_content (F.view folder.new) → (F.view folder.new).content ≡ (F.view folder.old).content }
-    ensures calls { ListsThenReads (F.view folder.old) (F.view folder.new) }
+    ensures calls { ListsThenReads path.now (F.view folder.old) (F.view folder.new) }
     ensures only { (result ≢ Status.Usage) × (result ≢ Status.LinkFault) × (result ≢ Status.Already) × (result ≢ Status.BadSettings) }
     ensures no_number { (k : ℕ) → result ≢ Status.NoSnapshot k }
     ensures elsewhere { IsElsewhere result }

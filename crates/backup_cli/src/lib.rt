@@ -19,6 +19,6 @@ mod words;
 
 pub use number::read_number;
 pub use program::run;
-pub use restoring::backups_come_back;
+pub use restoring::{backups_come_back, bodies_supply};
 pub use status::Status;
 pub use words::{Which, read_path, words_fix_the_command};

@@ -1,5 +1,6 @@
 //! The command `restore TICKET FOLDER TURNS`.
 ghost use Rattle.std.specs.Prelude.{◌≡◌, ◌≢◌, ◌⊎◌, ℕ, Bool, List, [], None, Some, true, false, Err, IfSome, IfOk, IfErr, MatchResult, OnOk};
+ghost use Rattle.psb_bytes.specs.declared.ids.Ticket.{Ticket as ATicket};
 ghost use Rattle.psb_digest.specs.Clashes.{Pair};
 ghost use Rattle.psb_station.specs.Calls.{Rose};
 ghost use Rattle.psb_station.specs.Folder.{Lists, Tells_content};
@@ -13,7 +14,7 @@ ghost use Rattle.node_core.specs.Stands.{HoldsHistory};
 ghost use Rattle.node_core.specs.Stored.{Knows, Stored};
 ghost use Rattle.node_serve.specs.Spans.{IsUp};
 ghost use Rattle.snapshots.specs.Writing.{IsNotEmpty};
-ghost use Rattle.backup_cli.specs.RestoredTo.{BackupsComeBack, Fares, RestoresOn, RestoresTo, Stops, kept_ticket, status_of, ticket_at};
+ghost use Rattle.backup_cli.specs.RestoredTo.{BackupsComeBack, Fares, HasBodies, IsSupplied, RestoresOn, RestoresTo, Stops, kept_ticket, status_of, ticket_at};
 ghost use Rattle.backup_cli.specs.Says.{Refuses};
 ghost use Rattle.backup_cli.specs.Served.{IsNode};
 ghost use Rattle.backup_cli.specs.declared.words.Which.TheVariants as named;
@@ -193,6 +194,13 @@ pub(crate) fn restore_command<L: Log, S: Station, F: Folder>(
     };
     restore_opened(alloc, &mut node, station, folder, which, path, turns)
 }
+
+/// A restore is supplied where each place of its ticket has a body, of the node's own or among those that
+/// come in its turns, and these form a skeleton.
+pub fn bodies_supply<S: Station>(old: &S, new: &S)
+    ensures { (h : List Change) (settings : Settings) (t : ATicket) (turns : ℕ) → HasBodies h settings t turns (S.view old.now) (S.view new.now)
+        → IsSupplied h settings t turns (S.view old.now) (S.view new.now) }
+{}
 
 /// From folder to folder: what a backup said as its ticket, restored, is the folder's tree again, or
 /// two unequal texts were met that share a SHA-256.

@@ -21,7 +21,7 @@ use Rattle.psb_machine.specs.Deals.{are_others, meets_others}
 use Rattle.chunk_store.specs.declared.store.Store.{Store}
 use Rattle.chunk_store.specs.Store.{record_of}
 use Rattle.node_core.specs.Names.{owns, brought_from, KnowsNames}
-use Rattle.node_core.specs.Less.{without_body, IsLessOf, IsLess}
+use Rattle.node_core.specs.Less.{without_body, IsLessOf, IsLess, IsTheSame, LessGivesTheSame}
 use Rattle.node_core.proofs.Brought.{or_this, bytes_of}
 use Rattle.node_core.proofs.Lacks.{right_here}
 use Rattle.node_core.proofs.Reading.{next_of}
@@ -261,6 +261,12 @@ last_bytes_less h less name is v names knows some = sym (last_less name h less (
 
     held : is_held (state less) name ≡ true
     held = sym (knows.held name) ∙ there (record_of names name) some
+
+pub less_same : LessGivesTheSame
+less_same h less is = record {
+  one_state = state_less h less is;
+  same_bytes = λ v name held. last_less name h less (both_bring (state less) name h less is (ap (λ (s : State). is_held s name) (state_less h less is) ∙ held) v.sound);
+}
 
 -- so the same bytes are held under each name
 pub meets_less : (h less : List Change) (name bytes : List ℕ) → IsLess h less → IsValid less → meets_others less name bytes ≡ meets_others h name bytes

@@ -85,6 +85,14 @@ named_in s (c ∷ cs) name held right is last = by_rest (last_bringing name cs) 
     by_rest None none rest = here (brings_name name c) refl none (ap (λ (o : Option Change). bytes_of (or_this o (brings_name name c) c)) (sym none) ∙ last)
     by_rest (Some d) there rest = rest (ap bytes_of there ∙ sym (ap (λ (o : Option Change). bytes_of (or_this o (brings_name name c) c)) there) ∙ last)
 
+-- so have those of a name that has a record
+pub named_there : (names : Store) (h : List Change) (name held : List ℕ) → IsValid h → KnowsNames names h → (record_of names name ≡ None → ⊥) → last_brought name h ≡ Some held → sha held ≡ name
+named_there names h name held v knows some last = name_same (sha held) name (named_in (state h) h name held v.sound (sym (knows.held name) ∙ at (record_of names name) some) last)
+  where
+    at : (o : Option ℕ) → (o ≡ None → ⊥) → is_some o ≡ true
+    at None some = absurd (some refl)
+    at (Some k) some = refl
+
 -- ---- what was found under a name
 
 -- no others, where the bytes fit; the first of a clash; and never what was altered

@@ -1,5 +1,8 @@
 -- Histories less bodies that were given up.
-use Rattle.std.specs.Prelude.{◌≡◌, ◌⊎◌, List, [], ◌∷◌, None}
+use Rattle.std.specs.Prelude.{◌≡◌, ◌⊎◌, ℕ, true, List, [], ◌∷◌, None}
+use Rattle.psb_model.specs.State.{is_held}
+use Rattle.psb_model.specs.History.{state}
+use Rattle.psb_model.specs.Needed.{last_brought, IsValid}
 use Rattle.psb_model.specs.declared.change.Change.{Change}
 use Rattle.psb_model.specs.declared.change.Change.TheVariants.{Kept, TookFresh, TookSwap, LetGoBack, Replaced, Settled}
 
@@ -24,3 +27,13 @@ IsLess [] [] = Unit {0}
 IsLess [] (d ∷ ds) = ⊥
 IsLess (c ∷ cs) [] = ⊥
 IsLess (c ∷ cs) (d ∷ ds) = IsLessOf c d × IsLess cs ds
+
+-- ---- the law
+
+-- they give one state, and where what is left is valid, the same bytes were brought last for each name that is held
+pub record IsTheSame (h less : List Change) : Type 0 where
+  pub one_state : state less ≡ state h
+  pub same_bytes : IsValid less → (name : List ℕ) → is_held (state h) name ≡ true → last_brought name less ≡ last_brought name h
+
+abbrev pub LessGivesTheSame : Type 0
+LessGivesTheSame = (h less : List Change) → IsLess h less → IsTheSame h less

@@ -7,7 +7,7 @@ use Rattle.psb_station.specs.Span.{Tells_bytes}
 use Rattle.psb_station.proofs.Spans.{weakened}
 use Rattle.node_journal.specs.Entry.{Entry}
 use Rattle.psb_machine.specs.Machine.{Situation}
-use Rattle.psb_machine.specs.Course.{Step, Telling, Send, Tell, after_all, tellings, sent_of, said_of, sent_in, said_in, taken_in, dropped_in}
+use Rattle.psb_machine.specs.Course.{Telling, Send, after_all, tellings, sent_of, said_of, sent_in, said_in, taken_in, dropped_in}
 use Rattle.psb_machine.specs.Commands.{get_by, gets}
 use Rattle.psb_machine.proofs.Peers.{settings_read}
 use Rattle.psb_settings.specs.Settings.{most_peers}
@@ -71,6 +71,7 @@ module _ {L : Type 0} (holds : L → List Entry → List ℕ → Type 0) (stands
         ends = λ c left. whole_has_all stands n done c (reopens c (s.images c left));
         told = told_as v1.told v2.told (length letters) (length (tellings n done) + 0) (omega (arith, many)) s.told;
         lost = lost;
+        tried = subst (λ (l : List (ℕ × List ℕ)). Grows v1.outside.tried v2.outside.tried l) (sym sent) s.tried;
         sent = (s.sent.0, subst (λ (l : List (ℕ × List ℕ)). AreSent l s.sent.0 lost) (sym sent) s.sent.1, s.sent.2);
         lost_cause = s.lost_cause;
         said = subst (λ (l : List ℕ). Grows v1.outside.said v2.outside.said l) (sym (ap (flat_map (λ (line : List ℕ). line)) said))

@@ -24,10 +24,10 @@ use Rattle.node_core.proofs.Reopened.{stored_at, stored_reopens}
 use Rattle.node_serve.specs.Sends.{AreSent, Sends}
 use Rattle.node_serve.specs.Hears.{Hears, steps_of, clock_by, clock_of, heard_of, of_turn, of_turns, End, Whole, Cut, Stopped, Unbegun, AnswersAs, CameIn, EndsAs, is_fed}
 use Rattle.node_serve.specs.Turns.{Listened, OnlySends, IsEarly, serve_fault_of, fault_end}
-use Rattle.node_serve.specs.Spans.{IsReady, IsPrefixSoon, Tally, no_tally, tally_sum, counts_sum, Fed, Received, MadeTurn}
+use Rattle.node_serve.specs.Spans.{IsReady, IsPrefixSoon, Tally, no_tally, tally_sum, counts_sum, Fed, FedBy, Received, MadeTurn}
 use Rattle.node_serve.proofs.Tries.{rests_tells, grows_none, told_none, told_as, told_from, sent_none, lost_none}
 use Rattle.node_serve.proofs.Prefixes.{whole, first_image, next_image, whole_has_all, either_has_all}
-use Rattle.node_serve.proofs.Runs.{steps_of-append, hears_then, fed_none, fed_then, fed_as, uncounted}
+use Rattle.node_serve.proofs.Runs.{steps_of-append, hears_then, fed_none, fed_then, fed_as, uncounted, by_whole, by_one, by_then, by_as}
 
 -- At a moment the images are those that a crash now may leave, and a run from it has no other.
 pub record Now (v : View) : Type 0 where
@@ -66,7 +66,7 @@ many_letters [] = refl
 many_letters (x ∷ l) = omega (arith, many_letters l)
 
 pub only_then : (v0 v1 v2 : View) → OnlySends v0 v1 → OnlySends v1 v2 → OnlySends v0 v2
-only_then v0 v1 v2 a b = b ∙ ap (λ (o : Outside). record o { sent = v2.outside.sent; send_faults = v2.outside.send_faults }) a
+only_then v0 v1 v2 a b = b ∙ ap (λ (o : Outside). record o { sent = v2.outside.sent; tried = v2.outside.tried; send_faults = v2.outside.send_faults }) a
 
 -- a run that only sends hears nothing
 pub sends_hears : (v0 v1 : View) → OnlySends v0 v1 → Hears v0 v1 [] []
@@ -187,6 +187,7 @@ module _ {L : Type 0} (holds : L → List Entry → List ℕ → Type 0) (stands
     ends = λ c left. whole_has_all stands n [] c (stored_reopens holds stands law node n v0 knows.valid s c (l.listens.rests.images c left));
     told = told_from v0.told v0.told v1.told v0.told 0 refl (sym l.listens.told) (told_none v0.told);
     lost = 0;
+    tried = subst (λ (o : Outside). Grows v0.outside.tried o.tried []) (sym l.kept) (grows_none v0.outside.tried);
     sent = ([], sent_none, subst (λ (o : Outside). Grows v0.outside.sent o.sent []) (sym l.kept) (grows_none v0.outside.sent));
     lost_cause = lost_none v0.outside.send_faults v1.outside.send_faults (omega (arith, ap (λ (o : Outside). o.send_faults) l.kept));
     said = subst (λ (o : Outside). Grows v0.outside.said o.said []) (sym l.kept) (grows_none v0.outside.said);
@@ -222,6 +223,7 @@ module _ {L : Type 0} (holds : L → List Entry → List ℕ → Type 0) (stands
         (run.each v1.moment c v2.told (omega arith) (now2.counts v1.moment c run.later left)));
     told = told_from v1.told v1.told v2.told v1.told 0 refl (sym works.told) (told_none v1.told);
     lost = 0;
+    tried = subst (λ (o : Outside). Grows v1.outside.tried o.tried []) (sym works.outside) (grows_none v1.outside.tried);
     sent = ([], sent_none, subst (λ (o : Outside). Grows v1.outside.sent o.sent []) (sym works.outside) (grows_none v1.outside.sent));
     lost_cause = lost_none v1.outside.send_faults v2.outside.send_faults (omega (arith, ap (λ (o : Outside). o.send_faults) works.outside));
     said = subst (λ (o : Outside). Grows v1.outside.said o.said []) (sym works.outside) (grows_none v1.outside.said);
@@ -243,6 +245,7 @@ module _ {L : Type 0} (holds : L → List Entry → List ℕ → Type 0) (stands
       let said : said_in n (Absorb i ∷ []) ≡ [] = ap said_of all ∙ said_of-letters r.letters in
       let many : length (tellings n (Absorb i ∷ [])) ≡ length letters = ap (λ (l : List Telling). length l) all ∙ many_letters r.letters ∙ ap (λ (l : List (ℕ × List ℕ)). length l) (sym are) in
       let from_sent : v2.outside.sent ≡ v1.outside.sent = ap (λ (o : Outside). o.sent) works.outside in
+      let from_tried : v2.outside.tried ≡ v1.outside.tried = ap (λ (o : Outside). o.tried) works.outside in
       let from_faults : v2.outside.send_faults ≡ v1.outside.send_faults = ap (λ (o : Outside). o.send_faults) works.outside in
       let same_said : v3.outside.said ≡ v1.outside.said = ap (λ (o : Outside). o.said) s.kept ∙ ap (λ (o : Outside). o.said) works.outside in
       record {
@@ -262,6 +265,7 @@ module _ {L : Type 0} (holds : L → List Entry → List ℕ → Type 0) (stands
         ends = λ c left. whole_has_all stands n (Absorb i ∷ []) c (stored_reopens holds stands law node' (next n i) v2 knows.valid stored c (s.images c left));
         told = told_as v1.told v3.told (length letters) (length (tellings n (Absorb i ∷ [])) + 0) (omega (arith, many)) (told_from v1.told v2.told v3.told v3.told (length letters) works.told refl s.told);
         lost = t.lost;
+        tried = subst (λ (l : List (ℕ × List ℕ)). Grows v1.outside.tried v3.outside.tried l) (sym sent) (subst (λ (o : Option (List (ℕ × List ℕ))). Grows o v3.outside.tried letters) from_tried s.tried);
         sent = (
           s.sent.0,
           subst (λ (l : List (ℕ × List ℕ)). AreSent l s.sent.0 t.lost) (sym sent) s.sent.1,
@@ -294,6 +298,7 @@ module _ {L : Type 0} (holds : L → List Entry → List ℕ → Type 0) (stands
     ends = f.ends;
     told = f.told;
     lost = f.lost;
+    tried = f.tried;
     sent = f.sent;
     lost_cause = f.lost_cause;
     said = f.said;
@@ -306,7 +311,7 @@ module _ {L : Type 0} (holds : L → List Entry → List ℕ → Type 0) (stands
     answer = Nothing;
     ended = refl;
     hears = l.hears;
-    fed = λ tells n k s peers clock. fed_walked node node' v0 v1 n [] (Some no_tally) true same (listened node n v0 v1 [] Nothing k l tells s);
+    fed = λ tells n k s peers clock. by_whole holds stands broken law node node' v0 v1 n peers clock (Nothing ∷ []) [] (Some no_tally) (fed_walked node node' v0 v1 n [] (Some no_tally) true same (listened node n v0 v1 [] Nothing k l tells s));
   }
 
   pub cut : (node : Node L) (v0 v1 : View) (told : Option (List ℕ)) → Listened v0 v1 [] Fault → Received holds stands broken node node v0 v1 None Cut told
@@ -314,19 +319,20 @@ module _ {L : Type 0} (holds : L → List Entry → List ℕ → Type 0) (stands
     answer = Fault;
     ended = refl;
     hears = l.hears;
-    fed = λ tells n k s peers clock. uncounted holds stands broken law node node v0 v1 n [] (Some no_tally) true (listened node n v0 v1 [] Fault k l tells s);
+    fed = λ tells n k s peers clock. by_whole holds stands broken law node node v0 v1 n peers clock (Fault ∷ []) [] None (uncounted holds stands broken law node node v0 v1 n [] (Some no_tally) true (listened node n v0 v1 [] Fault k l tells s));
   }
 
   -- a frame came, and was fed
   came : (node node' : Node L) (v0 v1 v2 : View) (x : List ℕ) (i : Input) (t : Option Tally) (ok : Bool) → i ≡ Datagram x → (broken node.log ≡ false) → Listened v0 v1 [] (Frame x) → (Tells_bytes v2 → Tells_bytes v1)
       → (Tells_bytes v2 → (n : Situation) → Knows node n → Stored holds node n.history v1 → Fed holds stands broken node node' v1 v2 n (Absorb i ∷ []) t ok)
-      → Tells_bytes v2 → (n : Situation) → Knows node n → Stored holds node n.history v0 → (peers : List ℕ) (clock : ℕ) → Fed holds stands broken node node' v0 v2 n (steps_of peers clock (Frame x ∷ [])) t ok
+      → Tells_bytes v2 → (n : Situation) → Knows node n → Stored holds node n.history v0 → (peers : List ℕ) (clock : ℕ)
+      → FedBy holds stands broken node node' v0 v2 n peers clock (Frame x ∷ []) (steps_of peers clock (Frame x ∷ [])) t ok
   unfolding listened
   came node node' v0 v1 v2 x i t ok is sound l mid run tells n k s peers clock =
       let f = listened node n v0 v1 [] (Frame x) k l (mid tells) s in
       let g = fed_as holds stands broken law node node' v1 v2 n (Absorb i ∷ []) (Absorb (Datagram x) ∷ []) t ok (ap (λ (j : Input). Absorb j ∷ []) is) (run tells n k (stored_on node n v0 v1 [] (Frame x) l (mid tells) s)) in
-      subst (λ (u : Option Tally). Fed holds stands broken node node' v0 v2 n (Absorb (Datagram x) ∷ []) u ok) (counts_zero t)
-      (fed_then holds stands broken law node node node' v0 v1 v2 n [] (Absorb (Datagram x) ∷ []) (Some no_tally) t ok f g)
+      subst (λ (u : Option Tally). FedBy holds stands broken node node' v0 v2 n peers clock (Frame x ∷ []) (Absorb (Datagram x) ∷ []) u ok) (counts_zero t)
+      (by_then holds stands broken law node node node' v0 v1 v2 n peers clock [] (Frame x ∷ []) [] (Absorb (Datagram x) ∷ []) (Some no_tally) t ok f (by_one holds stands broken law node node' v1 v2 n peers clock (Frame x) t ok g))
 
   pub received_fed : (node node' : Node L) (v0 v1 v2 : View) (x : List ℕ) (told : Option (List ℕ)) (i : Input) (t : Tally) → Some x ≡ told → i ≡ Datagram x → (broken node.log ≡ false) → Listened v0 v1 [] (Frame x) → OnlySends v1 v2 → (Tells_bytes v2 → Tells_bytes v1)
       → (Tells_bytes v2 → (n : Situation) → Knows node n → Stored holds node n.history v1 → Fed holds stands broken node node' v1 v2 n (Absorb i ∷ []) (Some t) true)
@@ -377,7 +383,7 @@ module _ {L : Type 0} (holds : L → List Entry → List ℕ → Type 0) (stands
 
   -- the answers of a whole turn, as one that was made or as the last
   turn_as : (peers : List ℕ) (clock clock' : ℕ) (node node2 : Node L) (v0 v3 : View) (turn : Turn) (t : Option Tally) (e : End) → IsFull e → Hears v0 v3 [] (of_turn turn) → clock' ≡ clock_of clock (of_turn turn)
-      → (Tells_bytes v3 → (n : Situation) → Knows node n → Stored holds node n.history v0 → Fed holds stands broken node node2 v0 v3 n (steps_of peers clock (of_turn turn)) t (is_fed e))
+      → (Tells_bytes v3 → (n : Situation) → Knows node n → Stored holds node n.history v0 → FedBy holds stands broken node node2 v0 v3 n peers clock (of_turn turn) (steps_of peers clock (of_turn turn)) t (is_fed e))
       → MadeTurn holds stands broken peers clock clock' node node2 v0 v3 t e turn.came
   turn_as peers clock clock' node node2 v0 v3 turn t Whole is_full hears clocked run = record { ran = record { full = turn ∷ []; last = []; ended = (refl, refl); hears = hears; clock_is = clocked; fed = run }; came_in = refl }
   turn_as peers clock clock' node node2 v0 v3 turn t Stopped is_full hears clocked run = record { ran = record { full = []; last = of_turn turn; ended = (omega arith, inr (turn, refl)); hears = hears; clock_is = clocked; fed = run }; came_in = tt }
@@ -395,22 +401,24 @@ module _ {L : Type 0} (holds : L → List Entry → List ℕ → Type 0) (stands
       let hears : Hears v0 v3 [] (of_turn turn) = subst (λ (a : List Heard). Hears v0 v3 [] a) all
       (hears_then v0 v1 v3 [] [] (r.answer ∷ []) (Clock time ∷ []) r.hears (hears_then v1 v2 v3 [] [] (Clock time ∷ []) [] l.hears (sends_hears v2 v3 only))) in
       let clocked : clock' ≡ clock_of clock (of_turn turn) = now ∙ ap (λ (c : ℕ). clock_after c time) (sym (came_clock clock told)) in
-      let steps : steps_of peers clock (r.answer ∷ []) ++ clock_steps peers clock time ≡ steps_of peers clock (of_turn turn) =
-      ap (λ (a : Heard). steps_of peers clock (a ∷ []) ++ clock_steps peers clock time) r.ended ∙ turn_is peers clock told time in
+      let still : clock ≡ clock_of clock (r.answer ∷ []) = sym (ap (clock_by clock) r.ended ∙ came_clock clock told) in
       turn_as peers clock clock' node node2 v0 v3 turn (counts_sum t u) e is_full hears clocked
       (λ tells n k s.
       let m2 = mid tells in
       let m1 = rests_tells v1 v2 l.listens.rests m2 in
       let f = r.fed m1 n k s peers clock in
-      let here = after_all n f.done in
-      let k1 = f.knows sound in
-      let s1 = f.stored sound in
+      let here = after_all n f.fed.done in
+      let k1 = f.fed.knows sound in
+      let s1 = f.fed.stored sound in
       let quiet = listened node1 here v1 v2 [] (Clock time) k1 l m2 s1 in
       let g = subst (λ (w : Option Tally). Fed holds stands broken node1 node2 v1 v3 here (clock_steps peers clock time) w (is_fed e)) (counts_zero u)
       (fed_then holds stands broken law node1 node1 node2 v1 v2 v3 here [] (clock_steps peers clock time) (Some no_tally) u (is_fed e) quiet
       (run tells (after_all here quiet.done) (quiet.knows sound) (quiet.stored sound))) in
-      fed_as holds stands broken law node node2 v0 v3 n (steps_of peers clock (r.answer ∷ []) ++ clock_steps peers clock time) (steps_of peers clock (of_turn turn)) (counts_sum t u) (is_fed e) steps
-      (fed_then holds stands broken law node node1 node2 v0 v1 v3 n (steps_of peers clock (r.answer ∷ [])) (clock_steps peers clock time) t u (is_fed e) f g))
+      let ticked = subst (λ (c : ℕ). FedBy holds stands broken node1 node2 v1 v3 here peers c (Clock time ∷ []) (steps_of peers c (Clock time ∷ [])) u (is_fed e)) still (by_one holds stands broken law node1 node2 v1 v3 here peers clock (Clock time) u (is_fed e) g) in
+      subst (λ (l : List Heard). FedBy holds stands broken node node2 v0 v3 n peers clock l (steps_of peers clock l) (counts_sum t u) (is_fed e)) all
+      (by_as holds stands broken law node node2 v0 v3 n peers clock (r.answer ∷ Clock time ∷ []) (steps_of peers clock (r.answer ∷ []) ++ steps_of peers (clock_of clock (r.answer ∷ [])) (Clock time ∷ [])) (steps_of peers clock (r.answer ∷ Clock time ∷ [])) (counts_sum t u) (is_fed e)
+      (sym (steps_of-append peers clock (r.answer ∷ []) (Clock time ∷ [])))
+      (by_then holds stands broken law node node1 node2 v0 v1 v3 n peers clock (r.answer ∷ []) (Clock time ∷ []) (steps_of peers clock (r.answer ∷ [])) (steps_of peers (clock_of clock (r.answer ∷ [])) (Clock time ∷ [])) t u (is_fed e) f.fed ticked)))
 
   -- the clock is not above the call's
   pub turn_still : (peers : List ℕ) (clock : ℕ) (node node1 : Node L) (v0 v1 v2 : View) (time : ℕ) (t : Tally) (told : Option (List ℕ)) → broken node1.log ≡ false → time ≤ clock

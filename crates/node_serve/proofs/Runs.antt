@@ -1,6 +1,6 @@
 -- A run goes on with another.
 use Rattle.std.proofs.Common.{◌≡◌, inl, ℕ, ◌+◌, ◌≤◌, Bool, true, false, is_some, List, [], ◌∷◌, ◌++◌, length, flat_map, Option, Some, None, Err, refl, sym, ◌∙◌, ap, subst, arith, length-append, append_assoc}
-use Rattle.std.proofs.lemmas.Bool.{false≢true}
+use Rattle.std.proofs.lemmas.Bool.{false≢true, true≢false}
 use Rattle.std.proofs.lemmas.List.{append-nil}
 use Rattle.psb_station.specs.View.{View, Heard}
 use Rattle.psb_station.specs.Calls.{Grows}
@@ -16,12 +16,12 @@ use Rattle.node_core.specs.declared.node.Node.{Node}
 use Rattle.node_core.specs.Stored.{Knows, Stored}
 use Rattle.node_core.proofs.Reopened.{stored_reopens}
 use Rattle.node_serve.specs.Sends.{AreSent}
-use Rattle.node_serve.specs.Hears.{answer_steps, clock_by, steps_of, clock_of, Hears, of_turn, of_turns, End, Whole, Cut, Stopped, Unbegun, EndsAs, is_fed}
+use Rattle.node_serve.specs.Hears.{answer_steps, clock_by, steps_of, clock_of, Hears, of_turn, of_turns, End, Whole, Cut, Stopped, Unbegun, EndsAs, EndsInLast, is_fed}
 use Rattle.node_serve.specs.Turns.{fault_end, IsEnd, IsEarly}
 use Rattle.node_serve.specs.declared.serving.ServeFault.{ServeFault}
 use Rattle.node_serve.specs.declared.serving.Total.{Total}
 use Rattle.node_serve.specs.declared.serving.ServeFault.TheVariants as serve_fault
-use Rattle.node_serve.specs.Spans.{IsPrefixSoon, IsReady, Counts, Tally, no_tally, counts_sum, Counted, Fed, RanTurns}
+use Rattle.node_serve.specs.Spans.{IsPrefixSoon, IsReady, Counts, Tally, no_tally, counts_sum, Counted, Fed, FedBy, RanTurns}
 use Rattle.node_serve.proofs.Tries.{grows_none, grows_then, told_none, told_then, told_as, sent_none, sent_then, lost_then}
 use Rattle.node_serve.proofs.Prefixes.{earlier, later_part, whole_has_all, later_has_all}
 
@@ -59,6 +59,20 @@ clock_of-append clock (x ∷ a) b = clock_of-append (clock_by clock x) a b
 pub of_turns-append : (a b : List Turn) → of_turns (a ++ b) ≡ of_turns a ++ of_turns b
 of_turns-append [] b = refl
 of_turns-append (x ∷ a) b = ap (λ (l : List Heard). of_turn x ++ l) (of_turns-append a b) ∙ sym (append_assoc (of_turn x) (of_turns a) (of_turns b))
+
+-- what was heard in front of the last answer may be more
+pub in_last_then : (peers : List ℕ) (clock : ℕ) (a b : List Heard) (failed undone failed' undone' : List Step) → failed' ≡ failed → undone' ≡ undone → EndsInLast peers (clock_of clock a) b failed undone → EndsInLast peers clock (a ++ b) failed' undone'
+in_last_then peers clock a b failed undone failed' undone' same_failed same_undone e = record {
+  front = a ++ e.front;
+  last = e.last;
+  done = e.done;
+  heard_is = ap (λ (l : List Heard). a ++ l) e.heard_is ∙ sym (append_assoc a e.front (e.last ∷ []));
+  steps_are =
+      ap (λ (c : ℕ). answer_steps peers c e.last) (clock_of-append clock a e.front)
+      ∙ e.steps_are
+      ∙ ap (λ (l : List Step). e.done ++ l ++ undone) (sym same_failed)
+      ∙ ap (λ (l : List Step). e.done ++ failed' ++ l) (sym same_undone);
+}
 
 -- ---- what was fed
 
@@ -142,6 +156,7 @@ module _ {L : Type 0} (holds : L → List Entry → List ℕ → Type 0) (stands
     ends = λ c left. whole_has_all stands n [] c (stored_reopens holds stands law node n v knows.valid s c left);
     told = told_none v.told;
     lost = 0;
+    tried = grows_none v.outside.tried;
     sent = ([], sent_none, grows_none v.outside.sent);
     lost_cause = omega arith;
     said = grows_none v.outside.said;
@@ -159,7 +174,7 @@ module _ {L : Type 0} (holds : L → List Entry → List ℕ → Type 0) (stands
       let told = tellings-append n r.done s.done in
       let many : length (tellings n d) ≡ length (tellings n r.done) + length (tellings m s.done) = ap (λ (l : List Telling). length l) told ∙ length-append (tellings n r.done) (tellings m s.done) in
       let none = none_failed n0 n1 v0 v1 n first t r in
-      let tried : tried_in r.failed ≡ 0 = ap tried_in none in
+      let few : tried_in r.failed ≡ 0 = ap tried_in none in
       record {
         done = d;
         failed = s.failed;
@@ -179,10 +194,11 @@ module _ {L : Type 0} (holds : L → List Entry → List ℕ → Type 0) (stands
             then_run v0 v1 v2 P
             (weakened v0 v1 (λ c k. IsPrefixSoon stands n r.done [] v0.told c k) P (λ c k p. record { prefix = earlier stands n r.done s.done s.failed v0.told c k p; soon = omega (arith, p.soon, many) }) before)
             (weakened v1 v2 (λ c k. IsPrefixSoon stands m s.done s.failed v1.told c k) P
-            (λ c k p. record { prefix = later_part stands n r.done s.done s.failed v0.told v1.told c k (omega (arith, r.told.most, tried)) p.prefix; soon = omega (arith, p.soon, r.told.most, many, tried) }) s.moments);
+            (λ c k p. record { prefix = later_part stands n r.done s.done s.failed v0.told v1.told c k (omega (arith, r.told.most, few)) p.prefix; soon = omega (arith, p.soon, r.told.most, many, few) }) s.moments);
         ends = λ c left. later_has_all stands n r.done s.done s.failed c (s.ends c left);
-        told = told_as v0.told v2.told (length (tellings n r.done) + tried_in r.failed + (length (tellings m s.done) + tried_in s.failed)) (length (tellings n d) + tried_in s.failed) (omega (arith, many, tried)) (told_then v0.told v1.told v2.told (length (tellings n r.done) + tried_in r.failed) (length (tellings m s.done) + tried_in s.failed) r.told s.told);
+        told = told_as v0.told v2.told (length (tellings n r.done) + tried_in r.failed + (length (tellings m s.done) + tried_in s.failed)) (length (tellings n d) + tried_in s.failed) (omega (arith, many, few)) (told_then v0.told v1.told v2.told (length (tellings n r.done) + tried_in r.failed) (length (tellings m s.done) + tried_in s.failed) r.told s.told);
         lost = r.lost + s.lost;
+        tried = subst (λ (l : List (ℕ × List ℕ)). Grows v0.outside.tried v2.outside.tried l) (sym (sent_in-append n r.done s.done)) (grows_then v0.outside.tried v1.outside.tried v2.outside.tried (sent_in n r.done) (sent_in m s.done) r.tried s.tried);
         sent = (
           r.sent.0 ++ s.sent.0,
           subst (λ (l : List (ℕ × List ℕ)). AreSent l (r.sent.0 ++ s.sent.0) (r.lost + s.lost)) (sym (sent_in-append n r.done s.done)) (sent_then (sent_in n r.done) (sent_in m s.done) r.sent.0 s.sent.0 r.lost s.lost r.sent.1 s.sent.1),
@@ -192,6 +208,13 @@ module _ {L : Type 0} (holds : L → List Entry → List ℕ → Type 0) (stands
         said = subst (λ (l : List ℕ). Grows v0.outside.said v2.outside.said l) (sym (said_append n r.done s.done)) (grows_then v0.outside.said v1.outside.said v2.outside.said (flat_map (λ (line : List ℕ). line) (said_in n r.done)) (flat_map (λ (line : List ℕ). line) (said_in m s.done)) r.said s.said);
         counted = counted_then t u n r.done s.done r.lost s.lost r.counted s.counted;
       }
+
+  -- what the second left undone
+  pub undone_then : (n0 n1 n2 : Node L) (v0 v1 v2 : View) (n : Situation) (first second : List Step) (t u : Option Tally) (ok : Bool)
+      → (r : Fed holds stands broken n0 n1 v0 v1 n first t true) (s : Fed holds stands broken n1 n2 v1 v2 (after_all n r.done) second u ok)
+      → (fed_then n0 n1 n2 v0 v1 v2 n first second t u ok r s).undone ≡ s.undone
+  unfolding fed_then
+  undone_then n0 n1 n2 v0 v1 v2 n first second t u ok r s = refl
 
   -- what follows a step that failed is left undone
   pub fed_cut : (n0 n1 : Node L) (v0 v1 : View) (n : Situation) (course more : List Step) (t : Option Tally) → Fed holds stands broken n0 n1 v0 v1 n course t false → Fed holds stands broken n0 n1 v0 v1 n (course ++ more) t false
@@ -208,6 +231,7 @@ module _ {L : Type 0} (holds : L → List Entry → List ℕ → Type 0) (stands
     ends = r.ends;
     told = r.told;
     lost = r.lost;
+    tried = r.tried;
     sent = r.sent;
     lost_cause = r.lost_cause;
     said = r.said;
@@ -229,6 +253,7 @@ module _ {L : Type 0} (holds : L → List Entry → List ℕ → Type 0) (stands
     ends = r.ends;
     told = r.told;
     lost = r.lost;
+    tried = r.tried;
     sent = r.sent;
     lost_cause = r.lost_cause;
     said = r.said;
@@ -239,6 +264,58 @@ module _ {L : Type 0} (holds : L → List Entry → List ℕ → Type 0) (stands
   pub fed_as : (n0 n1 : Node L) (v0 v1 : View) (n : Situation) (course other : List Step) (t : Option Tally) (ok : Bool) → course ≡ other → Fed holds stands broken n0 n1 v0 v1 n course t ok → Fed holds stands broken n0 n1 v0 v1 n other t ok
   fed_as n0 n1 v0 v1 n course other t ok is r = subst (λ (l : List Step). Fed holds stands broken n0 n1 v0 v1 n l t ok) is r
 
+  -- ---- a course by what was heard
+
+  -- what failed of it and what was left are those of the course behind
+  joined : (n0 n1 n2 : Node L) (v0 v1 v2 : View) (n : Situation) (first second : List Step) (t u : Option Tally) (ok : Bool)
+      → (r : Fed holds stands broken n0 n1 v0 v1 n first t true) (s : Fed holds stands broken n1 n2 v1 v2 (after_all n r.done) second u ok)
+      → (f : Fed holds stands broken n0 n2 v0 v2 n (first ++ second) (counts_sum t u) ok) × (f.failed ≡ s.failed) × (f.undone ≡ s.undone)
+  unfolding fed_then
+  joined n0 n1 n2 v0 v1 v2 n first second t u ok r s = (fed_then n0 n1 n2 v0 v1 v2 n first second t u ok r s, refl, refl)
+
+  renamed : (n0 n1 : Node L) (v0 v1 : View) (n : Situation) (course other : List Step) (t : Option Tally) (ok : Bool) → course ≡ other → (r : Fed holds stands broken n0 n1 v0 v1 n course t ok)
+      → (f : Fed holds stands broken n0 n1 v0 v1 n other t ok) × (f.failed ≡ r.failed) × (f.undone ≡ r.undone)
+  renamed n0 n1 v0 v1 n course other t ok is r =
+      subst (λ (l : List Step). (f : Fed holds stands broken n0 n1 v0 v1 n l t ok) × (f.failed ≡ r.failed) × (f.undone ≡ r.undone)) is (r, refl, refl)
+
+  -- where all was done, none failed
+  pub by_whole : (n0 n1 : Node L) (v0 v1 : View) (n : Situation) (peers : List ℕ) (clock : ℕ) (heard : List Heard) (course : List Step) (t : Option Tally) → Fed holds stands broken n0 n1 v0 v1 n course t true
+      → FedBy holds stands broken n0 n1 v0 v1 n peers clock heard course t true
+  by_whole n0 n1 v0 v1 n peers clock heard course t f = record { fed = f; in_last = λ is. absurd (true≢false is) }
+
+  -- the steps of one answer
+  pub by_one : (n0 n1 : Node L) (v0 v1 : View) (n : Situation) (peers : List ℕ) (clock : ℕ) (a : Heard) (t : Option Tally) (ok : Bool) → Fed holds stands broken n0 n1 v0 v1 n (answer_steps peers clock a) t ok
+      → FedBy holds stands broken n0 n1 v0 v1 n peers clock (a ∷ []) (steps_of peers clock (a ∷ [])) t ok
+  by_one n0 n1 v0 v1 n peers clock a t ok r =
+      let g = renamed n0 n1 v0 v1 n (answer_steps peers clock a) (steps_of peers clock (a ∷ [])) t ok (sym (append-nil (answer_steps peers clock a))) r in
+      record {
+        fed = g.0;
+        in_last = λ is. record {
+          front = [];
+          last = a;
+          done = r.done;
+          heard_is = refl;
+          steps_are = r.parts ∙ ap (λ (l : List Step). r.done ++ l ++ r.undone) (sym g.1) ∙ ap (λ (l : List Step). r.done ++ g.0.failed ++ l) (sym g.2);
+        };
+      }
+
+  -- A course that was done, in which this was heard, and one that follows it.
+  pub by_then : (n0 n1 n2 : Node L) (v0 v1 v2 : View) (n : Situation) (peers : List ℕ) (clock : ℕ) (a b : List Heard) (first second : List Step) (t u : Option Tally) (ok : Bool)
+      → (r : Fed holds stands broken n0 n1 v0 v1 n first t true) → FedBy holds stands broken n1 n2 v1 v2 (after_all n r.done) peers (clock_of clock a) b second u ok
+      → FedBy holds stands broken n0 n2 v0 v2 n peers clock (a ++ b) (first ++ second) (counts_sum t u) ok
+  by_then n0 n1 n2 v0 v1 v2 n peers clock a b first second t u ok r s =
+      let f = joined n0 n1 n2 v0 v1 v2 n first second t u ok r s.fed in
+      record { fed = f.0; in_last = λ is. in_last_then peers clock a b s.fed.failed s.fed.undone f.0.failed f.0.undone f.1 f.2 (s.in_last is) }
+
+  pub by_as : (n0 n1 : Node L) (v0 v1 : View) (n : Situation) (peers : List ℕ) (clock : ℕ) (heard : List Heard) (course other : List Step) (t : Option Tally) (ok : Bool) → course ≡ other
+      → FedBy holds stands broken n0 n1 v0 v1 n peers clock heard course t ok → FedBy holds stands broken n0 n1 v0 v1 n peers clock heard other t ok
+  by_as n0 n1 v0 v1 n peers clock heard course other t ok is r = subst (λ (l : List Step). FedBy holds stands broken n0 n1 v0 v1 n peers clock heard l t ok) is r
+
+  pub by_uncounted : (n0 n1 : Node L) (v0 v1 : View) (n : Situation) (peers : List ℕ) (clock : ℕ) (heard : List Heard) (course : List Step) (t : Option Tally) (ok : Bool) → FedBy holds stands broken n0 n1 v0 v1 n peers clock heard course t ok
+      → FedBy holds stands broken n0 n1 v0 v1 n peers clock heard course None ok
+  unfolding uncounted
+  by_uncounted n0 n1 v0 v1 n peers clock heard course t ok r = record { fed = uncounted n0 n1 v0 v1 n course t ok r.fed; in_last = r.in_last }
+
   -- ---- turns
 
   pub turns_none : (peers : List ℕ) (clock : ℕ) (node : Node L) (v : View) → RanTurns holds stands broken peers clock clock node node v v 0 (Some no_tally) Whole
@@ -248,7 +325,7 @@ module _ {L : Type 0} (holds : L → List Entry → List ℕ → Type 0) (stands
     ended = (refl, refl);
     hears = hears_none v;
     clock_is = refl;
-    fed = λ tells n k s. fed_none node n v k s;
+    fed = λ tells n k s. by_whole node node v v n peers clock [] [] (Some no_tally) (fed_none node n v k s);
   }
 
   pub turns_more : (peers : List ℕ) (c0 c1 c2 : ℕ) (n0 n1 n2 : Node L) (v0 v1 v2 : View) (i : ℕ) (t u : Option Tally) (e : End) → IsBegun e → broken n1.log ≡ false → (Tells_bytes v2 → Tells_bytes v1)
@@ -268,10 +345,10 @@ module _ {L : Type 0} (holds : L → List Entry → List ℕ → Type 0) (stands
         clock_is = s.clock_is ∙ ap (λ (c : ℕ). clock_of c b) r.clock_is ∙ sym (clock_of-append c0 a b) ∙ ap (clock_of c0) all;
         fed = λ tells n k st.
             let f = r.fed (mid tells) n k st in
-            let g = subst (λ (c : ℕ). Fed holds stands broken n1 n2 v1 v2 (after_all n f.done) (steps_of peers c b) u (is_fed e)) r.clock_is (s.fed tells (after_all n f.done) (f.knows sound) (f.stored sound)) in
-            fed_as n0 n2 v0 v2 n (steps_of peers c0 a ++ steps_of peers (clock_of c0 a) b) (steps_of peers c0 (of_turns (r.full ++ s.full) ++ s.last)) (counts_sum t u) (is_fed e)
-            (sym (steps_of-append peers c0 a b) ∙ ap (steps_of peers c0) all)
-            (fed_then n0 n1 n2 v0 v1 v2 n (steps_of peers c0 a) (steps_of peers (clock_of c0 a) b) t u (is_fed e) f g);
+            let g = subst (λ (c : ℕ). FedBy holds stands broken n1 n2 v1 v2 (after_all n f.fed.done) peers c b (steps_of peers c b) u (is_fed e)) r.clock_is (s.fed tells (after_all n f.fed.done) (f.fed.knows sound) (f.fed.stored sound)) in
+            subst (λ (l : List Heard). FedBy holds stands broken n0 n2 v0 v2 n peers c0 l (steps_of peers c0 l) (counts_sum t u) (is_fed e)) all
+            (by_as n0 n2 v0 v2 n peers c0 (a ++ b) (steps_of peers c0 a ++ steps_of peers (clock_of c0 a) b) (steps_of peers c0 (a ++ b)) (counts_sum t u) (is_fed e) (sym (steps_of-append peers c0 a b))
+            (by_then n0 n1 n2 v0 v1 v2 n peers c0 a b (steps_of peers c0 a) (steps_of peers (clock_of c0 a) b) t u (is_fed e) f.fed g));
       }
 
   -- turns that ended early were to be more
@@ -286,7 +363,7 @@ module _ {L : Type 0} (holds : L → List Entry → List ℕ → Type 0) (stands
     ended = (refl, refl);
     hears = hears_none v;
     clock_is = refl;
-    fed = λ tells n k s. uncounted node node v v n [] (Some no_tally) true (fed_none node n v k s);
+    fed = λ tells n k s. by_whole node node v v n peers clock [] [] None (uncounted node node v v n [] (Some no_tally) true (fed_none node n v k s));
   }
 
   -- a node that was ready is ready after a run that ended well

@@ -11,7 +11,7 @@ use Rattle.node_core.specs.declared.node.Node.{Node}
 use Rattle.node_core.specs.Stands.{ReopensTo}
 use Rattle.node_core.specs.Stored.{Knows, Stored, IsCounted}
 use Rattle.node_serve.specs.Sends.{ToldMore, AreSent, LostFor}
-use Rattle.node_serve.specs.Hears.{steps_of, clock_of, of_turns, Hears, End, AnswersAs, CameIn, EndsAs, is_fed}
+use Rattle.node_serve.specs.Hears.{steps_of, clock_of, of_turns, Hears, End, AnswersAs, CameIn, EndsAs, EndsInLast, is_fed}
 
 -- The image reopens to a prefix of the history after all steps, the one that failed among them. The
 -- prefix has the first history, and each change that was told of: those of inputs that had been
@@ -96,10 +96,18 @@ pub record Fed {L : Type 0} (holds : L → List Entry → List ℕ → Type 0) (
   pub ends : (c : List ℕ) → now.may_leave c → HasAll stands n done failed c
   pub told : ToldMore before.told now.told (length (tellings n done) + tried_in failed)
   pub lost : ℕ
+  -- each letter of what was done is tried once, in order; these were sent
+  pub tried : Grows before.outside.tried now.outside.tried (sent_in n done)
   pub sent : (out : List (ℕ × List ℕ)) × AreSent (sent_in n done) out lost × Grows before.outside.sent now.outside.sent out
   pub lost_cause : LostFor lost before.outside.send_faults now.outside.send_faults
   pub said : Grows before.outside.said now.outside.said (flat_map (λ line. line) (said_in n done))
   pub counted : Counted counts n done lost
+
+-- A course whose last steps are those of the answers that were heard in it. A step that failed ended it, at the answer
+-- in which it came.
+pub record FedBy {L : Type 0} (holds : L → List Entry → List ℕ → Type 0) (stands : List Entry → List ℕ → Type 0) (broken : L → Bool) (old new : Node L) (before now : View) (n : Situation) (peers : List ℕ) (clock : ℕ) (heard : List Heard) (course : List Step) (counts : Option Tally) (ok : Bool) : Type 0 where
+  pub fed : Fed holds stands broken old new before now n course counts ok
+  pub in_last : ok ≡ false → EndsInLast peers clock heard fed.failed fed.undone
 
 -- The first part of a turn: one answer of `recv`, and where it is a frame, that is fed. Where it was made,
 -- this came.
@@ -108,7 +116,7 @@ pub record Received {L : Type 0} (holds : L → List Entry → List ℕ → Type
   pub ended : AnswersAs end came answer
   pub hears : Hears before now [] (answer ∷ [])
   pub fed : Tells_bytes now → (n : Situation) → Knows old n → Stored holds old n.history before → (peers : List ℕ) (clock : ℕ)
-      → Fed holds stands broken old new before now n (steps_of peers clock (answer ∷ [])) counts (is_fed end)
+      → FedBy holds stands broken old new before now n peers clock (answer ∷ []) (steps_of peers clock (answer ∷ [])) counts (is_fed end)
 
 -- Turns of a node at a station, with these peers. What was heard is exactly the turns' answers, whatever
 -- the disk is; and where the disk tells its bytes, it is what was fed. The clock goes on by what was heard.
@@ -119,7 +127,7 @@ pub record RanTurns {L : Type 0} (holds : L → List Entry → List ℕ → Type
   pub hears : Hears before now [] (of_turns full ++ last)
   pub clock_is : clock' ≡ clock_of clock (of_turns full ++ last)
   pub fed : Tells_bytes now → (n : Situation) → Knows old n → Stored holds old n.history before
-      → Fed holds stands broken old new before now n (steps_of peers clock (of_turns full ++ last)) counts (is_fed end)
+      → FedBy holds stands broken old new before now n peers clock (of_turns full ++ last) (steps_of peers clock (of_turns full ++ last)) counts (is_fed end)
 
 -- one turn: where it was made, this came in it
 pub record MadeTurn {L : Type 0} (holds : L → List Entry → List ℕ → Type 0) (stands : List Entry → List ℕ → Type 0) (broken : L → Bool) (peers : List ℕ) (clock clock' : ℕ) (old new : Node L) (before now : View) (counts : Option Tally) (end : End) (came : Option (List ℕ)) : Type 0 where

@@ -1,6 +1,8 @@
 -- Honest answers go on being told; a lie ends it.
-use Rattle.std.proofs.Common.{◌≡◌, ◌<◌, ◌-◌, ◌==◌, ℕ, min, Bool, true, false, List, [], ◌++◌, length, take, drop, Option, Some, None, refl, sym, ◌∙◌, ap, arith, length-take, length-drop}
+use Rattle.std.proofs.Common.{◌≡◌, ◌≢◌, if◌then◌else◌, ◌<◌, ◌-◌, ◌==◌, nat_le, ℕ, min, Bool, true, false, List, [], ◌++◌, length, take, drop, Option, Some, None, refl, sym, ◌∙◌, ap, arith, length-take, length-drop}
 use Rattle.std.specs.Bool.{Decides}
+use Rattle.std.specs.Option.{option_map}
+use Rattle.psb_station.specs.Calls.{written}
 use Rattle.std.specs.FinMap.{get, insert}
 use Rattle.std.proofs.lemmas.Bool.{le-leb, eq-eqb}
 use Rattle.std.proofs.lemmas.Bool.Decides.{Decides-like, Decides-and, Decides-eqb}
@@ -10,7 +12,7 @@ use Rattle.psb_station.specs.Folder.{Content, Stored, Folder, File, plain, paren
 use Rattle.psb_station.proofs.PathText.{by_cases}
 use Rattle.psb_host.specs.StationEvents.{StationEvent, Measured, Read, Wrote, WasCut, Synced, Answered, JoinedAt, Sent, Said}
 use Rattle.psb_host.specs.FolderEvents.{FolderEvent, Listed, NotKept, Piece, MadeFolder, MadeFile, Added}
-use Rattle.psb_host.specs.HonestStation.{where_so, reads_so, cut_to, bytes_after}
+use Rattle.psb_host.specs.HonestStation.{where_so, reads_so, went_down, unless_short, cut_to, bytes_after}
 use Rattle.psb_host.specs.HonestFolder.{is_folder, where_holds, lists_so, piece_so, made, appended, added, after_call}
 use Rattle.psb_host.specs.Laws.{FileGoesOn, FolderGoesOn, EndsAtALie}
 use Rattle.psb_host.proofs.ListTest.{Decides-lists}
@@ -35,11 +37,18 @@ decides_reads at n came b =
     (count, is ∙ sym (take_min n (drop at b)) ∙ ap (λ (k : ℕ). take (min n k) (drop at b)) (length-drop at b) ∙ ap (λ (k : ℕ). take k (drop at b)) (sym count)))
     (Decides-and _ _ (Decides-eqb (length came) (min n (length b - at))) (bytes_eq-Decides came (take (length came) (drop at b))))
 
+whole_told : {A : Type 0} (ok : Bool) (n : ℕ) (given : List ℕ) (o : Option A) → (ok ≡ true → n ≡ length given) → unless_short ok n given o ≡ o
+whole_told false n given o whole = refl
+whole_told true n given o whole = rw (eq-eqb n (length given) (whole refl)) refl
+
+short_untold : {A : Type 0} (n : ℕ) (given : List ℕ) (o : Option A) → n ≢ length given → unless_short true n given o ≡ None
+short_untold n given o short = rw (refuted (n == length given) (Decides-eqb n (length given)) short) refl
+
 pub file_goes_on : FileGoesOn
 file_goes_on = record {
   len = λ usable b. where_told (λ c. length b == length c) b (eq-eqb (length b) (length b) refl);
   read = λ usable at n b. where_told (reads_so at n (take n (drop at b))) b ((decides_reads at n (take n (drop at b)) b).1 refl);
-  write = λ usable at n ok given b le. rw (le-leb at (length b) le) refl;
+  write = λ usable at n ok given b le whole. rw (whole_told ok n given (Some b) whole, le-leb at (length b) le) refl;
   cut = λ usable n b le. rw (le-leb n (length b) le) refl;
   sync = λ b. refl;
   no_len = λ usable n b. refl;
@@ -76,7 +85,7 @@ folder_goes_on = record {
   piece = λ path at n into c fits is. kept (λ d. piece_so at (length into) (take n into) (found d path)) c ((Decides-piece path at n into c fits).1 is);
   folder = λ path c above free. new_made path Folder c above free;
   file = λ path c above free. new_made path (File []) c above free;
-  append = λ path bytes given n c is. file_grown path bytes given c is;
+  append = λ path bytes given c is. rw (eq-eqb (length given) (length given) refl) (file_grown path bytes given c is);
   some_added = λ path bytes given n c some is. some_grown path bytes given n c some is;
   no_list = λ path o. refl;
   no_piece = λ path came at n o. refl;
@@ -92,7 +101,12 @@ cut_none false n = refl
 no_bytes : (usable : Bool) (e : StationEvent) → bytes_after usable e None ≡ None
 no_bytes usable (Measured ok n) = refl
 no_bytes usable (Read at n ok came) = refl
-no_bytes usable (Wrote at n ok given) = refl
+no_bytes usable (Wrote at n true given) = none_short (n == length given)
+  where
+    none_short : (is : Bool) → option_map (written at given) (where_so (λ b. nat_le at (length b)) (if is then None else None)) ≡ None
+    none_short true = refl
+    none_short false = refl
+no_bytes usable (Wrote at n false given) = refl
 no_bytes usable (WasCut n ok) = cut_none ok n
 no_bytes true (Synced true) = refl
 no_bytes false (Synced true) = refl
@@ -115,7 +129,12 @@ no_content (MadeFolder path true) = refl
 no_content (MadeFolder path false) = refl
 no_content (MadeFile path true) = refl
 no_content (MadeFile path false) = refl
-no_content (Added path n ok given) = refl
+no_content (Added path n true given) = none_short (n == length given)
+  where
+    none_short : (is : Bool) → appended true n path given (if is then None else None) ≡ None
+    none_short true = refl
+    none_short false = refl
+no_content (Added path n false given) = refl
 
 pub ends_at_a_lie : EndsAtALie
 ends_at_a_lie = record {
@@ -124,6 +143,8 @@ ends_at_a_lie = record {
   sync = λ b. refl;
   list = λ path items c other. lost (lists_so path items) c (refuted (lists_so path items c) (Decides-lists path items c) other);
   piece = λ path at n into c fits other. lost (λ d. piece_so at (length into) (take n into) (found d path)) c (refuted (piece_so at (length into) (take n into) (found c path)) (Decides-piece path at n into c fits) other);
+  write = λ usable at n given b short. rw (short_untold n given (Some b) short) refl;
+  append = λ path given n c short. rw (short_untold n given (Some c) short) refl;
   made = λ path c bytes is. not_new path bytes (File []) c is;
   file = no_bytes;
   folder = no_content;

@@ -8,7 +8,7 @@ use Rattle.psb_station.specs.declared.item.Item.{Item}
 use Rattle.psb_station.specs.declared.item.Kind.{Kind}
 use Rattle.psb_station.specs.declared.item.Kind.TheVariants as kind
 use Rattle.psb_host.specs.FolderEvents.{FolderEvent, Listed, NotKept, Piece, MadeFolder, MadeFile, Added, calls_of, faults_of}
-use Rattle.psb_host.specs.HonestStation.{went_down}
+use Rattle.psb_host.specs.HonestStation.{went_down, unless_short}
 
 -- the content, where it is told and passes a test
 abbrev pub where_holds : (Content → Bool) → Option Content → Option Content
@@ -88,6 +88,11 @@ abbrev pub appended : Bool → ℕ → List ℕ → List ℕ → Option Content 
 appended ok n path given None = None
 appended ok n path given (Some content) = if not ok && (n == 0) then Some content else added path (went_down ok n given) content (found content path)
 
+-- where the last call was an append that is said to be done, all bytes were added that it was given
+abbrev pub AddsAll : List FolderEvent → Type 0
+AddsAll (Added path n true given ∷ earlier) = n ≡ length given
+AddsAll _ = Unit {0}
+
 -- one call more. A list and a read that failed may have had any cause
 abbrev pub after_call : FolderEvent → Option Content → Option Content
 after_call (Listed path (Some items)) content = where_holds (lists_so path items) content
@@ -97,7 +102,7 @@ after_call (Piece path at n true came) content = where_holds (λ c. piece_so at 
 after_call (Piece path at n false came) content = content
 after_call (MadeFolder path ok) content = made ok path Folder content
 after_call (MadeFile path ok) content = made ok path (File []) content
-after_call (Added path n ok given) content = appended ok n path given content
+after_call (Added path n ok given) content = appended ok n path given (unless_short ok n given content)
 
 abbrev pub content_after : Content → List FolderEvent → Option Content
 content_after tree [] = Some tree

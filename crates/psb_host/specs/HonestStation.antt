@@ -66,6 +66,16 @@ abbrev pub went_down : Bool → ℕ → List ℕ → List ℕ
 went_down true n given = given
 went_down false n given = take n given
 
+-- An answer that all went down, where fewer bytes did than were given, is no honest one: nothing more is told.
+abbrev pub unless_short : {A : Type 0} → Bool → ℕ → List ℕ → Option A → Option A
+unless_short true n given o = if n == length given then o else None
+unless_short false n given o = o
+
+-- where the last call was a write that is said to be done, all bytes went down that it was given
+abbrev pub PutsAll : List StationEvent → Type 0
+PutsAll (Wrote at n true given ∷ earlier) = n ≡ length given
+PutsAll _ = Unit {0}
+
 -- A cut that fails is not seen.
 abbrev pub cut_to : Bool → ℕ → Option (List ℕ) → Option (List ℕ)
 cut_to true n bytes = option_map (take n) bytes
@@ -92,7 +102,7 @@ images_synced true true v = settled v.bytes v.may_leave
 abbrev pub bytes_after : Bool → StationEvent → Option (List ℕ) → Option (List ℕ)
 bytes_after usable (Measured ok n) bytes = where_so (λ b. not ok || (n == length b)) bytes
 bytes_after usable (Read at n ok came) bytes = where_so (λ b. not ok || reads_so at n came b) bytes
-bytes_after usable (Wrote at n ok given) bytes = option_map (written at (went_down ok n given)) (where_so (λ b. nat_le at (length b)) bytes)
+bytes_after usable (Wrote at n ok given) bytes = option_map (written at (went_down ok n given)) (where_so (λ b. nat_le at (length b)) (unless_short ok n given bytes))
 bytes_after usable (WasCut n ok) bytes = cut_to ok n (where_so (λ b. nat_le n (length b)) bytes)
 bytes_after usable (Synced ok) bytes = bytes_synced ok usable bytes
 bytes_after usable (Answered answer) bytes = bytes

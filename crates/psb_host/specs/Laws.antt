@@ -14,7 +14,7 @@ pub record FileGoesOn : Type 0 where
   pub len : (usable : Bool) (b : List ℕ) → bytes_after usable (Measured true (length b)) (Some b) ≡ Some b
   pub read : (usable : Bool) (at n : ℕ) (b : List ℕ) → bytes_after usable (Read at n true (take n (drop at b))) (Some b) ≡ Some b
   -- also where not all went down
-  pub write : (usable : Bool) (at n : ℕ) (ok : Bool) (given b : List ℕ) → at ≤ length b
+  pub write : (usable : Bool) (at n : ℕ) (ok : Bool) (given b : List ℕ) → at ≤ length b → (ok ≡ true → n ≡ length given)
       → bytes_after usable (Wrote at n ok given) (Some b) ≡ Some (written at (went_down ok n given) b)
   pub cut : (usable : Bool) (n : ℕ) (b : List ℕ) → n ≤ length b → bytes_after usable (WasCut n true) (Some b) ≡ Some (take n b)
   pub sync : (b : List ℕ) → bytes_after true (Synced true) (Some b) ≡ Some b
@@ -33,8 +33,8 @@ pub record FolderGoesOn : Type 0 where
       → after_call (MadeFolder path true) (Some c) ≡ Some (insert c (plain path) Folder)
   pub file : (path : List ℕ) (c : Content) → get c (parent (plain path)) ≡ Some Folder → found c path ≡ None
       → after_call (MadeFile path true) (Some c) ≡ Some (insert c (plain path) (File []))
-  pub append : (path bytes given : List ℕ) (n : ℕ) (c : Content) → found c path ≡ Some (File bytes)
-      → after_call (Added path n true given) (Some c) ≡ Some (insert c (plain path) (File (bytes ++ given)))
+  pub append : (path bytes given : List ℕ) (c : Content) → found c path ≡ Some (File bytes)
+      → after_call (Added path (length given) true given) (Some c) ≡ Some (insert c (plain path) (File (bytes ++ given)))
   -- where only some bytes were added, these
   pub some_added : (path bytes given : List ℕ) (n : ℕ) (c : Content) → 0 < n → found c path ≡ Some (File bytes)
       → after_call (Added path n false given) (Some c) ≡ Some (insert c (plain path) (File (bytes ++ take n given)))
@@ -53,6 +53,9 @@ pub record EndsAtALie : Type 0 where
   pub sync : (b : List ℕ) → bytes_after false (Synced true) (Some b) ≡ None
   pub list : (path : List ℕ) (items : List Item) (c : Content) → ¬ Lists c path items → after_call (Listed path (Some items)) (Some c) ≡ None
   pub piece : (path : List ℕ) (at n : ℕ) (into : List ℕ) (c : Content) → n ≤ length into → ¬ ReadsPiece c path at n into → after_call (Piece path at (length into) true (take n into)) (Some c) ≡ None
+  -- fewer bytes went down than were given, and all are said to have
+  pub write : (usable : Bool) (at n : ℕ) (given b : List ℕ) → n ≢ length given → bytes_after usable (Wrote at n true given) (Some b) ≡ None
+  pub append : (path given : List ℕ) (n : ℕ) (c : Content) → n ≢ length given → after_call (Added path n true given) (Some c) ≡ None
   pub made : (path : List ℕ) (c : Content) (bytes : List ℕ) → found c path ≡ Some (File bytes) → after_call (MadeFile path true) (Some c) ≡ None
   pub file : (usable : Bool) (e : StationEvent) → bytes_after usable e None ≡ None
   pub folder : (e : FolderEvent) → after_call e None ≡ None

@@ -6,3 +6,4 @@ pub mod HonestFolder
 pub mod StationLaws
 pub mod Laws
 pub mod Transfers
+pub mod OwnPaths

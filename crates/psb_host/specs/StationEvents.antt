@@ -48,6 +48,11 @@ sent_of [] = []
 sent_of (Sent to true frame ∷ earlier) = sent_of earlier ++ (to, frame) ∷ []
 sent_of (_ ∷ earlier) = sent_of earlier
 
+abbrev pub tried_of : List StationEvent → List (ℕ × List ℕ)
+tried_of [] = []
+tried_of (Sent to ok frame ∷ earlier) = tried_of earlier ++ (to, frame) ∷ []
+tried_of (_ ∷ earlier) = tried_of earlier
+
 abbrev pub said_of : List StationEvent → List ℕ
 said_of [] = []
 said_of (Said true text ∷ earlier) = said_of earlier ++ text
@@ -73,6 +78,7 @@ abbrev pub outside_of : List StationEvent → Outside
 outside_of events = record {
   heard = Some (heard_of events);
   sent = Some (sent_of events);
+  tried = Some (tried_of events);
   said = Some (said_of events);
   joined = Some (joined_of events);
   link_faults = link_faults_of events;

@@ -1,5 +1,5 @@
 -- The laws of a station with a record.
-use Rattle.std.specs.Prelude.{◌≡◌, ℕ, ◌+◌, ◌≤◌, nat_le, Bool, true, false, if◌then◌else◌, List, [], ◌∷◌, length, Option, Some, None, IfSome, refl}
+use Rattle.std.specs.Prelude.{◌==◌, ◌≡◌, ℕ, ◌+◌, ◌≤◌, nat_le, Bool, true, false, if◌then◌else◌, List, [], ◌∷◌, length, Option, Some, None, IfSome, refl}
 use Rattle.std.specs.Option.{option_map}
 use Rattle.std.proofs.Common.{inr, ⊎_elim, arith, length-take}
 use Rattle.std.proofs.lemmas.Bool.{leb-true}
@@ -9,7 +9,7 @@ use Rattle.psb_station.specs.Calls.{Torn, CutShort, written}
 use Rattle.psb_station.specs.Replay.{torn_whole, torn_longer, cut_whole}
 use Rattle.psb_host.specs.StationEvents.{StationEvent, is_usable}
 use Rattle.psb_host.specs.StationEvents.StationEvent.{Measured, Read, Wrote, WasCut, Synced, Answered, JoinedAt, Sent, Said}
-use Rattle.psb_host.specs.HonestStation.{since_more, where_so, went_down, cut_to, settled, after, replay, meaning}
+use Rattle.psb_host.specs.HonestStation.{since_more, where_so, went_down, unless_short, cut_to, settled, after, replay, meaning}
 
 -- no crash is counted after the last moment, and the last moment counts
 pub record Ends (v : View) : Type 0 where
@@ -80,6 +80,15 @@ reads_wrote P at given put le (Some b) p = here (nat_le at (length b)) (λ is. w
     here true fits = (b, p, torn_longer at (length put) (length given) b (written at put b) le (torn_whole at put b (fits refl)))
     here false fits = tt
 
+reads_whole : (P : List ℕ → Type 0) (ok : Bool) (n : ℕ) (given : List ℕ) (o : Option (List ℕ)) → IfSome o P → IfSome (unless_short ok n given o) P
+reads_whole P false n given o p = p
+reads_whole P true n given None p = chosen_none (n == length given)
+  where
+    chosen_none : (is : Bool) → IfSome (if is then None else None) P
+    chosen_none true = tt
+    chosen_none false = tt
+reads_whole P true n given (Some b) p = chosen P (n == length given) b p
+
 reads_cut : (P : List ℕ → Type 0) (ok : Bool) (n : ℕ) (o : Option (List ℕ)) → IfSome o P
     → IfSome (cut_to ok n (where_so (λ b. nat_le n (length b)) o)) (λ c. (d : List ℕ) × P d × CutShort n d c)
 reads_cut P true n None p = tt
@@ -102,7 +111,8 @@ reads_settled P (Some b) p = refl
 reads_after : (usable : Bool) (e : StationEvent) (v : View) → IfSome v.bytes v.may_leave → IfSome (after usable e v).bytes (after usable e v).may_leave
 reads_after usable (Measured ok n) v p = reads_where v.may_leave _ v.bytes p
 reads_after usable (Read at n ok came) v p = reads_where v.may_leave _ v.bytes p
-reads_after usable (Wrote at n ok given) v p = reads_wrote v.may_leave at given (went_down ok n given) (short_of ok n given) v.bytes p
+reads_after usable (Wrote at n ok given) v p =
+    reads_wrote v.may_leave at given (went_down ok n given) (short_of ok n given) (unless_short ok n given v.bytes) (reads_whole v.may_leave ok n given v.bytes p)
 reads_after usable (WasCut n ok) v p = reads_cut v.may_leave ok n v.bytes p
 reads_after true (Synced true) v p = reads_settled v.may_leave v.bytes p
 reads_after false (Synced true) v p = tt

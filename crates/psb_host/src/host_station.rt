@@ -31,11 +31,15 @@ pub struct HostStation<R: Drop, S: Start> {
 }
 
 impl<R: Files<File = File> + Drop, S: Start> HostStation<R, S> {
+    ghost use Rattle.std.specs.Prelude.{◌≡◌, string_bytes};
+    ghost use Rattle.psb_host.specs.OwnPaths.{disk_of};
+
     /// A station over the file at a path. The file is opened, and made where there is none, at the
     /// first call of the disk; the socket is bound at the first `join`.
     #[tactic(auto, using(crate::proofs::Syncs::begins))]
     pub fn new(alloc: Global, host: R, path: String, _start: S) -> HostStation<R, S>
-        ensures { IsBegun S.Start.first S.Start.left (⟦<HostStation<R, S> as Disk>⟧.view result) }
+        ensures begun { IsBegun S.Start.first S.Start.left (⟦<HostStation<R, S> as Disk>⟧.view result) }
+        ensures disk { disk_of result ≡ string_bytes path }
     {
         HostStation {
             host,
@@ -49,10 +53,12 @@ impl<R: Files<File = File> + Drop, S: Start> HostStation<R, S> {
 
 impl<R: Files<File = File> + Drop, S: Start> Disk for HostStation<R, S> {
     ghost use Rattle.psb_host.specs.Noted.{station_events};
-    ghost use Rattle.psb_host.specs.HonestStation.{meaning};
+    ghost use Rattle.psb_host.specs.HonestStation.{meaning, PutsAll};
     ghost use Rattle.psb_host.specs.StationLaws.{counts_last, only_last, reads_one};
 
     ghost view = { λ s. meaning S.Start.first S.Start.left (station_events s.calls.events) };
+
+    ghost worked = { λ kind s t. PutsAll (station_events t.calls.events) };
 
     ghost counts_now = { λ s t c le left. counts_last S.Start.first S.Start.left (station_events s.calls.events) t c le left };
 

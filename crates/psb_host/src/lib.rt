@@ -4,14 +4,17 @@
 #![tactic(auto)]
 
 mod call;
+mod file_id;
 mod host_folder;
 mod host_station;
 mod laws;
 mod record;
+mod standard;
 mod start;
 mod transfer;
 
 pub use host_folder::HostFolder;
 pub use host_station::HostStation;
 pub use laws::{a_lie_ends_the_telling, honest_file_goes_on, honest_folder_goes_on};
+pub use standard::Standard;
 pub use start::{Start, StartFolder, Unknown};

@@ -167,8 +167,10 @@ pub trait Station: Disk {
         ensures tells { Tells (Self.view self.old) (Self.view self.new) }
         ensures kept { (Self.view self.new).outside ≡ record (Self.view self.old).outside {
           sent = (Self.view self.new).outside.sent;
+          tried = (Self.view self.new).outside.tried;
           send_faults = (Self.view self.new).outside.send_faults;
         } }
+        ensures tried { Grows (Self.view self.old).outside.tried (Self.view self.new).outside.tried ((to, frame.now) ∷ []) }
         ensures sent { OnOk result (Grows (Self.view self.old).outside.sent (Self.view self.new).outside.sent ((to, frame.now) ∷ [])) }
         ensures not_sent { OnErr result (Grows (Self.view self.old).outside.sent (Self.view self.new).outside.sent []) }
         ensures counts { (Self.view self.old).outside.send_faults ≤ (Self.view self.new).outside.send_faults }

@@ -1,7 +1,6 @@
 -- Each field: what is read fits and is spelled so, and what fits and is spelled so is read.
 use Rattle.std.proofs.Common.{◌≡◌, ℕ, ◌+◌, ◌^◌, ◌<◌, ◌≤◌, true, false, ◌&&◌, cond, ltb, leb, List, [], ◌∷◌, ◌++◌, length, take, drop, Ok, Err, refl, ap, sym, ◌∙◌, subst, inl, inr, append_assoc, length-append, length-take, arith}
 use Rattle.std.specs.Prelude.{◌==◌, not}
-use Rattle.std.specs.List.{list_all}
 use Rattle.std.proofs.lemmas.Bool.{cases_lt, and_parts, and_from, not-false, le-ltb, eqb-true, eq-eqb, leb-true}
 use Rattle.std.proofs.lemmas.List.{take_at, drop_at, take-append-drop, get_or-drop, get_or-take, get_or_past}
 use Rattle.std.proofs.lemmas.Nat.{be_bytes_2, be_bytes_4, be_bytes_8, from_be_bytes-to_be_bytes_2, from_be_bytes-to_be_bytes_4, from_be_bytes-to_be_bytes_8}
@@ -13,8 +12,7 @@ use Rattle.skeleton.specs.declared.entry.EntryKind.TheVariants.{Folder, File}
 use Rattle.skeleton.specs.declared.faults.FaultAt.{FaultAt}
 use Rattle.skeleton.specs.declared.faults.SkelFault.TheVariants.{BadPath, BadOrder, BadCount}
 use Rattle.skeleton.specs.declared.limits.TheConstants.{MOST_PATH_BYTES, MOST_CHUNK_BYTES, DIGEST_BYTES, FOLDER_KIND, FILE_KIND}
-use Rattle.std.specs.Str.{is_utf8}
-use Rattle.psb_bytes.specs.Names.{is_name, parts}
+use Rattle.psb_bytes.specs.Names.{has_names}
 use Rattle.skeleton.specs.Paths.{within, is_path}
 use Rattle.skeleton.specs.Entries.{in_order, is_ref, has_digests, has_chunk_len}
 use Rattle.skeleton.specs.Texts.{ref_bytes, kind_byte, path_bytes}
@@ -236,9 +234,7 @@ then_front bytes first middle second more f g = record {
 
 path_len_fits : (path : List ℕ) → is_path path ≡ true → within 1 MOST_PATH_BYTES (length path) ≡ true
 unfolding is_path
-path_len_fits path h =
-    let t = and_parts (is_utf8 path) (within 1 MOST_PATH_BYTES (length path) && list_all is_name (parts path)) h in
-    (and_parts (within 1 MOST_PATH_BYTES (length path)) (list_all is_name (parts path)) t.1).0
+path_len_fits path h = (and_parts (within 1 MOST_PATH_BYTES (length path)) (has_names path) h).0
 
 -- a path that may stand behind these entries
 pub record IsPathBehind (before : List Entry) (path : List ℕ) : Type 0 where

@@ -15,8 +15,7 @@ use Rattle.skeleton.specs.declared.entry.EntryKind.TheVariants.{Folder, File}
 use Rattle.skeleton.specs.declared.faults.SkelFault.TheVariants.{BadMark, TooLong, Trailing}
 use Rattle.skeleton.specs.declared.faults.FaultAt.{FaultAt}
 use Rattle.skeleton.specs.declared.limits.TheConstants.{SKELETON_MARK, REFS_MARK, MARK_BYTES, MOST_TEXT_BYTES, MOST_PATH_BYTES, MOST_CHUNK_BYTES}
-use Rattle.std.specs.Str.{is_utf8}
-use Rattle.psb_bytes.specs.Names.{is_name, parts}
+use Rattle.psb_bytes.specs.Names.{has_names}
 use Rattle.skeleton.specs.Paths.{within, is_path}
 use Rattle.skeleton.specs.Entries.{IsSkeleton, in_order, fits_behind, is_ref, has_digests, has_chunk_len, total, counts_agree}
 use Rattle.skeleton.specs.Texts.{ref_bytes, refs_bytes, path_bytes, content_bytes, entry_bytes, entries_bytes, skeleton_text, refs_text}
@@ -178,9 +177,8 @@ same_text text other entries ok ok' e e' = (skeleton_has_text text entries ok e)
 pub path_small : (path : List ℕ) → is_path path ≡ true → length path < 2 ^ 16
 unfolding is_path
 path_small path h =
-    let t = and_parts (is_utf8 path) (within 1 MOST_PATH_BYTES (length path) && list_all is_name (parts path)) h in
-    let k = and_parts (within 1 MOST_PATH_BYTES (length path)) (list_all is_name (parts path)) t.1 in
-    omega (arith, leb-true (length path) MOST_PATH_BYTES (and_parts (leb 1 (length path)) (leb (length path) MOST_PATH_BYTES) k.0).1)
+    let t = and_parts (within 1 MOST_PATH_BYTES (length path)) (has_names path) h in
+    omega (arith, leb-true (length path) MOST_PATH_BYTES (and_parts (leb 1 (length path)) (leb (length path) MOST_PATH_BYTES) t.0).1)
 
 -- what an entry of a skeleton asks of the writer
 pub record IsWritable (e : Entry) : Type 0 where

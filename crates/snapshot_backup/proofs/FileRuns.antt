@@ -14,10 +14,12 @@ use Rattle.snapshots.specs.Reading.{IsBehind, HasFile, ReadsBehind}
 use Rattle.snapshots.specs.Tickets.{chunks_of, refs_of_text}
 use Rattle.snapshots.proofs.ChunkReads.{first_given}
 use Rattle.snapshots.proofs.Members.{by_cases}
+use Rattle.snapshot_backup.specs.Endings.{AllKept, StoppedFor}
 use Rattle.snapshot_backup.specs.Files.{IsFile, AreFirst, HasMore}
 use Rattle.node_serve.specs.Spans.{IsUp}
 use Rattle.snapshot_backup.specs.Runs.{KeepsSo}
-use Rattle.snapshot_backup.proofs.Fronts.{so_none, so_then, so_stopped}
+use Rattle.snapshot_backup.specs.declared.fault.BackupFault.{BackupFault}
+use Rattle.snapshot_backup.proofs.Fronts.{IsLeft, so_none, so_then, so_stopped}
 
 -- ---- what was read of the file
 
@@ -95,7 +97,7 @@ pub record KeepsFile {L : Type 0} (holds : L → List Entry → List ℕ → Typ
   pub text : List ℕ
   pub chunks : List (List ℕ)
   pub given : IsGiven path v r text chunks
-  pub kept : KeepsSo holds stands size keeps broken old new before now chunks true
+  pub kept : KeepsSo holds stands size keeps broken old new before now chunks AllKept
   pub refs_are : refs ≡ map sealed_ref chunks
   pub left : room + length chunks ≡ had
 
@@ -111,12 +113,12 @@ module _ {L : Type 0} (holds : L → List Entry → List ℕ → Type 0) (stands
   }
 
   -- these and no more
-  pub so_cut : (n0 n1 : Node L) (v0 v1 : View) (ps : List (List ℕ)) → KeepsSo holds stands size keeps broken n0 n1 v0 v1 ps true → KeepsSo holds stands size keeps broken n0 n1 v0 v1 ps false
-  so_cut n0 n1 v0 v1 ps kept = subst (λ (l : List (List ℕ)). KeepsSo holds stands size keeps broken n0 n1 v0 v1 l false) (append-nil ps) (so_stopped holds stands size keeps broken law n0 n1 v0 v1 ps [] kept)
+  pub so_cut : (n0 n1 : Node L) (v0 v1 : View) (ps : List (List ℕ)) (e : BackupFault) → IsLeft e → KeepsSo holds stands size keeps broken n0 n1 v0 v1 ps AllKept → KeepsSo holds stands size keeps broken n0 n1 v0 v1 ps (StoppedFor e)
+  so_cut n0 n1 v0 v1 ps e left kept = subst (λ (l : List (List ℕ)). KeepsSo holds stands size keeps broken n0 n1 v0 v1 l (StoppedFor e)) (append-nil ps) (so_stopped holds stands size keeps broken law n0 n1 v0 v1 ps [] e left kept)
 
   -- one chunk more was read and kept
   pub file_then : (n0 n1 n2 : Node L) (v0 v1 v2 : View) (path : List ℕ) (w1 w2 : FolderView) (r1 r2 : ChunkReader) (refs now : List Ref) (had room : ℕ) → KeepsFile holds stands size keeps broken n0 n1 v0 v1 path w1 r1 refs had (room + 1)
-      → (Tells_content w2 → w2.content ≡ w1.content) → GoesOn path w2 r1 r2 true → KeepsSo holds stands size keeps broken n1 n2 v1 v2 (r2.chunk.bytes ∷ []) true → now ≡ refs ++ sealed_ref r2.chunk.bytes ∷ []
+      → (Tells_content w2 → w2.content ≡ w1.content) → GoesOn path w2 r1 r2 true → KeepsSo holds stands size keeps broken n1 n2 v1 v2 (r2.chunk.bytes ∷ []) AllKept → now ≡ refs ++ sealed_ref r2.chunk.bytes ∷ []
       → KeepsFile holds stands size keeps broken n0 n2 v0 v2 path w2 r2 now had room
   file_then n0 n1 n2 v0 v1 v2 path w1 w2 r1 r2 refs now had room k same next more pushed =
       let chunk = r2.chunk.bytes in
@@ -125,7 +127,7 @@ module _ {L : Type 0} (holds : L → List Entry → List ℕ → Type 0) (stands
         text = k.text ++ m.0;
         chunks = k.chunks ++ chunk ∷ [];
         given = given_next path w1 w2 r1 r2 k.text m.0 k.chunks (k.chunks ++ chunk ∷ []) k.given same m.1 m.2;
-        kept = so_then holds stands size keeps broken law n0 n1 n2 v0 v1 v2 k.chunks (chunk ∷ []) true k.kept more;
+        kept = so_then holds stands size keeps broken law n0 n1 n2 v0 v1 v2 k.chunks (chunk ∷ []) AllKept k.kept more;
         refs_are = pushed ∙ ap (λ (l : List Ref). l ++ sealed_ref chunk ∷ []) k.refs_are ∙ sym (map-append sealed_ref k.chunks (chunk ∷ []));
         left = omega (arith, k.left, length-append k.chunks (chunk ∷ []));
       }
@@ -133,23 +135,23 @@ module _ {L : Type 0} (holds : L → List Entry → List ℕ → Type 0) (stands
   -- the file ended
   pub file_ended : (n0 n1 : Node L) (v0 v1 : View) (path : List ℕ) (w1 w2 : FolderView) (r1 r2 : ChunkReader) (refs : List Ref) (had room : ℕ) → KeepsFile holds stands size keeps broken n0 n1 v0 v1 path w1 r1 refs had room
       → (Tells_content w2 → w2.content ≡ w1.content) → GoesOn path w2 r1 r2 false → r2.ended ≡ true
-      → (bytes : List ℕ) × (refs ≡ refs_of_text bytes) × IsFile w2.content path bytes × KeepsSo holds stands size keeps broken n0 n1 v0 v1 (chunks_of bytes) true
+      → (bytes : List ℕ) × (refs ≡ refs_of_text bytes) × IsFile w2.content path bytes × KeepsSo holds stands size keeps broken n0 n1 v0 v1 (chunks_of bytes) AllKept
   file_ended n0 n1 v0 v1 path w1 w2 r1 r2 refs had room k same next ended =
       let m = next k.text k.chunks k.given.behind in
       let all = m.1.all ended in (
         k.text ++ m.0,
         k.refs_are ∙ ap (map sealed_ref) all,
         given_whole path w2 r2 (k.text ++ m.0) k.chunks (given_next path w1 w2 r1 r2 k.text m.0 k.chunks k.chunks k.given same m.1 m.2) ended,
-        subst (λ (l : List (List ℕ)). KeepsSo holds stands size keeps broken n0 n1 v0 v1 l true) all k.kept,
+        subst (λ (l : List (List ℕ)). KeepsSo holds stands size keeps broken n0 n1 v0 v1 l AllKept) all k.kept,
       )
 
   pub ended_room : (n0 n1 : Node L) (v0 v1 : View) (path : List ℕ) (w : FolderView) (r : ChunkReader) (refs : List Ref) (had room : ℕ) → KeepsFile holds stands size keeps broken n0 n1 v0 v1 path w r refs had room → room + length refs ≡ had
   ended_room n0 n1 v0 v1 path w r refs had room k = omega (arith, k.left, ap length k.refs_are, length-map k.chunks sealed_ref)
 
   -- no more was read, or there is no room for what was read
-  pub file_stopped : (n0 n1 : Node L) (v0 v1 : View) (path : List ℕ) (w1 w2 : FolderView) (r : ChunkReader) (refs : List Ref) (had room : ℕ) → KeepsFile holds stands size keeps broken n0 n1 v0 v1 path w1 r refs had room → (Tells_content w2 → w2.content ≡ w1.content)
-      → (pieces : List (List ℕ)) × AreFirst w2.content path pieces × KeepsSo holds stands size keeps broken n0 n1 v0 v1 pieces false
-  file_stopped n0 n1 v0 v1 path w1 w2 r refs had room k same = (k.chunks, given_first path w1 w2 r k.text k.chunks k.given same, so_cut n0 n1 v0 v1 k.chunks k.kept)
+  pub file_stopped : (n0 n1 : Node L) (v0 v1 : View) (path : List ℕ) (w1 w2 : FolderView) (r : ChunkReader) (refs : List Ref) (had room : ℕ) (e : BackupFault) → IsLeft e → KeepsFile holds stands size keeps broken n0 n1 v0 v1 path w1 r refs had room → (Tells_content w2 → w2.content ≡ w1.content)
+      → (pieces : List (List ℕ)) × AreFirst w2.content path pieces × (length pieces ≤ had) × KeepsSo holds stands size keeps broken n0 n1 v0 v1 pieces (StoppedFor e)
+  file_stopped n0 n1 v0 v1 path w1 w2 r refs had room e left k same = (k.chunks, given_first path w1 w2 r k.text k.chunks k.given same, omega (arith, k.left), so_cut n0 n1 v0 v1 k.chunks e left k.kept)
 
   pub file_too_large : (n0 n1 : Node L) (v0 v1 : View) (path : List ℕ) (w1 w2 : FolderView) (r1 r2 : ChunkReader) (refs : List Ref) (had room : ℕ) → KeepsFile holds stands size keeps broken n0 n1 v0 v1 path w1 r1 refs had room
       → (Tells_content w2 → w2.content ≡ w1.content) → GoesOn path w2 r1 r2 true → room ≡ 0 → HasMore w2.content path had
@@ -158,14 +160,15 @@ module _ {L : Type 0} (holds : L → List Entry → List ℕ → Type 0) (stands
       given_more path w2 r2 (k.text ++ m.0) r2.chunk.bytes k.chunks had (given_next path w1 w2 r1 r2 k.text m.0 k.chunks (k.chunks ++ r2.chunk.bytes ∷ []) k.given same m.1 m.2) (omega (arith, k.left, none))
 
   -- the chunk that was read was not kept
-  pub file_failed : (n0 n1 n2 : Node L) (v0 v1 v2 : View) (path : List ℕ) (w1 w2 : FolderView) (r1 r2 : ChunkReader) (refs : List Ref) (had room : ℕ) → KeepsFile holds stands size keeps broken n0 n1 v0 v1 path w1 r1 refs had room
-      → (Tells_content w2 → w2.content ≡ w1.content) → GoesOn path w2 r1 r2 true → KeepsSo holds stands size keeps broken n1 n2 v1 v2 (r2.chunk.bytes ∷ []) false
-      → (pieces : List (List ℕ)) × AreFirst w2.content path pieces × KeepsSo holds stands size keeps broken n0 n2 v0 v2 pieces false
-  file_failed n0 n1 n2 v0 v1 v2 path w1 w2 r1 r2 refs had room k same next failed =
+  pub file_failed : (n0 n1 n2 : Node L) (v0 v1 v2 : View) (path : List ℕ) (w1 w2 : FolderView) (r1 r2 : ChunkReader) (refs : List Ref) (had room : ℕ) (e : BackupFault) → 1 ≤ room → KeepsFile holds stands size keeps broken n0 n1 v0 v1 path w1 r1 refs had room
+      → (Tells_content w2 → w2.content ≡ w1.content) → GoesOn path w2 r1 r2 true → KeepsSo holds stands size keeps broken n1 n2 v1 v2 (r2.chunk.bytes ∷ []) (StoppedFor e)
+      → (pieces : List (List ℕ)) × AreFirst w2.content path pieces × (length pieces ≤ had) × KeepsSo holds stands size keeps broken n0 n2 v0 v2 pieces (StoppedFor e)
+  file_failed n0 n1 n2 v0 v1 v2 path w1 w2 r1 r2 refs had room e some k same next failed =
       let chunk = r2.chunk.bytes in
       let m = next k.text k.chunks k.given.behind in
       let all = k.chunks ++ chunk ∷ [] in (
         all,
         given_first path w2 w2 r2 (k.text ++ m.0) all (given_next path w1 w2 r1 r2 k.text m.0 k.chunks all k.given same m.1 m.2) (λ tells. refl),
-        so_then holds stands size keeps broken law n0 n1 n2 v0 v1 v2 k.chunks (chunk ∷ []) false k.kept failed,
+        omega (arith, some, k.left, length-append k.chunks (chunk ∷ [])),
+        so_then holds stands size keeps broken law n0 n1 n2 v0 v1 v2 k.chunks (chunk ∷ []) (StoppedFor e) k.kept failed,
       )

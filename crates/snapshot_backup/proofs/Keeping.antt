@@ -49,7 +49,7 @@ brought_of o = elim o [ Some c ↦ body_of c | None ↦ None ]
 pub last_stays : (name : List ℕ) (h : List Change) (c : Change) → brings_name name c ≡ false → last_brought name (h ++ c ∷ []) ≡ last_brought name h
 last_stays name h c none = ap (λ (o : Option Change). elim o [ Some d ↦ body_of d | None ↦ None ]) (bringing_snoc name h c ∙ ap (λ (b : Bool). cond b (Some c) (last_bringing name h)) none)
 
-last_is : (name : List ℕ) (h : List Change) (c : Change) → brings_name name c ≡ true → last_brought name (h ++ c ∷ []) ≡ body_of c
+pub last_is : (name : List ℕ) (h : List Change) (c : Change) → brings_name name c ≡ true → last_brought name (h ++ c ∷ []) ≡ body_of c
 last_is name h c it = ap (λ (o : Option Change). elim o [ Some d ↦ body_of d | None ↦ None ]) (bringing_snoc name h c ∙ ap (λ (b : Bool). cond b (Some c) (last_bringing name h)) it)
 
 -- ---- a Kept

@@ -23,9 +23,12 @@ use Rattle.snapshots.specs.Tickets.{chunks_of, refs_of_text, one_of, ticket_from
 use Rattle.snapshots.proofs.Levels.{next_short}
 use Rattle.snapshots.proofs.Tickets.{refs_fit}
 use Rattle.snapshot_backup.specs.Course.{pieces_of_levels}
+use Rattle.snapshot_backup.specs.Endings.{Ending, AllKept, StoppedFor}
 use Rattle.snapshot_backup.specs.Kept.{names_of}
 use Rattle.snapshot_backup.specs.Naming.{names_in}
 use Rattle.snapshot_backup.specs.Runs.{KeepsSo}
+use Rattle.snapshot_backup.specs.declared.fault.BackupFault.{BackupFault}
+use Rattle.snapshot_backup.specs.declared.fault.BackupFault.TheVariants.{Memory}
 use Rattle.snapshot_backup.proofs.Fronts.{so_then, so_more, so_stopped}
 
 -- those of the text itself come first
@@ -122,31 +125,31 @@ count_alone most text rs r first now one are is = omega (arith, is, ap length ar
 
 module _ {L : Type 0} (holds : L → List Entry → List ℕ → Type 0) (stands : List Entry → List ℕ → Type 0) (size : L → ℕ) (keeps : L → ℕ → Bool) (broken : L → Bool) (law : (log : L) (es : List Entry) (c : List ℕ) → holds log es c → stands es c) where
   -- of one text that is the other
-  pub levels_as : (n0 n1 : Node L) (v0 v1 : View) (most : ℕ) (text other : List ℕ) (ok : Bool) → text ≡ other → KeepsSo holds stands size keeps broken n0 n1 v0 v1 (pieces_of_levels most text) ok → KeepsSo holds stands size keeps broken n0 n1 v0 v1 (pieces_of_levels most other) ok
-  levels_as n0 n1 v0 v1 most text other ok is so = subst (λ (t : List ℕ). KeepsSo holds stands size keeps broken n0 n1 v0 v1 (pieces_of_levels most t) ok) is so
+  pub levels_as : (n0 n1 : Node L) (v0 v1 : View) (most : ℕ) (text other : List ℕ) (end : Ending) → text ≡ other → KeepsSo holds stands size keeps broken n0 n1 v0 v1 (pieces_of_levels most text) end → KeepsSo holds stands size keeps broken n0 n1 v0 v1 (pieces_of_levels most other) end
+  levels_as n0 n1 v0 v1 most text other end is so = subst (λ (t : List ℕ). KeepsSo holds stands size keeps broken n0 n1 v0 v1 (pieces_of_levels most t) end) is so
 
   -- they were all kept, and then something else failed
-  pub levels_then_not : (n0 n1 : Node L) (v0 v1 : View) (most : ℕ) (text other : List ℕ) → text ≡ other → KeepsSo holds stands size keeps broken n0 n1 v0 v1 (pieces_of_levels most text) true → KeepsSo holds stands size keeps broken n0 n1 v0 v1 (pieces_of_levels most other) false
+  pub levels_then_not : (n0 n1 : Node L) (v0 v1 : View) (most : ℕ) (text other : List ℕ) → text ≡ other → KeepsSo holds stands size keeps broken n0 n1 v0 v1 (pieces_of_levels most text) AllKept → KeepsSo holds stands size keeps broken n0 n1 v0 v1 (pieces_of_levels most other) (StoppedFor Memory)
   levels_then_not n0 n1 v0 v1 most text other is so =
-      levels_as n0 n1 v0 v1 most text other false is
-      (subst (λ (l : List (List ℕ)). KeepsSo holds stands size keeps broken n0 n1 v0 v1 l false) (append-nil (pieces_of_levels most text)) (so_stopped holds stands size keeps broken law n0 n1 v0 v1 (pieces_of_levels most text) [] so))
+      levels_as n0 n1 v0 v1 most text other (StoppedFor Memory) is
+      (subst (λ (l : List (List ℕ)). KeepsSo holds stands size keeps broken n0 n1 v0 v1 l (StoppedFor Memory)) (append-nil (pieces_of_levels most text)) (so_stopped holds stands size keeps broken law n0 n1 v0 v1 (pieces_of_levels most text) [] Memory tt so))
 
   -- the text was kept in part, or whole and nothing above it
-  pub levels_cut : (n0 n1 : Node L) (v0 v1 : View) (most : ℕ) (text : List ℕ) → KeepsSo holds stands size keeps broken n0 n1 v0 v1 (chunks_of text) false → KeepsSo holds stands size keeps broken n0 n1 v0 v1 (pieces_of_levels most text) false
-  levels_cut n0 n1 v0 v1 most text so =
+  pub levels_cut : (n0 n1 : Node L) (v0 v1 : View) (most : ℕ) (text : List ℕ) (e : BackupFault) → KeepsSo holds stands size keeps broken n0 n1 v0 v1 (chunks_of text) (StoppedFor e) → KeepsSo holds stands size keeps broken n0 n1 v0 v1 (pieces_of_levels most text) (StoppedFor e)
+  levels_cut n0 n1 v0 v1 most text e so =
       let front = levels_front most text in
-      subst (λ (l : List (List ℕ)). KeepsSo holds stands size keeps broken n0 n1 v0 v1 l false) (sym front.1) (so_more holds stands size keeps broken law n0 n1 v0 v1 (chunks_of text) front.0 so)
+      subst (λ (l : List (List ℕ)). KeepsSo holds stands size keeps broken n0 n1 v0 v1 l (StoppedFor e)) (sym front.1) (so_more holds stands size keeps broken law n0 n1 v0 v1 (chunks_of text) front.0 e so)
 
-  pub levels_stopped : (n0 n1 : Node L) (v0 v1 : View) (most : ℕ) (text : List ℕ) → KeepsSo holds stands size keeps broken n0 n1 v0 v1 (chunks_of text) true → KeepsSo holds stands size keeps broken n0 n1 v0 v1 (pieces_of_levels most text) false
+  pub levels_stopped : (n0 n1 : Node L) (v0 v1 : View) (most : ℕ) (text : List ℕ) → KeepsSo holds stands size keeps broken n0 n1 v0 v1 (chunks_of text) AllKept → KeepsSo holds stands size keeps broken n0 n1 v0 v1 (pieces_of_levels most text) (StoppedFor Memory)
   levels_stopped n0 n1 v0 v1 most text so =
       let front = levels_front most text in
-      subst (λ (l : List (List ℕ)). KeepsSo holds stands size keeps broken n0 n1 v0 v1 l false) (sym front.1) (so_stopped holds stands size keeps broken law n0 n1 v0 v1 (chunks_of text) front.0 so)
+      subst (λ (l : List (List ℕ)). KeepsSo holds stands size keeps broken n0 n1 v0 v1 l (StoppedFor Memory)) (sym front.1) (so_stopped holds stands size keeps broken law n0 n1 v0 v1 (chunks_of text) front.0 Memory tt so)
 
-  pub levels_alone : (n0 n1 : Node L) (v0 v1 : View) (most : ℕ) (text : List ℕ) (r : Ref) → one_of (refs_of_text text) ≡ Some r → KeepsSo holds stands size keeps broken n0 n1 v0 v1 (chunks_of text) true
-      → KeepsSo holds stands size keeps broken n0 n1 v0 v1 (pieces_of_levels most text) true
-  levels_alone n0 n1 v0 v1 most text r one so = subst (λ (l : List (List ℕ)). KeepsSo holds stands size keeps broken n0 n1 v0 v1 l true) (sym (one_level most text r one)) so
+  pub levels_alone : (n0 n1 : Node L) (v0 v1 : View) (most : ℕ) (text : List ℕ) (r : Ref) → one_of (refs_of_text text) ≡ Some r → KeepsSo holds stands size keeps broken n0 n1 v0 v1 (chunks_of text) AllKept
+      → KeepsSo holds stands size keeps broken n0 n1 v0 v1 (pieces_of_levels most text) AllKept
+  levels_alone n0 n1 v0 v1 most text r one so = subst (λ (l : List (List ℕ)). KeepsSo holds stands size keeps broken n0 n1 v0 v1 l AllKept) (sym (one_level most text r one)) so
 
-  pub levels_then : (n0 n1 n2 : Node L) (v0 v1 v2 : View) (text : List ℕ) (all above : List (List ℕ)) (ok : Bool) → all ≡ chunks_of text ++ above → KeepsSo holds stands size keeps broken n0 n1 v0 v1 (chunks_of text) true
-      → KeepsSo holds stands size keeps broken n1 n2 v1 v2 above ok → KeepsSo holds stands size keeps broken n0 n2 v0 v2 all ok
-  levels_then n0 n1 n2 v0 v1 v2 text all above ok parts a b =
-      subst (λ (l : List (List ℕ)). KeepsSo holds stands size keeps broken n0 n2 v0 v2 l ok) (sym parts) (so_then holds stands size keeps broken law n0 n1 n2 v0 v1 v2 (chunks_of text) above ok a b)
+  pub levels_then : (n0 n1 n2 : Node L) (v0 v1 v2 : View) (text : List ℕ) (all above : List (List ℕ)) (end : Ending) → all ≡ chunks_of text ++ above → KeepsSo holds stands size keeps broken n0 n1 v0 v1 (chunks_of text) AllKept
+      → KeepsSo holds stands size keeps broken n1 n2 v1 v2 above end → KeepsSo holds stands size keeps broken n0 n2 v0 v2 all end
+  levels_then n0 n1 n2 v0 v1 v2 text all above end parts a b =
+      subst (λ (l : List (List ℕ)). KeepsSo holds stands size keeps broken n0 n2 v0 v2 l end) (sym parts) (so_then holds stands size keeps broken law n0 n1 n2 v0 v1 v2 (chunks_of text) above end a b)

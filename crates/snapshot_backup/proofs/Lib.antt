@@ -1,4 +1,5 @@
 pub mod Keeping
+pub mod Brought
 pub mod Fronts
 pub mod Honest
 pub mod TextParts

@@ -1,13 +1,20 @@
 -- A fault of the node as one of a backup.
-use Rattle.std.proofs.Common.{◌≡◌, ◌⊎◌, inl, inr, ⊎_elim, Result, Err, sym, ◌∙◌, ap, subst}
+use Rattle.std.proofs.Common.{◌≡◌, ◌⊎◌, inl, inr, ⊎_elim, ℕ, List, Result, Err, refl, sym, ◌∙◌, ap, subst}
+use Rattle.psb_digest.specs.Clashes.{Pair}
+use Rattle.psb_machine.specs.Machine.{Keep}
+use Rattle.node_core.specs.Refusing.{Refuses}
 use Rattle.node_core.specs.declared.fault.Fault.{Fault}
 use Rattle.node_core.specs.declared.fault.Fault.TheVariants as fault
 use Rattle.node_core.proofs.Presence.{err_is, err_as}
 use Rattle.convergent_seal.specs.Sealing.{sealed_ref}
-use Rattle.snapshot_backup.specs.Faults.{backup_fault_of, FailsOfPiece, IsOfPieces}
+use Rattle.snapshot_backup.specs.Endings.{backup_fault_of}
+use Rattle.snapshot_backup.specs.Faults.{walked_as, FailsOfPiece, IsOfPieces}
+use Rattle.snapshots.specs.declared.walking.WalkFault.{WalkFault}
+use Rattle.snapshots.specs.declared.walking.WalkFault.TheVariants as walk_fault
 use Rattle.snapshot_backup.specs.Runs.{RefusesPiece}
 use Rattle.snapshot_backup.specs.declared.fault.BackupFault.{BackupFault}
 use Rattle.snapshot_backup.specs.declared.fault.BackupFault.TheVariants as backup_fault
+use Rattle.snapshot_backup.proofs.Fronts.{IsLeft}
 
 -- what the node said, or another fault where it said nothing
 abbrev node_fault : BackupFault → Fault → Fault
@@ -48,3 +55,26 @@ of_pieces e fails f is =
     ⊎_elim (λ disk. inl disk)
     (λ refuses. let name = (sealed_ref refuses.0).name in ⊎_elim (λ altered. inr (inr (name, err_is f (fault.Altered name) altered))) (λ clash. inr (inl (clash.0, err_is f (fault.Clash clash.0) clash.1))) refuses.1)
     (fails f (err_as e (backup_fault.Node f) is))
+
+-- the second text of a clash is what was to be kept
+pub clash_second : {R : Type 0} (name bytes : List ℕ) (c : Pair) (f : Fault) → f ≡ fault.Clash c → (◌≡◌ {A = Result R Fault} (Err f) (Err fault.DiskFault)) ⊎ (◌≡◌ {A = Result R Fault} (Err f) (Err fault.Memory)) ⊎ Refuses {R = R} (Keep name bytes) (Err f) → c.second ≡ bytes
+clash_second name bytes c f is only =
+    ⊎_elim (λ disk. let clash : fault.Clash c ≡ fault.DiskFault = sym is ∙ err_is f fault.DiskFault disk in absurd (cc))
+    (λ rest. ⊎_elim (λ memory. let clash : fault.Clash c ≡ fault.Memory = sym is ∙ err_is f fault.Memory memory in absurd (cc))
+    (λ refuses. ⊎_elim (λ altered. let clash : fault.Clash c ≡ fault.Altered name = sym is ∙ err_is f (fault.Altered name) altered in absurd (cc))
+    (λ clash. let same : fault.Clash c ≡ fault.Clash clash.0 = sym is ∙ err_is f (fault.Clash clash.0) clash.1 in ap (λ (p : Pair). p.second) (pair_is c clash.0 same) ∙ clash.2) refuses) rest)
+    only
+  where
+    pair_is : (a b : Pair) → fault.Clash a ≡ fault.Clash b → a ≡ b
+    pair_is a b e = cc
+
+-- a fault of the walk is none of the node's
+pub walk_left : (f : WalkFault) → IsLeft (walked_as f)
+walk_left walk_fault.Folder = tt
+walk_left walk_fault.TooLarge = tt
+walk_left walk_fault.Memory = tt
+
+pub walk_large : (f : WalkFault) → walked_as f ≡ backup_fault.TooLarge → f ≡ walk_fault.TooLarge
+walk_large walk_fault.Folder is = absurd (cc)
+walk_large walk_fault.TooLarge is = refl
+walk_large walk_fault.Memory is = absurd (cc)

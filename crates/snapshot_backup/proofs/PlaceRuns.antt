@@ -1,11 +1,11 @@
 -- The places of a tree that are read and kept one after another.
-use Rattle.std.proofs.Common.{◌≡◌, ℕ, ◌+◌, ◌<◌, Bool, true, false, List, [], ◌∷◌, ◌++◌, length, take, drop, map, flat_map, get_or, Option, Some, IfSome, refl, sym, ◌∙◌, ap, subst, arith, append-nil, append_assoc, length-append}
+use Rattle.std.proofs.Common.{◌≡◌, ℕ, ◌+◌, ◌<◌, ◌≤◌, Bool, true, false, List, [], ◌∷◌, ◌++◌, length, All, take, drop, map, flat_map, get_or, Option, Some, IfSome, refl, sym, ◌∙◌, ap, subst, arith, append-nil, append_assoc, length-append}
 use Rattle.std.proofs.lemmas.List.{take_more, take-append-drop, map-append, length-map}
-use Rattle.std.proofs.lemmas.List.Elements.{All-append}
+use Rattle.std.proofs.lemmas.List.Elements.{All-nil}
 use Rattle.std.proofs.lemmas.List.Sums.{sum_by-cons}
 use Rattle.psb_bytes.specs.declared.ids.Ref.{Ref}
 use Rattle.psb_station.specs.View.{View}
-use Rattle.psb_station.specs.Folder.{FolderView, Content, File as AFile, Tells_content, found, child}
+use Rattle.psb_station.specs.Folder.{FolderView, FolderCall, Reading, Content, File as AFile, Tells_content, found, child}
 use Rattle.psb_station.proofs.Spans.{at_some, if_some, same_some, told_before}
 use Rattle.convergent_seal.specs.Sealing.{sealed_ref}
 use Rattle.rolling_chunks.specs.Cuts.{longest}
@@ -19,21 +19,22 @@ use Rattle.skeleton.specs.declared.entry.EntryKind.TheVariants as kind
 use Rattle.skeleton.specs.Entries.{fits_behind, total}
 use Rattle.node_journal.specs.Entry.{Entry}
 use Rattle.node_core.specs.declared.node.Node.{Node}
-use Rattle.node_serve.proofs.Tries.{grows_then}
+use Rattle.node_serve.proofs.Tries.{grows_none, grows_then}
 use Rattle.snapshots.specs.Meaning.{Item, Folder, File, Place}
 use Rattle.snapshots.specs.Reading.{Reads}
 use Rattle.snapshots.specs.Shapes.{IsOf, AreOf, IsReadAt, AreRead}
 use Rattle.snapshots.specs.Tickets.{chunks_of, refs_of_text, entry_of, skeleton_of_tree}
 use Rattle.snapshots.specs.Walks.{AreFound}
 use Rattle.snapshots.specs.declared.walking.Found.{Found}
-use Rattle.snapshots.proofs.ChunkReads.{reads_none}
 use Rattle.snapshots.proofs.Skeletons.{fits}
 use Rattle.snapshots.proofs.WalkTrees.{in_place}
 use Rattle.snapshot_backup.specs.Course.{pieces_in, pieces_of_files}
-use Rattle.snapshot_backup.specs.Files.{IsFront, IsFile, AreFirst, HasMore, AreFirstAt, HasMoreAt, AreFirstIn, HasMoreIn, IsReading, ReadsFiles}
+use Rattle.snapshot_backup.specs.Endings.{AllKept, StoppedFor}
+use Rattle.snapshot_backup.specs.Files.{IsFront, IsFile, AreFirst, HasMore, AreFirstAt, HasMoreAt, AreFirstIn, HasMoreIn, AreReadingsAt, AreReadings, ReadsFiles}
 use Rattle.node_serve.specs.Spans.{IsUp}
 use Rattle.snapshot_backup.specs.Runs.{KeepsSo}
-use Rattle.snapshot_backup.proofs.Fronts.{so_none, so_untried, so_then}
+use Rattle.snapshot_backup.specs.declared.fault.BackupFault.{BackupFault}
+use Rattle.snapshot_backup.proofs.Fronts.{IsLeft, so_none, so_untried, so_then}
 use Rattle.snapshot_backup.proofs.FileRuns.{so_cut}
 
 -- ---- an entry
@@ -68,21 +69,58 @@ refs_in p = at p.item refl
 
 -- ---- what the calls read
 
-pub reads_files : (path : List ℕ) (v0 v1 : FolderView) → Reads path v0 v1 → ReadsFiles v0 v1
-reads_files path v0 v1 r = record { calls = r.calls; tried = r.tried; alone = λ k d lt. (path, r.alone k d lt); no_fall = r.no_fall; content = r.content; tells = r.tells }
+no_readings : (root : List ℕ) (fs : List Found) → AreReadings root fs []
+no_readings root [] = refl
+no_readings root (f ∷ fs) = ([], [], refl, none_at f.kind, no_readings root fs)
+  where
+    none_at : (k : EntryKind) → AreReadingsAt k (child root f.path) []
+    none_at kind.Folder = refl
+    none_at kind.File = All-nil (λ (call : FolderCall). call ≡ Reading (child root f.path))
 
-pub files_none : (v : FolderView) → ReadsFiles v v
-files_none v = reads_files [] v v (reads_none [] v)
+readings_then : (root : List ℕ) (fs gs : List Found) (first second : List FolderCall) → AreReadings root fs first → AreReadings root gs second → AreReadings root (fs ++ gs) (first ++ second)
+readings_then root [] gs first second none more = subst (λ (l : List FolderCall). AreReadings root gs (l ++ second)) (sym none) more
+readings_then root (f ∷ fs) gs first second (here, rest, is, at, behind) more =
+    (here, rest ++ second, ap (λ (l : List FolderCall). l ++ second) is ∙ append_assoc here rest second, at, readings_then root fs gs rest second behind more)
 
-pub files_then : (v0 v1 v2 : FolderView) → ReadsFiles v0 v1 → ReadsFiles v1 v2 → ReadsFiles v0 v2
-files_then v0 v1 v2 first second = record {
+-- the file at a place was read
+pub reads_file : (root path : List ℕ) (f : Found) (v0 v1 : FolderView) → f.kind ≡ kind.File → path ≡ child root f.path → Reads path v0 v1 → ReadsFiles root (f ∷ []) v0 v1
+reads_file root path f v0 v1 file place r = record {
+  calls = r.calls;
+  tried = r.tried;
+  readings = (
+    r.calls,
+    [],
+    sym (append-nil r.calls),
+    subst (λ (k : EntryKind). AreReadingsAt k (child root f.path) r.calls) (sym file) (subst (λ (at : List ℕ). All (λ (call : FolderCall). call ≡ Reading at) r.calls) place r.alone),
+    refl,
+  );
+  no_fall = r.no_fall;
+  content = r.content;
+  tells = r.tells;
+}
+
+-- none was
+pub files_none : (root : List ℕ) (fs : List Found) (v : FolderView) → ReadsFiles root fs v v
+files_none root fs v = record { calls = []; tried = grows_none v.folder_calls; readings = no_readings root fs; no_fall = omega arith; content = λ tells. refl; tells = λ tells. tells }
+
+pub files_then : (root : List ℕ) (fs gs : List Found) (v0 v1 v2 : FolderView) → ReadsFiles root fs v0 v1 → ReadsFiles root gs v1 v2 → ReadsFiles root (fs ++ gs) v0 v2
+files_then root fs gs v0 v1 v2 first second = record {
   calls = first.calls ++ second.calls;
   tried = grows_then v0.folder_calls v1.folder_calls v2.folder_calls first.calls second.calls first.tried second.tried;
-  alone = All-append IsReading first.calls second.calls first.alone second.alone;
+  readings = readings_then root fs gs first.calls second.calls first.readings second.readings;
   no_fall = omega (arith, first.no_fall, second.no_fall);
   content = λ tells. second.content tells ∙ first.content (second.tells tells);
   tells = λ tells. first.tells (second.tells tells);
 }
+
+-- those up to the next of what was found
+pub files_further : (root : List ℕ) (fs : List Found) (i : ℕ) (f d : Found) (v0 v1 v2 : FolderView) → i < length fs → f ≡ get_or fs i d → ReadsFiles root (take i fs) v0 v1 → ReadsFiles root (f ∷ []) v1 v2 → ReadsFiles root (take (i + 1) fs) v0 v2
+files_further root fs i f d v0 v1 v2 lt is first second =
+    subst (λ (l : List Found). ReadsFiles root l v0 v2) (sym (take_more fs i d lt ∙ ap (λ (g : Found). take i fs ++ g ∷ []) (sym is))) (files_then root (take i fs) (f ∷ []) v0 v1 v2 first second)
+
+-- and none behind them
+pub files_up_to : (root : List ℕ) (fs : List Found) (i : ℕ) (v0 v1 : FolderView) → ReadsFiles root (take i fs) v0 v1 → ReadsFiles root fs v0 v1
+files_up_to root fs i v0 v1 reads = subst (λ (l : List Found). ReadsFiles root l v0 v1) (take-append-drop i fs) (files_then root (take i fs) (drop i fs) v0 v1 v1 reads (files_none root (drop i fs) v1))
 
 -- ---- one place
 
@@ -108,7 +146,7 @@ none_at content root f c item told of read = (pieces_in item, refl)
 -- a place that was kept, with its entry
 abbrev pub KeepsPlace : {L : Type 0} → (L → List Entry → List ℕ → Type 0) → (List Entry → List ℕ → Type 0) → (L → ℕ) → (L → ℕ → Bool) → (L → Bool) → Node L → Node L → View → View → List ℕ → Found → FolderView → SkeletonEntry → Type 0
 KeepsPlace holds stands size keeps broken old new before now root f v e =
-    (p : Place) × (e ≡ entry_of p) × (p.path ≡ f.path) × IsOf f.kind p.item × IfSome v.content (λ c. IsReadAt c root p.path p.item) × KeepsSo holds stands size keeps broken old new before now (pieces_in p.item) true
+    (p : Place) × (e ≡ entry_of p) × (p.path ≡ f.path) × IsOf f.kind p.item × IfSome v.content (λ c. IsReadAt c root p.path p.item) × KeepsSo holds stands size keeps broken old new before now (pieces_in p.item) AllKept
 
 module _ {L : Type 0} (holds : L → List Entry → List ℕ → Type 0) (stands : List Entry → List ℕ → Type 0) (size : L → ℕ) (keeps : L → ℕ → Bool) (broken : L → Bool) (law : (log : L) (es : List Entry) (c : List ℕ) → holds log es c → stands es c) where
   pub folder_kept : (node : Node L) (v : View) (root : List ℕ) (f : Found) (w : FolderView) (path : List ℕ) (refs : List Ref) → IsUp holds size keeps broken node v → f.kind ≡ kind.Folder → path ≡ f.path → refs ≡ []
@@ -123,7 +161,7 @@ module _ {L : Type 0} (holds : L → List Entry → List ℕ → Type 0) (stands
   )
 
   pub file_kept : (n0 n1 : Node L) (v0 v1 : View) (root : List ℕ) (f : Found) (w : FolderView) (path at : List ℕ) (bytes_in : ℕ) (refs : List Ref) → f.kind ≡ kind.File → path ≡ f.path → at ≡ child root path → bytes_in ≡ total refs
-      → (bytes : List ℕ) × (refs ≡ refs_of_text bytes) × IsFile w.content at bytes × KeepsSo holds stands size keeps broken n0 n1 v0 v1 (chunks_of bytes) true
+      → (bytes : List ℕ) × (refs ≡ refs_of_text bytes) × IsFile w.content at bytes × KeepsSo holds stands size keeps broken n0 n1 v0 v1 (chunks_of bytes) AllKept
       → KeepsPlace holds stands size keeps broken n0 n1 v0 v1 root f w (record { path = path; kind = kind.File; size = bytes_in; refs = refs })
   file_kept n0 n1 v0 v1 root f w path at bytes_in refs file place there sum kept = (
     record { path = path; item = File kept.0 },
@@ -135,13 +173,13 @@ module _ {L : Type 0} (holds : L → List Entry → List ℕ → Type 0) (stands
   )
 
   -- nothing was tried
-  pub place_untried : (node : Node L) (v : View) (root : List ℕ) (f : Found) (w : FolderView) → (pieces : List (List ℕ)) × AreFirstAt w.content root f pieces × KeepsSo holds stands size keeps broken node node v v pieces false
-  place_untried node v root f w = ([], none_at w.content root f, so_untried holds stands size keeps broken law node v [])
+  pub place_untried : (node : Node L) (v : View) (root : List ℕ) (f : Found) (w : FolderView) (room : ℕ) (e : BackupFault) → IsLeft e → (pieces : List (List ℕ)) × AreFirstAt w.content root f pieces × (length pieces ≤ room) × KeepsSo holds stands size keeps broken node node v v pieces (StoppedFor e)
+  place_untried node v root f w room e left = ([], none_at w.content root f, omega arith, so_untried holds stands size keeps broken law node v [] e left)
 
-  pub place_stopped : (n0 n1 : Node L) (v0 v1 : View) (root : List ℕ) (f : Found) (w : FolderView) (at : List ℕ) → f.kind ≡ kind.File → at ≡ child root f.path
-      → (pieces : List (List ℕ)) × AreFirst w.content at pieces × KeepsSo holds stands size keeps broken n0 n1 v0 v1 pieces false
-      → (pieces : List (List ℕ)) × AreFirstAt w.content root f pieces × KeepsSo holds stands size keeps broken n0 n1 v0 v1 pieces false
-  place_stopped n0 n1 v0 v1 root f w at file there stopped = (stopped.0, first_at w.content root at f stopped.0 file there stopped.1, stopped.2)
+  pub place_stopped : (n0 n1 : Node L) (v0 v1 : View) (root : List ℕ) (f : Found) (w : FolderView) (at : List ℕ) (room : ℕ) (e : BackupFault) → f.kind ≡ kind.File → at ≡ child root f.path
+      → (pieces : List (List ℕ)) × AreFirst w.content at pieces × (length pieces ≤ room) × KeepsSo holds stands size keeps broken n0 n1 v0 v1 pieces (StoppedFor e)
+      → (pieces : List (List ℕ)) × AreFirstAt w.content root f pieces × (length pieces ≤ room) × KeepsSo holds stands size keeps broken n0 n1 v0 v1 pieces (StoppedFor e)
+  place_stopped n0 n1 v0 v1 root f w at room e file there stopped = (stopped.0, first_at w.content root at f stopped.0 file there stopped.1, stopped.2, stopped.3)
 
 -- ---- places of one list that was found
 
@@ -240,7 +278,7 @@ pub record KeepsPlaces {L : Type 0} (holds : L → List Entry → List ℕ → T
   pub are : entries ≡ skeleton_of_tree places
   pub of : AreOf fs places
   pub read : IfSome v.content (λ c. AreRead c root places)
-  pub kept : KeepsSo holds stands size keeps broken old new before now (pieces_of_files places) true
+  pub kept : KeepsSo holds stands size keeps broken old new before now (pieces_of_files places) AllKept
   pub left : room + length (pieces_of_files places) ≡ had
 
 module _ {L : Type 0} (holds : L → List Entry → List ℕ → Type 0) (stands : List Entry → List ℕ → Type 0) (size : L → ℕ) (keeps : L → ℕ → Bool) (broken : L → Bool) (law : (log : L) (es : List Entry) (c : List ℕ) → holds log es c → stands es c) where
@@ -266,7 +304,7 @@ module _ {L : Type 0} (holds : L → List Entry → List ℕ → Type 0) (stands
         read =
             if_some w2.content (λ c. AreRead c root all) (λ c told.
             read_append c root k.places (p ∷ []) (at_some w1.content (λ c. AreRead c root k.places) c k.read (told_before w1.content w2.content same c told)) (at_some w2.content (λ c. IsReadAt c root p.path p.item) c read told, tt));
-        kept = subst (λ (l : List (List ℕ)). KeepsSo holds stands size keeps broken n0 n2 v0 v2 l true) (sym (pieces_more k.places p)) (so_then holds stands size keeps broken law n0 n1 n2 v0 v1 v2 (pieces_of_files k.places) (pieces_in p.item) true k.kept more);
+        kept = subst (λ (l : List (List ℕ)). KeepsSo holds stands size keeps broken n0 n2 v0 v2 l AllKept) (sym (pieces_more k.places p)) (so_then holds stands size keeps broken law n0 n1 n2 v0 v1 v2 (pieces_of_files k.places) (pieces_in p.item) AllKept k.kept more);
         left = omega (arith, k.left, fewer, ap (λ (x : SkeletonEntry). length x.refs) is, refs_in p, ap length (pieces_more k.places p), length-append (pieces_of_files k.places) (pieces_in p.item));
       }
 
@@ -277,25 +315,26 @@ module _ {L : Type 0} (holds : L → List Entry → List ℕ → Type 0) (stands
       subst (λ (l : List SkeletonEntry). fits_behind l e ≡ true) (sym k.are) (subst (λ (x : SkeletonEntry). fits_behind (skeleton_of_tree k.places) x ≡ true) (sym is) (fits_next fs gs f k.places p are k.of path of))
 
   -- nothing was tried
-  pub places_untried : (node : Node L) (v : View) (root : List ℕ) (fs : List Found) (w : FolderView) → (pieces : List (List ℕ)) × AreFirstIn w.content root fs pieces × KeepsSo holds stands size keeps broken node node v v pieces false
-  places_untried node v root fs w = ([], λ c qs told of read. (pieces_of_files qs, refl), so_untried holds stands size keeps broken law node v [])
+  pub places_untried : (node : Node L) (v : View) (root : List ℕ) (fs : List Found) (w : FolderView) (room : ℕ) (e : BackupFault) → IsLeft e → (pieces : List (List ℕ)) × AreFirstIn w.content root fs pieces × (length pieces ≤ room) × KeepsSo holds stands size keeps broken node node v v pieces (StoppedFor e)
+  places_untried node v root fs w room e left = ([], λ c qs told of read. (pieces_of_files qs, refl), omega arith, so_untried holds stands size keeps broken law node v [] e left)
 
   -- those so far were kept, and no more
-  places_cut : (n0 n1 : Node L) (v0 v1 : View) (root : List ℕ) (fs gs : List Found) (w : FolderView) (entries : List SkeletonEntry) (had room : ℕ) → KeepsPlaces holds stands size keeps broken n0 n1 v0 v1 root fs w entries had room
-      → (pieces : List (List ℕ)) × AreFirstIn w.content root (fs ++ gs) pieces × KeepsSo holds stands size keeps broken n0 n1 v0 v1 pieces false
-  places_cut n0 n1 v0 v1 root fs gs w entries had room k = (
+  places_cut : (n0 n1 : Node L) (v0 v1 : View) (root : List ℕ) (fs gs : List Found) (w : FolderView) (entries : List SkeletonEntry) (had room : ℕ) (e : BackupFault) → IsLeft e → KeepsPlaces holds stands size keeps broken n0 n1 v0 v1 root fs w entries had room
+      → (pieces : List (List ℕ)) × AreFirstIn w.content root (fs ++ gs) pieces × (length pieces ≤ had) × KeepsSo holds stands size keeps broken n0 n1 v0 v1 pieces (StoppedFor e)
+  places_cut n0 n1 v0 v1 root fs gs w entries had room e left k = (
     pieces_of_files k.places,
     λ c qs told of read.
         let r = begin_alike c root fs gs k.places qs k.of (at_some w.content (λ c. AreRead c root k.places) c k.read told) of read in
         (pieces_of_files r.0, r.1),
-    so_cut holds stands size keeps broken law n0 n1 v0 v1 (pieces_of_files k.places) k.kept,
+    omega (arith, k.left),
+    so_cut holds stands size keeps broken law n0 n1 v0 v1 (pieces_of_files k.places) e left k.kept,
   )
 
   -- the next one was not kept, or not all of it
-  pub places_stopped : (n0 n1 n2 : Node L) (v0 v1 v2 : View) (root : List ℕ) (fs gs : List Found) (f : Found) (w1 w2 : FolderView) (entries : List SkeletonEntry) (had room : ℕ) → KeepsPlaces holds stands size keeps broken n0 n1 v0 v1 root fs w1 entries had room
-      → (Tells_content w2 → w2.content ≡ w1.content) → (pieces : List (List ℕ)) × AreFirstAt w2.content root f pieces × KeepsSo holds stands size keeps broken n1 n2 v1 v2 pieces false
-      → (pieces : List (List ℕ)) × AreFirstIn w2.content root (fs ++ f ∷ gs) pieces × KeepsSo holds stands size keeps broken n0 n2 v0 v2 pieces false
-  places_stopped n0 n1 n2 v0 v1 v2 root fs gs f w1 w2 entries had room k same (pieces, first, stopped) = (
+  pub places_stopped : (n0 n1 n2 : Node L) (v0 v1 v2 : View) (root : List ℕ) (fs gs : List Found) (f : Found) (w1 w2 : FolderView) (entries : List SkeletonEntry) (had room : ℕ) (e : BackupFault) → KeepsPlaces holds stands size keeps broken n0 n1 v0 v1 root fs w1 entries had room
+      → (Tells_content w2 → w2.content ≡ w1.content) → (pieces : List (List ℕ)) × AreFirstAt w2.content root f pieces × (length pieces ≤ room) × KeepsSo holds stands size keeps broken n1 n2 v1 v2 pieces (StoppedFor e)
+      → (pieces : List (List ℕ)) × AreFirstIn w2.content root (fs ++ f ∷ gs) pieces × (length pieces ≤ had) × KeepsSo holds stands size keeps broken n0 n2 v0 v2 pieces (StoppedFor e)
+  places_stopped n0 n1 n2 v0 v1 v2 root fs gs f w1 w2 entries had room e k same (pieces, first, few, stopped) = (
     pieces_of_files k.places ++ pieces,
     λ c qs told of read.
         let r = next_alike c root fs gs f k.places qs k.of (at_some w1.content (λ c. AreRead c root k.places) c k.read (told_before w1.content w2.content same c told)) of read in
@@ -306,7 +345,8 @@ module _ {L : Type 0} (holds : L → List Entry → List ℕ → Type 0) (stands
               ∙ ap (λ (l : List (List ℕ)). pieces_of_files k.places ++ l) (append_assoc pieces front.0 (pieces_of_files r.1))
               ∙ sym (append_assoc (pieces_of_files k.places) pieces (front.0 ++ pieces_of_files r.1)),
         ),
-    so_then holds stands size keeps broken law n0 n1 n2 v0 v1 v2 (pieces_of_files k.places) pieces false k.kept stopped,
+    omega (arith, few, k.left, length-append (pieces_of_files k.places) pieces),
+    so_then holds stands size keeps broken law n0 n1 n2 v0 v1 v2 (pieces_of_files k.places) pieces (StoppedFor e) k.kept stopped,
   )
 
   pub places_too_large : (n0 n1 : Node L) (v0 v1 : View) (root : List ℕ) (fs gs : List Found) (f : Found) (w1 w2 : FolderView) (entries : List SkeletonEntry) (had room : ℕ) → KeepsPlaces holds stands size keeps broken n0 n1 v0 v1 root fs w1 entries had room
@@ -317,7 +357,7 @@ module _ {L : Type 0} (holds : L → List Entry → List ℕ → Type 0) (stands
 
   -- all were kept
   pub places_all : (n0 n1 : Node L) (v0 v1 : View) (root : List ℕ) (fs : List Found) (w : FolderView) (entries : List SkeletonEntry) (had room : ℕ) → KeepsPlaces holds stands size keeps broken n0 n1 v0 v1 root fs w entries had room
-      → (places : List Place) × (entries ≡ skeleton_of_tree places) × AreOf fs places × IfSome w.content (λ c. AreRead c root places) × KeepsSo holds stands size keeps broken n0 n1 v0 v1 (pieces_of_files places) true
+      → (places : List Place) × (entries ≡ skeleton_of_tree places) × AreOf fs places × IfSome w.content (λ c. AreRead c root places) × KeepsSo holds stands size keeps broken n0 n1 v0 v1 (pieces_of_files places) AllKept
   places_all n0 n1 v0 v1 root fs w entries had room k = (k.places, k.are, k.of, k.read, k.kept)
 
 -- ---- by the index
@@ -328,7 +368,7 @@ module _ {L : Type 0} (holds : L → List Entry → List ℕ → Type 0) (stands
   places_further n0 n1 n2 v0 v1 v2 root fs i f d w1 w2 entries now e had room left lt is k same kept fewer pushed =
       subst (λ (l : List Found). KeepsPlaces holds stands size keeps broken n0 n2 v0 v2 root l w2 now had left) (sym (one_further fs i f d lt is)) (places_then holds stands size keeps broken law n0 n1 n2 v0 v1 v2 root (take i fs) f w1 w2 entries now e had room left k same kept fewer pushed)
 
-  pub places_cut_at : (n0 n1 : Node L) (v0 v1 : View) (root : List ℕ) (fs : List Found) (i : ℕ) (w : FolderView) (entries : List SkeletonEntry) (had room : ℕ) → KeepsPlaces holds stands size keeps broken n0 n1 v0 v1 root (take i fs) w entries had room
-      → (pieces : List (List ℕ)) × AreFirstIn w.content root fs pieces × KeepsSo holds stands size keeps broken n0 n1 v0 v1 pieces false
-  places_cut_at n0 n1 v0 v1 root fs i w entries had room k =
-      subst (λ (l : List Found). (pieces : List (List ℕ)) × AreFirstIn w.content root l pieces × KeepsSo holds stands size keeps broken n0 n1 v0 v1 pieces false) (take-append-drop i fs) (places_cut holds stands size keeps broken law n0 n1 v0 v1 root (take i fs) (drop i fs) w entries had room k)
+  pub places_cut_at : (n0 n1 : Node L) (v0 v1 : View) (root : List ℕ) (fs : List Found) (i : ℕ) (w : FolderView) (entries : List SkeletonEntry) (had room : ℕ) (e : BackupFault) → IsLeft e → KeepsPlaces holds stands size keeps broken n0 n1 v0 v1 root (take i fs) w entries had room
+      → (pieces : List (List ℕ)) × AreFirstIn w.content root fs pieces × (length pieces ≤ had) × KeepsSo holds stands size keeps broken n0 n1 v0 v1 pieces (StoppedFor e)
+  places_cut_at n0 n1 v0 v1 root fs i w entries had room e left k =
+      subst (λ (l : List Found). (pieces : List (List ℕ)) × AreFirstIn w.content root l pieces × (length pieces ≤ had) × KeepsSo holds stands size keeps broken n0 n1 v0 v1 pieces (StoppedFor e)) (take-append-drop i fs) (places_cut holds stands size keeps broken law n0 n1 v0 v1 root (take i fs) (drop i fs) w entries had room e left k)

@@ -36,3 +36,7 @@ room_kept es places left room are is = omega (arith, ap (λ (l : List Entry). le
 -- so many refs are those of the tree whose skeleton it is
 pub refs_within : (es : List Entry) (places : List Place) {room : ℕ} → es ≡ skeleton_of_tree places → length (refs_in es) ≤ room → length (refs_in (skeleton_of_tree places)) ≤ room
 refs_within es places are few = omega (arith, ap (λ (l : List Entry). length (refs_in l)) are, few)
+
+-- and so many are its pieces
+pub refs_few : (places : List Place) {room : ℕ} → length (refs_in (skeleton_of_tree places)) ≤ room → length (pieces_of_files places) ≤ room
+refs_few places few = omega (arith, few, refs_are_pieces places)

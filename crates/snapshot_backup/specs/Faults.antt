@@ -9,11 +9,7 @@ use Rattle.snapshot_backup.specs.Runs.{RefusesPiece}
 use Rattle.snapshot_backup.specs.declared.fault.BackupFault.{BackupFault}
 use Rattle.snapshot_backup.specs.declared.fault.BackupFault.TheVariants as backup_fault
 
--- a fault of the node, and one of the walk, as one of a backup
-abbrev pub backup_fault_of : Fault → BackupFault
-backup_fault_of fault.Memory = backup_fault.Memory
-backup_fault_of f = backup_fault.Node f
-
+-- a fault of the walk as one of a backup
 abbrev pub walked_as : WalkFault → BackupFault
 walked_as walk_fault.Folder = backup_fault.Folder
 walked_as walk_fault.TooLarge = backup_fault.TooLarge

@@ -1,7 +1,9 @@
 -- Files and folders of a tree that are kept, by what was read of them.
-use Rattle.std.specs.Prelude.{◌≡◌, ◌<◌, ◌≤◌, ℕ, List, ◌++◌, length, All, IfSome, Option, Some}
+use Rattle.std.specs.Prelude.{◌≡◌, ◌<◌, ◌≤◌, ℕ, List, [], ◌∷◌, ◌++◌, length, All, IfSome, Option, Some}
 use Rattle.psb_station.specs.Calls.{Grows}
-use Rattle.psb_station.specs.Folder.{FolderView, FolderCall, Content, File as AFile, Reading, Tells_content, found}
+use Rattle.psb_station.specs.Folder.{FolderView, FolderCall, Content, File as AFile, Reading, Tells_content, found, child}
+use Rattle.skeleton.specs.declared.entry.EntryKind.{EntryKind}
+use Rattle.skeleton.specs.declared.entry.EntryKind.TheVariants as kind
 use Rattle.snapshots.specs.Meaning.{Item, Place}
 use Rattle.snapshots.specs.Shapes.{IsOf, AreOf, IsReadAt, AreRead}
 use Rattle.snapshots.specs.Tickets.{chunks_of}
@@ -46,14 +48,22 @@ HasMoreIn content root fs most = (c : Content) (places : List Place) → content
 
 -- ---- the calls
 
-abbrev pub IsReading : FolderCall → Type 0
-IsReading call = (path : List ℕ) × (call ≡ Reading path)
+-- a file is read as often as it takes, and a folder never
+abbrev pub AreReadingsAt : EntryKind → List ℕ → List FolderCall → Type 0
+AreReadingsAt kind.Folder path calls = calls ≡ []
+AreReadingsAt kind.File path calls = All (λ (call : FolderCall). call ≡ Reading path) calls
 
--- nothing was done but to read files
-pub record ReadsFiles (old new : FolderView) : Type 0 where
+-- the files among what was found below the root are read in its order
+abbrev pub AreReadings : List ℕ → List Found → List FolderCall → Type 0
+AreReadings root [] calls = calls ≡ []
+AreReadings root (f ∷ fs) calls =
+    (here : List FolderCall) × (rest : List FolderCall) × (calls ≡ here ++ rest) × AreReadingsAt f.kind (child root f.path) here × AreReadings root fs rest
+
+-- nothing was done but that
+pub record ReadsFiles (root : List ℕ) (fs : List Found) (old new : FolderView) : Type 0 where
   pub calls : List FolderCall
   pub tried : Grows old.folder_calls new.folder_calls calls
-  pub alone : All IsReading calls
+  pub readings : AreReadings root fs calls
   pub no_fall : old.folder_faults ≤ new.folder_faults
   pub content : Tells_content new → new.content ≡ old.content
   pub tells : Tells_content new → Tells_content old

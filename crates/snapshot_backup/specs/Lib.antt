@@ -1,5 +1,6 @@
 pub mod Course
 pub mod Kept
+pub mod Endings
 pub mod Runs
 pub mod Naming
 pub mod Faults

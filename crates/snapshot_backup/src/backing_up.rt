@@ -1,5 +1,5 @@
 //! The backup of a folder.
-ghost use Rattle.std.specs.Prelude.{◌≡◌, ◌⊎◌, ◌≤◌, ◌+◌, List, [], ◌∷◌, ◌++◌, true, Some, IfOk, IfSome, OnOk, OnErr};
+ghost use Rattle.std.specs.Prelude.{◌≡◌, ◌⊎◌, ◌≤◌, ◌+◌, List, [], ◌∷◌, ◌++◌, true, Some, IfOk, IfErr, IfSome, OnOk};
 ghost use Rattle.psb_station.specs.Calls.{Rose};
 ghost use Rattle.psb_station.specs.Folder.{Tells_content};
 ghost use Rattle.psb_station.specs.Span.{Tells_bytes};
@@ -12,7 +12,7 @@ ghost use Rattle.node_core.specs.Stored.{Knows, Stored};
 ghost use Rattle.skeleton.specs.declared.limits.TheConstants.{MOST_TEXT_BYTES};
 ghost use Rattle.snapshots.specs.Meaning.{Place};
 ghost use Rattle.snapshots.specs.Walks.{IsTooLarge};
-ghost use Rattle.snapshot_backup.specs.Backed.{Notes, BacksUp, StopsBackup, IsSnapOf, HasLongText, ListsThenReads, text_len, snapshot_of};
+ghost use Rattle.snapshot_backup.specs.Backed.{Notes, BacksUp, StopsBackup, IsSnapOf, IsLongWithRefs, ListsThenReads, text_len, snapshot_of};
 ghost use Rattle.snapshot_backup.specs.Faults.{IsOfPieces};
 ghost use Rattle.node_serve.specs.Spans.{IsUp};
 ghost use Rattle.snapshot_backup.specs.Runs.{Ran, NoneAltered};
@@ -60,8 +60,8 @@ pub fn backup<L: Log, D: Disk, F: Folder>(
     ensures made { IfOk result (λ note. (places : List Place) × Notes places note × IfSome (F.view folder.new).content (λ c. IsSnapOf c path.now places note.left) × (text_len places ≤ MOST_TEXT_BYTES)
         × (Tells_bytes (D.view disk.new) → (n : Situation) → Knows node.old n → Stored L.holds node.old n.history (D.view disk.old)
         → BacksUp L.holds L.stands L.is_broken node.old node.new (D.view disk.old) (D.view disk.new) n places note)) }
-    ensures stopped { OnErr result (Tells_bytes (D.view disk.new) → (n : Situation) → Knows node.old n → Stored L.holds node.old n.history (D.view disk.old)
-        → StopsBackup L.holds L.stands L.is_broken node.old node.new (D.view disk.old) (D.view disk.new) n (F.view folder.new).content path.now) }
+    ensures stopped { IfErr result (λ e. Tells_bytes (D.view disk.new) → (n : Situation) → Knows node.old n → Stored L.holds node.old n.history (D.view disk.old)
+        → StopsBackup L.holds L.stands L.is_broken node.old node.new (D.view disk.old) (D.view disk.new) n e (F.view folder.new).content path.now) }
     ensures noted { IfOk result (λ note. (before : List Snapshot) × (node.new.ledger.state.kept ≡ before ++ snapshot_of (snaps_made node.old.ledger.state + 1) note ∷ [])) }
     ensures up { OnOk result (IsUp L.holds L.size L.keeps_body L.is_broken node.new (D.view disk.new)) }
 
@@ -70,19 +70,19 @@ pub fn backup<L: Log, D: Disk, F: Folder>(
     ensures altered { NoneAltered L.holds node.old (D.view disk.old) (D.view disk.new) (λ name. result ≡ Err (BackupFault.Node (fault.Altered name))) }
     ensures ran { Ran (result ≡ Err (BackupFault.Node fault.DiskFault)) (D.view disk.old) (D.view disk.new) }
 
-    // The folder is as before.
+    // The folder is as before: it is listed, then each folder that was found in it, and then the files are read.
     ensures content { Tells_content (F.view folder.new) → (F.view folder.new).content ≡ (F.view folder.old).content }
-    ensures calls { ListsThenReads (F.view folder.old) (F.view folder.new) }
+    ensures calls { ListsThenReads path.now (F.view folder.old) (F.view folder.new) }
     ensures folder_cause { result ≡ Err BackupFault.Folder → Rose (F.view folder.old).folder_faults (F.view folder.new).folder_faults }
     ensures folder_steady { (result ≡ Err BackupFault.Folder) ⊎ ((F.view folder.new).folder_faults ≡ (F.view folder.old).folder_faults) }
 
     // Why none is made. The number of snapshots is looked at first, and what the walk finds too large is refused
     // before the first piece is kept.
-    ensures full { snaps_made node.old.ledger.state ≡ 4294967295 → result ≡ Err BackupFault.TooLarge }
+    ensures full { snaps_made node.old.ledger.state ≡ 4294967295 → (result ≡ Err BackupFault.TooLarge) × (folder.new ≡ folder.old) × (disk.new ≡ disk.old) }
     ensures too_large { result ≡ Err BackupFault.TooLarge
         → ((snaps_made node.old.ledger.state ≡ 4294967295) × (folder.new ≡ folder.old) × (disk.new ≡ disk.old))
         ⊎ (IfSome (F.view folder.new).content (λ c. IsTooLarge c path.now) × (disk.new ≡ disk.old))
-        ⊎ IfSome (F.view folder.new).content (λ c. HasLongText c path.now) }
+        ⊎ IfSome (F.view folder.new).content (λ c. IsLongWithRefs c path.now) }
     ensures only { (f : Fault) → result ≡ Err (BackupFault.Node f) → IsOfPieces f }
 {
     if snapshots_made(node.ledger()) == u32::MAX {

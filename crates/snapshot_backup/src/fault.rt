@@ -23,7 +23,7 @@ pub enum BackupFault {
 
 impl From<Fault> for BackupFault {
     ghost use Rattle.std.specs.Prelude.{◌≡◌};
-    ghost use Rattle.snapshot_backup.specs.Faults.{backup_fault_of};
+    ghost use Rattle.snapshot_backup.specs.Endings.{backup_fault_of};
 
     ghost from_gives = { λ f e. e ≡ backup_fault_of f };
 

@@ -1,9 +1,10 @@
 //! A file that is kept piece by piece.
-ghost use Rattle.std.specs.Prelude.{◌≡◌, ◌⊎◌, ◌≤◌, ◌+◌, ℕ, List, length, true, false, IfOk, OnErr};
+ghost use Rattle.std.specs.Prelude.{◌≡◌, ◌⊎◌, ◌≤◌, ◌+◌, ℕ, List, length, true, IfOk, IfErr};
 ghost use Rattle.psb_station.specs.Calls.{Rose};
 ghost use Rattle.node_core.specs.declared.fault.Fault.TheVariants as fault;
 ghost use Rattle.snapshots.specs.Reading.{Reads};
 ghost use Rattle.snapshots.specs.Tickets.{chunks_of, refs_of_text};
+ghost use Rattle.snapshot_backup.specs.Endings.{AllKept, StoppedFor};
 ghost use Rattle.snapshot_backup.specs.Faults.{FailsOfPiece};
 ghost use Rattle.snapshot_backup.specs.Files.{IsFile, AreFirst, HasMore};
 ghost use Rattle.node_serve.specs.Spans.{IsUp};
@@ -32,10 +33,10 @@ pub(crate) fn keep_file<L: Log, D: Disk, F: Folder>(
     requires up { IsUp L.holds L.size L.keeps_body L.is_broken node.old (D.view disk.old) }
     requires few { room.old ≤ most_refs }
     ensures kept { IfOk result (λ refs. (bytes : List ℕ) × (refs ≡ refs_of_text bytes) × IsFile (F.view folder.new).content path.now bytes
-        × KeepsSo L.holds L.stands L.size L.keeps_body L.is_broken node.old node.new (D.view disk.old) (D.view disk.new) (chunks_of bytes) true) }
+        × KeepsSo L.holds L.stands L.size L.keeps_body L.is_broken node.old node.new (D.view disk.old) (D.view disk.new) (chunks_of bytes) AllKept) }
     ensures room { IfOk result (λ refs. room.new + length refs ≡ room.old) }
-    ensures stopped { OnErr result ((pieces : List (List ℕ)) × AreFirst (F.view folder.new).content path.now pieces
-        × KeepsSo L.holds L.stands L.size L.keeps_body L.is_broken node.old node.new (D.view disk.old) (D.view disk.new) pieces false) }
+    ensures stopped { IfErr result (λ e. (pieces : List (List ℕ)) × AreFirst (F.view folder.new).content path.now pieces × (length pieces ≤ room.old)
+        × KeepsSo L.holds L.stands L.size L.keeps_body L.is_broken node.old node.new (D.view disk.old) (D.view disk.new) pieces (StoppedFor e)) }
     ensures too_large { result ≡ Err BackupFault.TooLarge → HasMore (F.view folder.new).content path.now room.old }
     ensures reads { Reads path.now (F.view folder.old) (F.view folder.new) }
     ensures folder_cause { result ≡ Err BackupFault.Folder → Rose (F.view folder.old).folder_faults (F.view folder.new).folder_faults }

@@ -1,5 +1,5 @@
 //! The text of a skeleton, and the lists of refs above it.
-ghost use Rattle.std.specs.Prelude.{◌≡◌, ◌⊎◌, ◌≤◌, ◌+◌, ◌||◌, ℕ, List, true, is_ok, is_some, length, Some, IfOk, OnOk, OnErr};
+ghost use Rattle.std.specs.Prelude.{◌≡◌, ◌⊎◌, ◌≤◌, ◌+◌, ◌||◌, ℕ, List, true, is_some, length, Some, IfOk, OnOk, OnErr};
 ghost use Rattle.skeleton.specs.declared.limits.TheConstants.{MOST_TEXT_BYTES};
 ghost use Rattle.snapshots.specs.Tickets.{one_of, ticket_from};
 ghost use Rattle.psb_model.specs.Words.{name_listed};
@@ -7,6 +7,7 @@ ghost use Rattle.snapshot_backup.specs.Course.{pieces_of_levels};
 ghost use Rattle.snapshot_backup.specs.Kept.{names_of};
 ghost use Rattle.snapshot_backup.specs.Naming.{has_name, count_of};
 ghost use Rattle.node_serve.specs.Spans.{IsUp};
+ghost use Rattle.snapshot_backup.specs.Endings.{end_of};
 ghost use Rattle.snapshot_backup.specs.Runs.{Ran, KeepsSo, NoneAltered, RefusesPiece};
 
 use crate::naming::Names;
@@ -43,7 +44,7 @@ pub(crate) fn keep_levels<L: Log, D: Disk>(
     requires enough { is_some (ticket_from most text.now) ≡ true }
     ensures ticket { IfOk result (λ t. ticket_from most text.now ≡ Some t) }
     ensures levels { IfOk result (λ t. t.levels ≤ most) }
-    ensures keeps { KeepsSo L.holds L.stands L.size L.keeps_body L.is_broken node.old node.new (D.view disk.old) (D.view disk.new) (pieces_of_levels most text.now) (is_ok result) }
+    ensures keeps { KeepsSo L.holds L.stands L.size L.keeps_body L.is_broken node.old node.new (D.view disk.old) (D.view disk.new) (pieces_of_levels most text.now) (end_of result) }
     ensures names { OnOk result ((q : List ℕ) → has_name names.new q ≡ (has_name names.old q || name_listed (names_of (pieces_of_levels most text.now)) q)) }
     ensures count { OnOk result (count_of names.new ≤ count_of names.old + length (pieces_of_levels most text.now)) }
     ensures unbroken { L.is_broken node.new.log ≡ true → result ≡ Err Fault.DiskFault }

@@ -1,5 +1,5 @@
 //! The note of a snapshot.
-ghost use Rattle.std.specs.Prelude.{◌≡◌, ◌⊎◌, ◌≤◌, ◌<◌, ◌^◌, ℕ, List, length, true, is_ok, IfOk, OnErr};
+ghost use Rattle.std.specs.Prelude.{◌≡◌, ◌⊎◌, ◌≤◌, ◌<◌, ◌^◌, ℕ, List, length, true, IfOk, OnErr};
 ghost use Rattle.psb_model.specs.Words.{name_listed};
 ghost use Rattle.skeleton.specs.declared.limits.TheConstants.{MOST_TEXT_BYTES};
 ghost use Rattle.skeleton.specs.Texts.{skeleton_text};
@@ -9,6 +9,7 @@ ghost use Rattle.snapshot_backup.specs.Backed.{Notes};
 ghost use Rattle.snapshot_backup.specs.Course.{pieces_of_levels};
 ghost use Rattle.snapshot_backup.specs.Naming.{has_name, count_of, names_in};
 ghost use Rattle.node_serve.specs.Spans.{IsUp};
+ghost use Rattle.snapshot_backup.specs.Endings.{end_of};
 ghost use Rattle.snapshot_backup.specs.Runs.{Ran, KeepsSo, NoneAltered, RefusesPiece};
 
 use crate::levels::keep_levels;
@@ -48,7 +49,7 @@ pub(crate) fn keep_skeleton<L: Log, D: Disk>(
 ) -> Result<SnapNote, Fault>
     requires up { IsUp L.holds L.size L.keeps_body L.is_broken node.old (D.view disk.old) }
     requires short { length (skeleton_text skeleton.now) ≤ MOST_TEXT_BYTES }
-    ensures keeps { KeepsSo L.holds L.stands L.size L.keeps_body L.is_broken node.old node.new (D.view disk.old) (D.view disk.new) (pieces_of_levels most_levels (skeleton_text skeleton.now)) (is_ok result) }
+    ensures keeps { KeepsSo L.holds L.stands L.size L.keeps_body L.is_broken node.old node.new (D.view disk.old) (D.view disk.new) (pieces_of_levels most_levels (skeleton_text skeleton.now)) (end_of result) }
     ensures note { IfOk result (λ note. (places : List Place) → skeleton.now ≡ skeleton_of_tree places → Notes places note) }
     ensures left { IfOk result (λ note. note.left ≡ left) }
     ensures few { IfOk result (λ note. length note.names ≤ 1048576) }

@@ -1,8 +1,9 @@
 //! One piece of a text, which is sealed and kept.
-ghost use Rattle.std.specs.Prelude.{◌≡◌, ◌⊎◌, ◌≤◌, [], ◌∷◌, ◌++◌, true, length, is_ok, OnOk, OnErr};
+ghost use Rattle.std.specs.Prelude.{◌≡◌, ◌⊎◌, ◌≤◌, [], ◌∷◌, ◌++◌, true, length, OnOk, OnErr};
 ghost use Rattle.psb_bytes.specs.Units.{longest_chunk};
 ghost use Rattle.convergent_seal.specs.Sealing.{sealed_ref};
 ghost use Rattle.node_serve.specs.Spans.{IsUp};
+ghost use Rattle.snapshot_backup.specs.Endings.{end_of};
 ghost use Rattle.snapshot_backup.specs.Runs.{Ran, KeepsSo, NoneAltered, RefusesPiece};
 
 use convergent_seal::seal;
@@ -25,7 +26,7 @@ pub(crate) fn keep_piece<L: Log, D: Disk>(
     requires some { 1 ≤ length plain.now }
     requires fits { length plain.now ≤ longest_chunk }
     ensures refs { OnOk result (refs.new.items ≡ refs.old.items ++ sealed_ref plain.now ∷ []) }
-    ensures keeps { KeepsSo L.holds L.stands L.size L.keeps_body L.is_broken node.old node.new (D.view disk.old) (D.view disk.new) (plain.now ∷ []) (is_ok result) }
+    ensures keeps { KeepsSo L.holds L.stands L.size L.keeps_body L.is_broken node.old node.new (D.view disk.old) (D.view disk.new) (plain.now ∷ []) (end_of result) }
     ensures unbroken { L.is_broken node.new.log ≡ true → result ≡ Err Fault.DiskFault }
     ensures altered { NoneAltered L.holds node.old (D.view disk.old) (D.view disk.new) (λ name. result ≡ Err (Fault.Altered name)) }
     ensures ran { Ran (result ≡ Err Fault.DiskFault) (D.view disk.old) (D.view disk.new) }

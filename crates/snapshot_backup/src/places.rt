@@ -1,5 +1,5 @@
 //! The folders and files that a walk found, which are kept in their order.
-ghost use Rattle.std.specs.Prelude.{◌≡◌, ◌⊎◌, ◌≤◌, ◌+◌, ◌<◌, ◌++◌, ◌∷◌, [], ℕ, List, length, true, false, IfOk, IfSome, OnOk, OnErr};
+ghost use Rattle.std.specs.Prelude.{◌≡◌, ◌⊎◌, ◌≤◌, ◌+◌, ◌<◌, ◌++◌, ◌∷◌, [], ℕ, List, length, true, IfOk, IfErr, IfSome, OnOk};
 ghost use Rattle.psb_station.specs.Calls.{Rose};
 ghost use Rattle.node_core.specs.declared.fault.Fault.TheVariants as fault;
 ghost use Rattle.skeleton.specs.Entries.{fits_behind, total};
@@ -8,6 +8,7 @@ ghost use Rattle.snapshots.specs.Tickets.{entry_of, skeleton_of_tree};
 ghost use Rattle.snapshots.specs.Walks.{AreFound};
 ghost use Rattle.snapshot_backup.specs.Course.{pieces_in, pieces_of_files};
 ghost use Rattle.snapshots.specs.Shapes.{IsOf, AreOf, IsReadAt, AreRead};
+ghost use Rattle.snapshot_backup.specs.Endings.{AllKept, StoppedFor};
 ghost use Rattle.snapshot_backup.specs.Faults.{FailsOfPiece};
 ghost use Rattle.snapshot_backup.specs.Files.{AreFirstAt, AreFirstIn, HasMoreAt, HasMoreIn, ReadsFiles};
 ghost use Rattle.node_serve.specs.Spans.{IsUp};
@@ -49,12 +50,12 @@ fn keep_place<L: Log, D: Disk, F: Folder>(
     requires up { IsUp L.holds L.size L.keeps_body L.is_broken node.old (D.view disk.old) }
     requires few { room.old ≤ most_refs }
     ensures kept { IfOk result (λ e. (p : Place) × (e ≡ entry_of p) × (p.path ≡ found.now.path) × IsOf found.now.kind p.item × IfSome (F.view folder.new).content (λ c. IsReadAt c root.now p.path p.item)
-        × KeepsSo L.holds L.stands L.size L.keeps_body L.is_broken node.old node.new (D.view disk.old) (D.view disk.new) (pieces_in p.item) true) }
+        × KeepsSo L.holds L.stands L.size L.keeps_body L.is_broken node.old node.new (D.view disk.old) (D.view disk.new) (pieces_in p.item) AllKept) }
     ensures room { IfOk result (λ e. room.new + length e.refs ≡ room.old) }
-    ensures stopped { OnErr result ((pieces : List (List ℕ)) × AreFirstAt (F.view folder.new).content root.now found.now pieces
-        × KeepsSo L.holds L.stands L.size L.keeps_body L.is_broken node.old node.new (D.view disk.old) (D.view disk.new) pieces false) }
+    ensures stopped { IfErr result (λ e. (pieces : List (List ℕ)) × AreFirstAt (F.view folder.new).content root.now found.now pieces × (length pieces ≤ room.old)
+        × KeepsSo L.holds L.stands L.size L.keeps_body L.is_broken node.old node.new (D.view disk.old) (D.view disk.new) pieces (StoppedFor e)) }
     ensures too_large { result ≡ Err BackupFault.TooLarge → HasMoreAt (F.view folder.new).content root.now found.now room.old }
-    ensures reads { ReadsFiles (F.view folder.old) (F.view folder.new) }
+    ensures reads { ReadsFiles root.now (found.now ∷ []) (F.view folder.old) (F.view folder.new) }
     ensures folder_cause { result ≡ Err BackupFault.Folder → Rose (F.view folder.old).folder_faults (F.view folder.new).folder_faults }
     ensures folder_steady { (result ≡ Err BackupFault.Folder) ⊎ ((F.view folder.new).folder_faults ≡ (F.view folder.old).folder_faults) }
     ensures unbroken { L.is_broken node.new.log ≡ true → result ≡ Err (BackupFault.Node fault.DiskFault) }
@@ -113,12 +114,12 @@ pub(crate) fn keep_places<L: Log, D: Disk, F: Folder>(
     requires few { room ≤ most_refs }
     requires found { AreFound found.now }
     ensures kept { IfOk result (λ s. (places : List Place) × (s ≡ skeleton_of_tree places) × AreOf found.now places × IfSome (F.view folder.new).content (λ c. AreRead c root.now places)
-        × KeepsSo L.holds L.stands L.size L.keeps_body L.is_broken node.old node.new (D.view disk.old) (D.view disk.new) (pieces_of_files places) true) }
+        × KeepsSo L.holds L.stands L.size L.keeps_body L.is_broken node.old node.new (D.view disk.old) (D.view disk.new) (pieces_of_files places) AllKept) }
     ensures fits { IfOk result (λ s. length (refs_in s) ≤ room) }
-    ensures stopped { OnErr result ((pieces : List (List ℕ)) × AreFirstIn (F.view folder.new).content root.now found.now pieces
-        × KeepsSo L.holds L.stands L.size L.keeps_body L.is_broken node.old node.new (D.view disk.old) (D.view disk.new) pieces false) }
+    ensures stopped { IfErr result (λ e. (pieces : List (List ℕ)) × AreFirstIn (F.view folder.new).content root.now found.now pieces × (length pieces ≤ room)
+        × KeepsSo L.holds L.stands L.size L.keeps_body L.is_broken node.old node.new (D.view disk.old) (D.view disk.new) pieces (StoppedFor e)) }
     ensures too_large { result ≡ Err BackupFault.TooLarge → HasMoreIn (F.view folder.new).content root.now found.now room }
-    ensures reads { ReadsFiles (F.view folder.old) (F.view folder.new) }
+    ensures reads { ReadsFiles root.now found.now (F.view folder.old) (F.view folder.new) }
     ensures folder_cause { result ≡ Err BackupFault.Folder → Rose (F.view folder.old).folder_faults (F.view folder.new).folder_faults }
     ensures folder_steady { (result ≡ Err BackupFault.Folder) ⊎ ((F.view folder.new).folder_faults ≡ (F.view folder.old).folder_faults) }
     ensures unbroken { L.is_broken node.new.log ≡ true → result ≡ Err (BackupFault.Node fault.DiskFault) }

@@ -1,10 +1,11 @@
 //! A text that is cut and kept.
-ghost use Rattle.std.specs.Prelude.{◌≡◌, ◌⊎◌, ◌≤◌, ◌+◌, [], ◌∷◌, ◌++◌, true, length, is_ok, IfOk, OnOk, OnErr};
+ghost use Rattle.std.specs.Prelude.{◌≡◌, ◌⊎◌, ◌≤◌, ◌+◌, [], ◌∷◌, ◌++◌, true, length, IfOk, OnOk, OnErr};
 ghost use Rattle.psb_bytes.specs.Units.{longest_chunk};
 ghost use Rattle.convergent_seal.specs.Sealing.{sealed_ref};
 ghost use Rattle.rolling_chunks.specs.Laws.{part};
 ghost use Rattle.snapshots.specs.Tickets.{chunks_of, refs_of_text};
 ghost use Rattle.node_serve.specs.Spans.{IsUp};
+ghost use Rattle.snapshot_backup.specs.Endings.{end_of};
 ghost use Rattle.snapshot_backup.specs.Runs.{Ran, KeepsSo, NoneAltered, RefusesPiece};
 
 use crate::piece::keep_piece;
@@ -29,7 +30,7 @@ fn keep_span<L: Log, D: Disk>(
     requires some { 1 ≤ span.now.len }
     requires short { span.now.len ≤ longest_chunk }
     ensures refs { OnOk result (refs.new.items ≡ refs.old.items ++ sealed_ref (part text.now span.now) ∷ []) }
-    ensures keeps { KeepsSo L.holds L.stands L.size L.keeps_body L.is_broken node.old node.new (D.view disk.old) (D.view disk.new) (part text.now span.now ∷ []) (is_ok result) }
+    ensures keeps { KeepsSo L.holds L.stands L.size L.keeps_body L.is_broken node.old node.new (D.view disk.old) (D.view disk.new) (part text.now span.now ∷ []) (end_of result) }
     ensures unbroken { L.is_broken node.new.log ≡ true → result ≡ Err Fault.DiskFault }
     ensures altered { NoneAltered L.holds node.old (D.view disk.old) (D.view disk.new) (λ name. result ≡ Err (Fault.Altered name)) }
     ensures ran { Ran (result ≡ Err Fault.DiskFault) (D.view disk.old) (D.view disk.new) }
@@ -53,7 +54,7 @@ pub(crate) fn keep_text<L: Log, D: Disk>(
 ) -> Result<RefList, Fault>
     requires up { IsUp L.holds L.size L.keeps_body L.is_broken node.old (D.view disk.old) }
     ensures refs { IfOk result (λ refs. refs ≡ refs_of_text text.now) }
-    ensures keeps { KeepsSo L.holds L.stands L.size L.keeps_body L.is_broken node.old node.new (D.view disk.old) (D.view disk.new) (chunks_of text.now) (is_ok result) }
+    ensures keeps { KeepsSo L.holds L.stands L.size L.keeps_body L.is_broken node.old node.new (D.view disk.old) (D.view disk.new) (chunks_of text.now) (end_of result) }
     ensures unbroken { L.is_broken node.new.log ≡ true → result ≡ Err Fault.DiskFault }
     ensures altered { NoneAltered L.holds node.old (D.view disk.old) (D.view disk.new) (λ name. result ≡ Err (Fault.Altered name)) }
     ensures ran { Ran (result ≡ Err Fault.DiskFault) (D.view disk.old) (D.view disk.new) }

@@ -8,15 +8,16 @@ use Rattle.node_journal.specs.Entry.{Entry}
 use Rattle.psb_settings.specs.declared.settings.Settings.{Settings}
 use Rattle.psb_machine.specs.Machine.{Situation}
 use Rattle.psb_machine.specs.Course.{after_all}
+use Rattle.psb_machine.specs.Commands.{peer_ids}
 use Rattle.node_core.specs.declared.node.Node.{Node}
 use Rattle.node_serve.specs.Hears.{clock_of, of_turn}
-use Rattle.node_serve.specs.Spans.{no_tally, Fed}
-use Rattle.node_serve.proofs.Runs.{counts_then, hears_then, clock_of-append, fed_none, fed_then, fed_as, uncounted}
+use Rattle.node_serve.specs.Spans.{no_tally, Fed, FedBy}
+use Rattle.node_serve.proofs.Runs.{counts_then, hears_then, clock_of-append, fed_none, fed_then, fed_as, uncounted, by_whole, by_then, by_as}
 use Rattle.snapshot_restore.specs.Answers.{answers, listed}
 use Rattle.snapshot_restore.specs.Course.{all_of, round_steps, fetch_steps}
 use Rattle.snapshot_restore.specs.Taken.{NoneOpens, AreWhole, last_of}
 use Rattle.snapshot_restore.specs.Faults.{IsOfTurn}
-use Rattle.snapshot_restore.specs.Fetching.{Begins, Runs, MakesRound, StopsRound, Awaits, SpendsAll, BringsNone, StopsAwaiting}
+use Rattle.snapshot_restore.specs.Fetching.{Begins, Runs, MakesRound, EndsIn, StopsRound, Awaits, SpendsAll, TellsLast, StopsAwaiting}
 use Rattle.snapshot_restore.specs.declared.fault.RestoreFault.{RestoreFault}
 use Rattle.snapshot_restore.specs.declared.fault.RestoreFault.TheVariants as restore_fault
 use Rattle.snapshot_restore.specs.declared.waiting.Waiting.{Waiting}
@@ -35,25 +36,25 @@ runs_then w0 w1 w2 v0 v1 v2 a b r s = record {
 }
 
 -- a fault of a turn is none of a place
-not_spent : (turns : ℕ) (name : List ℕ) (rounds : List (List Heard)) (e : RestoreFault) → IsOfTurn e → SpendsAll turns name rounds e
-not_spent turns name rounds (restore_fault.Node f) is = tt
-not_spent turns name rounds restore_fault.Link is = tt
-not_spent turns name rounds restore_fault.Folder is = tt
-not_spent turns name rounds restore_fault.NotEmpty is = tt
-not_spent turns name rounds (restore_fault.Missing n) is = absurd is
-not_spent turns name rounds (restore_fault.Altered n got) is = absurd is
-not_spent turns name rounds (restore_fault.BadSkeleton f place) is = tt
-not_spent turns name rounds restore_fault.Memory is = tt
+cut_short : (turns : ℕ) (name : List ℕ) (made : ℕ) (part : List (List Heard)) (ok : Bool) (e : RestoreFault) → IsOfTurn e → made < turns → EndsIn e part ok → SpendsAll turns name made part ok e
+cut_short turns name made part ok (restore_fault.Node f) is soon ends = (soon, ends)
+cut_short turns name made part ok restore_fault.Link is soon ends = (soon, ends)
+cut_short turns name made part ok restore_fault.Folder is soon ends = absurd is
+cut_short turns name made part ok restore_fault.NotEmpty is soon ends = absurd is
+cut_short turns name made part ok (restore_fault.Missing n) is soon ends = absurd is
+cut_short turns name made part ok (restore_fault.Altered n got) is soon ends = absurd is
+cut_short turns name made part ok (restore_fault.BadSkeleton f place) is soon ends = absurd is
+cut_short turns name made part ok restore_fault.Memory is soon ends = (soon, ends)
 
-not_in_vain : (st : Settings) (r : Ref) (rounds : List (List Heard)) (e : RestoreFault) (ok : Bool) → IsOfTurn e → BringsNone st r rounds e ok
-not_in_vain st r rounds (restore_fault.Node f) ok is = tt
-not_in_vain st r rounds restore_fault.Link ok is = tt
-not_in_vain st r rounds restore_fault.Folder ok is = tt
-not_in_vain st r rounds restore_fault.NotEmpty ok is = tt
-not_in_vain st r rounds (restore_fault.Missing n) ok is = absurd is
-not_in_vain st r rounds (restore_fault.Altered n got) ok is = absurd is
-not_in_vain st r rounds (restore_fault.BadSkeleton f place) ok is = tt
-not_in_vain st r rounds restore_fault.Memory ok is = tt
+tells_none : (came : List (List ℕ)) (e : RestoreFault) → IsOfTurn e → TellsLast came e
+tells_none came (restore_fault.Node f) is = tt
+tells_none came restore_fault.Link is = tt
+tells_none came restore_fault.Folder is = tt
+tells_none came restore_fault.NotEmpty is = tt
+tells_none came (restore_fault.Missing n) is = absurd is
+tells_none came (restore_fault.Altered n got) is = absurd is
+tells_none came (restore_fault.BadSkeleton f place) is = tt
+tells_none came restore_fault.Memory is = tt
 
 -- so many turns were made, and no body that opens came; this one came last, if one did
 pub record Listens {L : Type 0} (holds : L → List Entry → List ℕ → Type 0) (stands : List Entry → List ℕ → Type 0) (broken : L → Bool) (w0 w1 : Waiting) (n0 n1 : Node L) (v0 v1 : View) (r : Ref) (i : ℕ) (last : Option (List ℕ)) : Type 0 where
@@ -169,41 +170,72 @@ module _ {L : Type 0} (holds : L → List Entry → List ℕ → Type 0) (stands
                 whole = l.whole;
                 others = subst (NoneOpens r) (sym f.1) l.others;
                 brings = g.1 ∙ ap listed m.is.1;
+                opens_it = m.is.2;
               },
             );
       }
 
   -- a turn that failed
-  pub awaiting_stopped : (w0 w1 w2 : Waiting) (n0 n1 n2 : Node L) (v0 v1 v2 : View) (r : Ref) (i : ℕ) (last : Option (List ℕ)) (e : RestoreFault) → IsOfTurn e → Listens holds stands broken w0 w1 n0 n1 v0 v1 r i last
+  by_more : (w0 w1 : Waiting) (n0 n1 n2 : Node L) (v0 v1 v2 : View) (r : Ref) (i : ℕ) (last : Option (List ℕ)) (part : List (List Heard)) (n : Situation) (st : Settings) (ok : Bool) → (l : Listens holds stands broken w0 w1 n0 n1 v0 v1 r i last)
+      → (f : Fed holds stands broken n0 n1 v0 v1 n (fetch_steps st r.name w0.clock 0 l.rounds) None true) → FedBy holds stands broken n1 n2 v1 v2 (after_all n f.done) (peer_ids st) w1.clock (all_of part) (fetch_steps st r.name w1.clock i part) None ok
+      → FedBy holds stands broken n0 n2 v0 v2 n (peer_ids st) w0.clock (all_of (l.rounds ++ part)) (fetch_steps st r.name w0.clock 0 (l.rounds ++ part)) None ok
+  by_more w0 w1 n0 n1 n2 v0 v1 v2 r i last part n st ok l f g =
+      let count : i ≡ 0 + length l.rounds = omega (arith, l.many) in
+      let first = fetch_steps st r.name w0.clock 0 l.rounds in
+      let mid = clock_of w0.clock (all_of l.rounds) in
+      let steps = fetch_steps st r.name w0.clock 0 (l.rounds ++ part) in
+      subst (λ (h : List Heard). FedBy holds stands broken n0 n2 v0 v2 n (peer_ids st) w0.clock h steps None ok) (sym (all_of-append l.rounds part))
+      (by_as holds stands broken law n0 n2 v0 v2 n (peer_ids st) w0.clock (all_of l.rounds ++ all_of part) (first ++ fetch_steps st r.name mid i part) steps None ok
+      (ap (λ (k : ℕ). first ++ fetch_steps st r.name mid k part) count ∙ sym (fetch_steps-append st r.name w0.clock 0 l.rounds part))
+      (by_then holds stands broken law n0 n1 n2 v0 v1 v2 n (peer_ids st) w0.clock (all_of l.rounds) (all_of part) first (fetch_steps st r.name mid i part) None None ok f
+      (subst (λ (c : ℕ). FedBy holds stands broken n1 n2 v1 v2 (after_all n f.done) (peer_ids st) c (all_of part) (fetch_steps st r.name c i part) None ok) l.run.clock_is g)))
+
+  pub awaiting_stopped : (w0 w1 w2 : Waiting) (n0 n1 n2 : Node L) (v0 v1 v2 : View) (r : Ref) (i : ℕ) (last : Option (List ℕ)) (e : RestoreFault) → i < w0.turns → IsOfTurn e → Listens holds stands broken w0 w1 n0 n1 v0 v1 r i last
       → StopsRound holds stands broken w1 w2 n1 n2 v1 v2 r i e → StopsAwaiting holds stands broken w0 w2 n0 n2 v0 v2 r e
-  awaiting_stopped w0 w1 w2 n0 n1 n2 v0 v1 v2 r i last e of_turn_ l s =
-      let rounds = l.rounds ++ s.rounds in
+  awaiting_stopped w0 w1 w2 n0 n1 n2 v0 v1 v2 r i last e soon of_turn_ l s =
+      let rounds = l.rounds ++ s.part in
       record {
-        rounds = rounds;
-        run = runs_as w0 w2 v0 v2 (all_of l.rounds ++ all_of s.rounds) (all_of rounds) (sym (all_of-append l.rounds s.rounds)) (runs_then w0 w1 w2 v0 v1 v2 (all_of l.rounds) (all_of s.rounds) l.run s.run);
+        front = l.rounds;
+        part = s.part;
+        ok = s.ok;
+        run = runs_as w0 w2 v0 v2 (all_of l.rounds ++ all_of s.part) (all_of rounds) (sym (all_of-append l.rounds s.part)) (runs_then w0 w1 w2 v0 v1 v2 (all_of l.rounds) (all_of s.part) l.run s.run);
         unbroken = s.unbroken;
-        spends = not_spent w0.turns r.name rounds e of_turn_;
+        whole = l.whole;
+        spends = cut_short w0.turns r.name (length l.rounds) s.part s.ok e of_turn_ (omega (arith, soon, l.many)) s.ends;
         fed = λ told n st begins.
             let f = l.fed (s.run.tells told) n st begins in
             let g = s.fed told (after_all n f.0.done) st (next_begins w0 w1 n0 n1 v0 v1 r i last n st l begins f.0) in
-            (g.0, fed_more w0 w1 w2 n0 n1 n2 v0 v1 v2 r i last s.rounds n st g.0 l f.0 g.1, not_in_vain st r rounds e g.0 of_turn_);
+            (by_more w0 w1 n0 n1 n2 v0 v1 v2 r i last s.part n st s.ok l f.0 g, subst (NoneOpens r) (sym f.1) l.others, tells_none (answers st r.name (all_of l.rounds)) e of_turn_);
       }
 
   -- all turns were made
+  by_all : (w0 w1 : Waiting) (n0 n1 : Node L) (v0 v1 : View) (r : Ref) (i : ℕ) (last : Option (List ℕ)) (n : Situation) (st : Settings) → (l : Listens holds stands broken w0 w1 n0 n1 v0 v1 r i last)
+      → Fed holds stands broken n0 n1 v0 v1 n (fetch_steps st r.name w0.clock 0 l.rounds) None true
+      → FedBy holds stands broken n0 n1 v0 v1 n (peer_ids st) w0.clock (all_of (l.rounds ++ [])) (fetch_steps st r.name w0.clock 0 (l.rounds ++ [])) None true
+  by_all w0 w1 n0 n1 v0 v1 r i last n st l f =
+      by_whole holds stands broken law n0 n1 v0 v1 n (peer_ids st) w0.clock (all_of (l.rounds ++ [])) (fetch_steps st r.name w0.clock 0 (l.rounds ++ [])) None
+      (fed_as holds stands broken law n0 n1 v0 v1 n (fetch_steps st r.name w0.clock 0 l.rounds) (fetch_steps st r.name w0.clock 0 (l.rounds ++ [])) None true (ap (fetch_steps st r.name w0.clock 0) (sym (append-nil l.rounds))) f)
+
   pub awaited_nothing : (w0 w1 : Waiting) (n0 n1 : Node L) (v0 v1 : View) (r : Ref) (i : ℕ) → i ≡ w0.turns → Listens holds stands broken w0 w1 n0 n1 v0 v1 r i None → StopsAwaiting holds stands broken w0 w1 n0 n1 v0 v1 r (restore_fault.Missing r.name)
   awaited_nothing w0 w1 n0 n1 v0 v1 r i all l = record {
-    rounds = l.rounds;
-    run = l.run;
+    front = l.rounds;
+    part = [];
+    ok = true;
+    run = runs_as w0 w1 v0 v1 (all_of l.rounds) (all_of (l.rounds ++ [])) (ap all_of (sym (append-nil l.rounds))) l.run;
     unbroken = λ broke. absurd (cc (broke, l.sound));
-    spends = (refl, record { many = l.many ∙ all; whole = l.whole });
-    fed = λ told n st begins. let f = l.fed told n st begins in (true, f.0, (refl, subst (NoneOpens r) (sym f.1) l.others, ap last_of f.1 ∙ l.last_is));
+    whole = l.whole;
+    spends = (refl, l.many ∙ all, refl, refl);
+    fed = λ told n st begins. let f = l.fed told n st begins in (by_all w0 w1 n0 n1 v0 v1 r i None n st l f.0, subst (NoneOpens r) (sym f.1) l.others, ap last_of f.1 ∙ l.last_is);
   }
 
   pub awaited_others : (w0 w1 : Waiting) (n0 n1 : Node L) (v0 v1 : View) (r : Ref) (i : ℕ) (got : List ℕ) → i ≡ w0.turns → Listens holds stands broken w0 w1 n0 n1 v0 v1 r i (Some got) → StopsAwaiting holds stands broken w0 w1 n0 n1 v0 v1 r (restore_fault.Altered r.name got)
   awaited_others w0 w1 n0 n1 v0 v1 r i got all l = record {
-    rounds = l.rounds;
-    run = l.run;
+    front = l.rounds;
+    part = [];
+    ok = true;
+    run = runs_as w0 w1 v0 v1 (all_of l.rounds) (all_of (l.rounds ++ [])) (ap all_of (sym (append-nil l.rounds))) l.run;
     unbroken = λ broke. absurd (cc (broke, l.sound));
-    spends = (refl, record { many = l.many ∙ all; whole = l.whole });
-    fed = λ told n st begins. let f = l.fed told n st begins in (true, f.0, (refl, subst (NoneOpens r) (sym f.1) l.others, ap last_of f.1 ∙ l.last_is));
+    whole = l.whole;
+    spends = (refl, l.many ∙ all, refl, refl);
+    fed = λ told n st begins. let f = l.fed told n st begins in (by_all w0 w1 n0 n1 v0 v1 r i (Some got) n st l f.0, subst (NoneOpens r) (sym f.1) l.others, ap last_of f.1 ∙ l.last_is);
   }

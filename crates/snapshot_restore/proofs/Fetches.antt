@@ -1,5 +1,5 @@
 -- The body of one place.
-use Rattle.std.proofs.Common.{◌≡◌, inl, inr, ℕ, Bool, true, false, List, [], ◌∷◌, ◌++◌, Some, None, refl, sym, ◌∙◌, ap, subst, arith}
+use Rattle.std.proofs.Common.{◌≡◌, inl, inr, ⊎_elim, ℕ, ◌<◌, ◌≤◌, Bool, true, false, List, [], ◌∷◌, ◌++◌, length, Option, Some, None, refl, sym, ◌∙◌, ap, subst, arith}
 use Rattle.std.proofs.lemmas.Bool.{false≢true}
 use Rattle.std.proofs.lemmas.List.{append-nil}
 use Rattle.psb_bytes.specs.declared.ids.Ref.{Ref}
@@ -11,17 +11,19 @@ use Rattle.node_journal.specs.Entry.{Entry}
 use Rattle.psb_settings.specs.declared.settings.Settings.{Settings}
 use Rattle.psb_machine.specs.Machine.{Situation}
 use Rattle.psb_machine.specs.Course.{after_all}
+use Rattle.psb_machine.specs.Commands.{peer_ids}
 use Rattle.node_core.specs.declared.node.Node.{Node}
 use Rattle.node_serve.specs.Sends.{ToldMore}
-use Rattle.node_serve.specs.Spans.{IsPrefixSoon, Fed}
+use Rattle.node_serve.specs.Spans.{IsPrefixSoon, Fed, FedBy}
 use Rattle.node_core.proofs.Reopened.{stored_at, stored_reopens}
 use Rattle.node_serve.proofs.Prefixes.{whole, whole_has_all}
-use Rattle.node_serve.proofs.Runs.{fed_then, fed_as}
+use Rattle.node_serve.proofs.Runs.{fed_then, fed_as, by_whole, by_then, by_as}
 use Rattle.node_serve.proofs.Tries.{told_none, sent_none}
+use Rattle.snapshot_restore.specs.Answers.{answers}
 use Rattle.snapshot_restore.specs.Course.{Fetch, all_of, fetch_steps}
-use Rattle.snapshot_restore.specs.Taken.{Taken, NoneOwn}
-use Rattle.snapshot_restore.specs.Faults.{IsOfTurn}
-use Rattle.snapshot_restore.specs.Fetching.{Begins, Runs, IsOwn, Awaits, SpendsAll, BringsNone, StopsAwaiting, Takes, Spends, IsInVain, Stops}
+use Rattle.snapshot_restore.specs.Taken.{Taken, NoneOwn, NoneOpens, AreWhole, last_of}
+use Rattle.snapshot_restore.specs.Faults.{IsOfRead, IsOfPlace}
+use Rattle.snapshot_restore.specs.Fetching.{Begins, Runs, IsOwn, Awaits, EndsIn, SpendsAll, TellsLast, StopsAwaiting, Takes, IsSpentOn, IsCutOn, Spends, IsVainOn, IsVainSoFar, IsInVain, Stops}
 use Rattle.snapshot_restore.specs.declared.fault.RestoreFault.{RestoreFault}
 use Rattle.snapshot_restore.specs.declared.fault.RestoreFault.TheVariants as restore_fault
 use Rattle.snapshot_restore.specs.declared.waiting.Waiting.{Waiting}
@@ -47,48 +49,106 @@ runs_kept w v0 v1 k =
 
 -- ---- no body
 
-not_spent : (turns : ℕ) (next : List Ref) (last : List Fetch) (e : RestoreFault) → IsOfTurn e → Spends turns next last e
-not_spent turns next last (restore_fault.Node f) is = tt
-not_spent turns next last restore_fault.Link is = tt
-not_spent turns next last restore_fault.Folder is = tt
-not_spent turns next last restore_fault.NotEmpty is = tt
-not_spent turns next last (restore_fault.Missing n) is = absurd is
-not_spent turns next last (restore_fault.Altered n got) is = absurd is
-not_spent turns next last (restore_fault.BadSkeleton f place) is = tt
-not_spent turns next last restore_fault.Memory is = tt
+-- the node's own body was not read, and nothing was asked for
+read_spends : (turns : ℕ) (next : List Ref) (e : RestoreFault) → IsOfRead e → Spends turns next [] true e
+read_spends turns next (restore_fault.Node f) is = inl (refl, refl)
+read_spends turns next restore_fault.Link is = absurd is
+read_spends turns next restore_fault.Folder is = absurd is
+read_spends turns next restore_fault.NotEmpty is = absurd is
+read_spends turns next (restore_fault.Missing n) is = absurd is
+read_spends turns next (restore_fault.Altered n got) is = absurd is
+read_spends turns next (restore_fault.BadSkeleton f place) is = absurd is
+read_spends turns next restore_fault.Memory is = inl (refl, refl)
 
-not_in_vain : (st : Settings) (n : Situation) (next : List Ref) (last : List Fetch) (e : RestoreFault) (ok : Bool) → IsOfTurn e → IsInVain st n next last e ok
-not_in_vain st n next last (restore_fault.Node f) ok is = tt
-not_in_vain st n next last restore_fault.Link ok is = tt
-not_in_vain st n next last restore_fault.Folder ok is = tt
-not_in_vain st n next last restore_fault.NotEmpty ok is = tt
-not_in_vain st n next last (restore_fault.Missing m) ok is = absurd is
-not_in_vain st n next last (restore_fault.Altered m got) ok is = absurd is
-not_in_vain st n next last (restore_fault.BadSkeleton f place) ok is = tt
-not_in_vain st n next last restore_fault.Memory ok is = tt
+read_in_vain : (st : Settings) (n : Situation) (next : List Ref) (e : RestoreFault) → IsOfRead e → IsInVain st n next [] e
+read_in_vain st n next (restore_fault.Node f) is = inl refl
+read_in_vain st n next restore_fault.Link is = absurd is
+read_in_vain st n next restore_fault.Folder is = absurd is
+read_in_vain st n next restore_fault.NotEmpty is = absurd is
+read_in_vain st n next (restore_fault.Missing m) is = absurd is
+read_in_vain st n next (restore_fault.Altered m got) is = absurd is
+read_in_vain st n next (restore_fault.BadSkeleton f place) is = absurd is
+read_in_vain st n next restore_fault.Memory is = inl refl
+
+pub read_of_place : (e : RestoreFault) → IsOfRead e → IsOfPlace e
+read_of_place (restore_fault.Node f) is = is
+read_of_place restore_fault.Link is = absurd is
+read_of_place restore_fault.Folder is = absurd is
+read_of_place restore_fault.NotEmpty is = absurd is
+read_of_place (restore_fault.Missing n) is = absurd is
+read_of_place (restore_fault.Altered n got) is = absurd is
+read_of_place (restore_fault.BadSkeleton f place) is = absurd is
+read_of_place restore_fault.Memory is = tt
 
 abbrev asked_for : Ref → List (List Heard) → List Fetch
 asked_for r rounds = record { name = r.name; rounds = rounds } ∷ []
 
-spent_on : (turns : ℕ) (r : Ref) (rounds : List (List Heard)) (e : RestoreFault) → SpendsAll turns r.name rounds e → Spends turns (r ∷ []) (asked_for r rounds) e
-spent_on turns r rounds (restore_fault.Node f) is = tt
-spent_on turns r rounds restore_fault.Link is = tt
-spent_on turns r rounds restore_fault.Folder is = tt
-spent_on turns r rounds restore_fault.NotEmpty is = tt
-spent_on turns r rounds (restore_fault.Missing n) is = record { r = r; more = []; rounds = rounds; next_is = refl; name_is = is.0; last_is = ap (λ (m : List ℕ). let f : Fetch = record { name = m; rounds = rounds } in f ∷ []) (sym is.0); spent = is.1 }
-spent_on turns r rounds (restore_fault.Altered n got) is = record { r = r; more = []; rounds = rounds; next_is = refl; name_is = is.0; last_is = ap (λ (m : List ℕ). let f : Fetch = record { name = m; rounds = rounds } in f ∷ []) (sym is.0); spent = is.1 }
-spent_on turns r rounds (restore_fault.BadSkeleton f place) is = tt
-spent_on turns r rounds restore_fault.Memory is = tt
+-- all turns were made
+all_made : (front part : List (List Heard)) → part ≡ [] → front ++ part ≡ front
+all_made front part none = ap (λ (l : List (List Heard)). front ++ l) none ∙ append-nil front
 
-in_vain_on : (st : Settings) (n : Situation) (r : Ref) (rounds : List (List Heard)) (e : RestoreFault) (ok : Bool) → NoneOwn n.history r → BringsNone st r rounds e ok → IsInVain st n (r ∷ []) (asked_for r rounds) e ok
-in_vain_on st n r rounds (restore_fault.Node f) ok none is = tt
-in_vain_on st n r rounds restore_fault.Link ok none is = tt
-in_vain_on st n r rounds restore_fault.Folder ok none is = tt
-in_vain_on st n r rounds restore_fault.NotEmpty ok none is = tt
-in_vain_on st n r rounds (restore_fault.Missing m) ok none is = record { r = r; more = []; rounds = rounds; next_is = refl; last_is = refl; vain = record { none = none; others = is.1; last_is = is.2 }; all_done = is.0 }
-in_vain_on st n r rounds (restore_fault.Altered m got) ok none is = record { r = r; more = []; rounds = rounds; next_is = refl; last_is = refl; vain = record { none = none; others = is.1; last_is = is.2 }; all_done = is.0 }
-in_vain_on st n r rounds (restore_fault.BadSkeleton f place) ok none is = tt
-in_vain_on st n r rounds restore_fault.Memory ok none is = tt
+all_spent : (turns : ℕ) (name : List ℕ) (r : Ref) (front part : List (List Heard)) (ok : Bool) → AreWhole front → (name ≡ r.name) × (length front ≡ turns) × (part ≡ []) × (ok ≡ true) → IsSpentOn turns name (r ∷ []) (asked_for r (front ++ part)) ok
+all_spent turns name r front part ok whole is =
+    let same = all_made front part is.2 in
+    record {
+      r = r;
+      more = [];
+      rounds = front ++ part;
+      next_is = refl;
+      name_is = is.0;
+      last_is = ap (λ (m : List ℕ). let f : Fetch = record { name = m; rounds = front ++ part } in f ∷ []) (sym is.0);
+      spent = record { many = ap (λ (l : List (List Heard)). length l) same ∙ is.1; whole = subst AreWhole (sym same) whole };
+      all_fed = is.3;
+    }
+
+cut_on : (turns : ℕ) (r : Ref) (front part : List (List Heard)) (ok : Bool) (e : RestoreFault) → AreWhole front → (length front < turns) × EndsIn e part ok → IsCutOn turns (r ∷ []) (asked_for r (front ++ part)) ok e
+cut_on turns r front part ok e whole is = record { r = r; more = []; front = front; part = part; next_is = refl; last_is = refl; soon = is.0; whole = whole; ends = is.1 }
+
+spent_on : (turns : ℕ) (r : Ref) (front part : List (List Heard)) (ok : Bool) (e : RestoreFault) → IsOfPlace e → AreWhole front → SpendsAll turns r.name (length front) part ok e → Spends turns (r ∷ []) (asked_for r (front ++ part)) ok e
+spent_on turns r front part ok (restore_fault.Node f) of_place whole is = inr (cut_on turns r front part ok (restore_fault.Node f) whole is)
+spent_on turns r front part ok restore_fault.Link of_place whole is = cut_on turns r front part ok restore_fault.Link whole is
+spent_on turns r front part ok restore_fault.Folder of_place whole is = absurd of_place
+spent_on turns r front part ok restore_fault.NotEmpty of_place whole is = absurd of_place
+spent_on turns r front part ok (restore_fault.Missing n) of_place whole is = all_spent turns n r front part ok whole is
+spent_on turns r front part ok (restore_fault.Altered n got) of_place whole is = all_spent turns n r front part ok whole is
+spent_on turns r front part ok (restore_fault.BadSkeleton f place) of_place whole is = absurd of_place
+spent_on turns r front part ok restore_fault.Memory of_place whole is = inr (cut_on turns r front part ok restore_fault.Memory whole is)
+
+one_part : (e : RestoreFault) (part : List (List Heard)) (ok : Bool) → EndsIn e part ok → length part ≤ 1
+one_part e part ok ends =
+    ⊎_elim (λ some. omega (arith, ap (λ (l : List (List Heard)). length l) some.1)) (λ none. omega (arith, ap (λ (l : List (List Heard)). length l) none.1)) ends
+
+all_vain : (st : Settings) (n : Situation) (r : Ref) (front part : List (List Heard)) (got : Option (List ℕ)) → NoneOwn n.history r → NoneOpens r (answers st r.name (all_of front)) → last_of (answers st r.name (all_of front)) ≡ got → part ≡ []
+    → IsVainOn st n (r ∷ []) (asked_for r (front ++ part)) got
+all_vain st n r front part got none others last empty =
+    let same : front ≡ front ++ part = sym (all_made front part empty) in
+    record {
+      r = r;
+      more = [];
+      rounds = front ++ part;
+      next_is = refl;
+      last_is = refl;
+      vain = record {
+        none = none;
+        others = subst (λ (l : List (List Heard)). NoneOpens r (answers st r.name (all_of l))) same others;
+        last_is = subst (λ (l : List (List Heard)). last_of (answers st r.name (all_of l)) ≡ got) same last;
+      };
+    }
+
+vain_so_far : (st : Settings) (n : Situation) (r : Ref) (front part : List (List Heard)) (ok : Bool) (e : RestoreFault) → NoneOwn n.history r → NoneOpens r (answers st r.name (all_of front)) → EndsIn e part ok
+    → IsVainSoFar st n (r ∷ []) (asked_for r (front ++ part))
+vain_so_far st n r front part ok e none others ends = record { r = r; more = []; front = front; part = part; next_is = refl; last_is = refl; one = one_part e part ok ends; none = none; others = others }
+
+in_vain_on : (turns : ℕ) (st : Settings) (n : Situation) (r : Ref) (front part : List (List Heard)) (ok : Bool) (e : RestoreFault) → NoneOwn n.history r → NoneOpens r (answers st r.name (all_of front)) → TellsLast (answers st r.name (all_of front)) e
+    → SpendsAll turns r.name (length front) part ok e → IsInVain st n (r ∷ []) (asked_for r (front ++ part)) e
+in_vain_on turns st n r front part ok (restore_fault.Node f) none others tells is = inr (vain_so_far st n r front part ok (restore_fault.Node f) none others is.1)
+in_vain_on turns st n r front part ok restore_fault.Link none others tells is = vain_so_far st n r front part ok restore_fault.Link none others is.1
+in_vain_on turns st n r front part ok restore_fault.Folder none others tells is = tt
+in_vain_on turns st n r front part ok restore_fault.NotEmpty none others tells is = tt
+in_vain_on turns st n r front part ok (restore_fault.Missing m) none others tells is = all_vain st n r front part None none others tells is.2
+in_vain_on turns st n r front part ok (restore_fault.Altered m got) none others tells is = all_vain st n r front part (Some got) none others tells is.2
+in_vain_on turns st n r front part ok (restore_fault.BadSkeleton f place) none others tells is = tt
+in_vain_on turns st n r front part ok restore_fault.Memory none others tells is = inr (vain_so_far st n r front part ok restore_fault.Memory none others is.1)
 
 -- ---- the place
 
@@ -113,6 +173,7 @@ module _ {L : Type 0} (holds : L → List Entry → List ℕ → Type 0) (stands
         ends = λ c left. whole_has_all stands n [] c (reopens c (k.images c left));
         told = subst (λ (t : ℕ). ToldMore v0.told t 0) (sym k.works.told) (told_none v0.told);
         lost = 0;
+        tried = grows_same v0.outside.tried v1.outside.tried (ap (λ (o : Outside). o.tried) out);
         sent = ([], sent_none, grows_same v0.outside.sent v1.outside.sent (ap (λ (o : Outside). o.sent) out));
         lost_cause = omega (arith, ap (λ (o : Outside). o.send_faults) out);
         said = grows_same v0.outside.said v1.outside.said (ap (λ (o : Outside). o.said) out);
@@ -169,35 +230,43 @@ module _ {L : Type 0} (holds : L → List Entry → List ℕ → Type 0) (stands
       )
 
   -- the node's own body was not read
-  pub own_stopped : (w : Waiting) (node : Node L) (v0 v1 : View) (r : Ref) (e : RestoreFault) → broken node.log ≡ false → Keeps v0 v1 → IsOfTurn e → Stops holds stands broken w w node node v0 v1 [] (r ∷ []) e
+  pub own_stopped : (w : Waiting) (node : Node L) (v0 v1 : View) (r : Ref) (e : RestoreFault) → broken node.log ≡ false → Keeps v0 v1 → IsOfRead e → Stops holds stands broken w w node node v0 v1 [] (r ∷ []) e
   own_stopped w node v0 v1 r e sound k is = record {
     last = [];
+    ok = true;
     run = runs_kept w v0 v1 k;
     unbroken = λ broke. absurd (false≢true (sym sound ∙ broke));
     open_all = tt;
-    spends = not_spent w.turns (r ∷ []) [] e is;
-    all = λ told n st begins. record { ok = true; fed = fed_look node v0 v1 n st w.peers k told begins; taken = tt; in_vain = not_in_vain st n (r ∷ []) [] e true is };
+    spends = read_spends w.turns (r ∷ []) e is;
+    all = λ told n st begins. record {
+      fed = by_whole holds stands broken law node node v0 v1 n (peer_ids st) w.clock [] [] None (fed_look node v0 v1 n st w.peers k told begins);
+      taken = tt;
+      in_vain = read_in_vain st n (r ∷ []) e is;
+    };
   }
 
-  pub awaited_stopped : (w0 w1 : Waiting) (n0 n1 : Node L) (v0 v1 v2 : View) (r : Ref) (e : RestoreFault) → broken n0.log ≡ false → Keeps v0 v1 → IsOwn holds n0 v0 v1 r None
+  pub awaited_stopped : (w0 w1 : Waiting) (n0 n1 : Node L) (v0 v1 v2 : View) (r : Ref) (e : RestoreFault) → broken n0.log ≡ false → IsOfPlace e → Keeps v0 v1 → IsOwn holds n0 v0 v1 r None
       → StopsAwaiting holds stands broken w0 w1 n0 n1 v1 v2 r e → Stops holds stands broken w0 w1 n0 n1 v0 v2 [] (r ∷ []) e
-  awaited_stopped w0 w1 n0 n1 v0 v1 v2 r e sound k o s =
-      let heard = all_of s.rounds in
+  awaited_stopped w0 w1 n0 n1 v0 v1 v2 r e sound of_place k o s =
+      let rounds = s.front ++ s.part in
+      let heard = all_of rounds in
       record {
-        last = asked_for r s.rounds;
+        last = asked_for r rounds;
+        ok = s.ok;
         run = runs_as w0 w1 v0 v2 heard (heard ++ []) (sym (append-nil heard)) (runs_then w0 w0 w1 v0 v1 v2 [] heard (runs_kept w0 v0 v1 k) s.run);
         unbroken = s.unbroken;
         open_all = tt;
-        spends = spent_on w0.turns r s.rounds e s.spends;
+        spends = spent_on w0.turns r s.front s.part s.ok e of_place s.whole s.spends;
         all = λ told n st begins.
             let mid = s.run.tells told in
             let first = looked_begins w0 n0 v0 v1 n st sound k mid begins in
             let then_ = s.fed told (after_all n first.0.done) st first.1 in
-            let steps = fetch_steps st r.name w0.clock 0 s.rounds in
+            let steps = fetch_steps st r.name w0.clock 0 rounds in
             record {
-              ok = then_.0;
-              fed = fed_as holds stands broken law n0 n1 v0 v2 n steps (steps ++ []) None then_.0 (sym (append-nil steps)) (fed_then holds stands broken law n0 n0 n1 v0 v1 v2 n [] steps None None then_.0 first.0 then_.1);
+              fed = subst (λ (l : List Heard). FedBy holds stands broken n0 n1 v0 v2 n (peer_ids st) w0.clock l (steps ++ []) None s.ok) (sym (append-nil heard))
+                  (by_as holds stands broken law n0 n1 v0 v2 n (peer_ids st) w0.clock heard steps (steps ++ []) None s.ok (sym (append-nil steps))
+                  (by_then holds stands broken law n0 n0 n1 v0 v1 v2 n (peer_ids st) w0.clock [] heard [] steps None None s.ok first.0 then_.0));
               taken = tt;
-              in_vain = in_vain_on st n r s.rounds e then_.0 ((o.own mid n begins.knows begins.stored).1 refl) then_.2;
+              in_vain = in_vain_on w0.turns st n r s.front s.part s.ok e ((o.own mid n begins.knows begins.stored).1 refl) then_.1 then_.2 s.spends;
             };
       }

@@ -44,7 +44,7 @@ front_got front behind refs are o =
     (got_more (taken_uses front) (taken_uses behind) refs (taken_text front) (refs_got front refs are (open_front front behind o)))
 
 text_got : (levels : ℕ) (refs : List Ref) (ts : List Taken) (text : List ℕ) → IsTextRead levels refs ts text → AllOpen ts → IsTextGot (taken_uses ts) levels refs text
-text_got zero refs ts text r o = subst (AreGot (taken_uses ts) refs) (sym r.1) (refs_got ts refs r.0 o)
+text_got zero refs ts text r o = subst (AreGot (taken_uses ts) refs) (sym r.1) (refs_got ts refs r.0.places o)
 text_got (suc levels) refs ts text r o =
     let front = r.0 in
     let behind = r.1 in
@@ -52,7 +52,7 @@ text_got (suc levels) refs ts text r o =
     subst (λ (l : List Taken). IsTextGot (taken_uses l) (suc levels) refs text) (sym r.3) (
       taken_text front,
       r.2,
-      front_got front behind refs r.4.places both,
+      front_got front behind refs r.4.all.places both,
       r.4.reads,
       subst (λ (l : List Use). IsTextGot l levels r.2 text) (sym (uses-append front behind))
           (text_before (taken_uses behind) (taken_uses front) levels r.2 text (text_got levels r.2 behind text r.5 (open_behind front behind both))),
@@ -105,19 +105,19 @@ got_behind pre ts refs are o = got_before (taken_uses ts) pre refs (taken_text t
 bad_behind : (pre : List Use) (levels : ℕ) (refs : List Ref) (ts : List Taken) (f : SkelFault) (place : ℕ) → IsBadText levels refs ts f place → AllOpen ts → IsBadGot (pre ++ taken_uses ts) levels refs
 bad_behind pre zero refs ts f place bad o = ⊎_elim
     (λ long. inl long.long)
-    (λ none. inr (taken_text ts, record { fault = f; place = place }, got_behind pre ts refs none.0 o, none.1))
+    (λ none. inr (taken_text ts, record { fault = f; place = place }, got_behind pre ts refs none.0.places o, none.1))
     bad
 bad_behind pre (suc levels) refs ts f place bad o = ⊎_elim
     (λ long. inl long.long)
     (λ rest. ⊎_elim
-    (λ none. inr (inl (taken_text ts, record { fault = f; place = place }, got_behind pre ts refs none.0 o, none.1)))
+    (λ none. inr (inl (taken_text ts, record { fault = f; place = place }, got_behind pre ts refs none.0.places o, none.1)))
     (λ m.
     let both = subst AllOpen m.3 o in
     let uses : (pre ++ taken_uses m.0) ++ taken_uses m.1 ≡ pre ++ taken_uses ts = append_assoc pre (taken_uses m.0) (taken_uses m.1) ∙ ap (λ (l : List Use). pre ++ l) (sym (uses-append m.0 m.1)) ∙ ap (λ (l : List Taken). pre ++ taken_uses l) (sym m.3) in
     inr (inr (
       taken_text m.0,
       m.2,
-      subst (λ (l : List Use). AreGot l refs (taken_text m.0)) uses (got_more (pre ++ taken_uses m.0) (taken_uses m.1) refs (taken_text m.0) (got_behind pre m.0 refs m.4.places (open_front m.0 m.1 both))),
+      subst (λ (l : List Use). AreGot l refs (taken_text m.0)) uses (got_more (pre ++ taken_uses m.0) (taken_uses m.1) refs (taken_text m.0) (got_behind pre m.0 refs m.4.all.places (open_front m.0 m.1 both))),
       m.4.reads,
       subst (λ (l : List Use). IsBadGot l levels m.2) uses (bad_behind (pre ++ taken_uses m.0) levels m.2 m.1 f place m.5 (open_behind m.0 m.1 both)),
     )))

@@ -14,3 +14,4 @@ pub mod EntryRuns
 pub mod TreeRuns
 pub mod GotTaken
 pub mod Restores
+pub mod FewPlaces

@@ -1,5 +1,5 @@
 -- A turn, and what it brought.
-use Rattle.std.proofs.Common.{◌≡◌, ◌⊎◌, inl, inr, ℕ, Bool, true, false, List, [], ◌∷◌, ◌++◌, length, map, Option, Some, None, refl, sym, ◌∙◌, ap, subst, arith}
+use Rattle.std.proofs.Common.{◌≡◌, ◌⊎◌, inl, inr, ℕ, ◌<◌, Bool, true, false, List, [], ◌∷◌, ◌++◌, length, map, Option, Some, None, refl, sym, ◌∙◌, ap, subst, arith}
 use Rattle.std.proofs.lemmas.Bool.{false≢true}
 use Rattle.std.proofs.lemmas.List.{append-nil}
 use Rattle.psb_bytes.specs.declared.ids.Ref.{Ref}
@@ -17,15 +17,17 @@ use Rattle.psb_machine.proofs.SettingsStay.{all_stay}
 use Rattle.node_core.specs.declared.node.Node.{Node}
 use Rattle.node_core.specs.Peers.{PeersView, peers_of}
 use Rattle.node_core.specs.Stored.{Knows}
-use Rattle.node_serve.specs.Hears.{heard_of, of_turn, of_turns, steps_of, clock_of, Hears, End, Whole, is_fed}
-use Rattle.node_serve.specs.Spans.{Counts, Tally, Fed, MadeTurn}
+use Rattle.node_serve.specs.Hears.{heard_of, of_turn, of_turns, steps_of, clock_of, Hears, End, Whole, Stopped, EndsAs, is_fed}
+use Rattle.node_serve.specs.Spans.{Counts, Tally, Fed, FedBy, MadeTurn}
+use Rattle.node_serve.specs.Turns.{fault_end}
 use Rattle.node_serve.specs.declared.serving.ServeFault.{ServeFault}
 use Rattle.node_serve.specs.declared.serving.ServeFault.TheVariants as serve_fault
-use Rattle.node_serve.proofs.Runs.{uncounted}
+use Rattle.node_serve.proofs.Runs.{uncounted, by_uncounted}
 use Rattle.snapshot_restore.specs.Answers.{answer_in, answers, listed}
 use Rattle.snapshot_restore.specs.Faults.{TheDisk, failed_in, of_serving}
-use Rattle.snapshot_restore.specs.Fetching.{IsBrought, came_in, IsStill, HearsTurn, HearsPart}
+use Rattle.snapshot_restore.specs.Fetching.{IsBrought, came_in, IsStill, HearsTurn, IsFailedTurn, EndsTurn, HearsPart}
 use Rattle.snapshot_restore.specs.declared.fault.RestoreFault.{RestoreFault}
+use Rattle.snapshot_restore.specs.declared.fault.RestoreFault.TheVariants as restore_fault
 use Rattle.snapshot_restore.specs.declared.waiting.Waiting.{Waiting}
 use Rattle.snapshot_restore.specs.declared.waiting.Brought.{Brought}
 
@@ -40,6 +42,25 @@ same_one x y is = cc
 heard_answers : (st : Settings) (name : List ℕ) (o : Option (List ℕ)) (time : ℕ) → answers st name (heard_of o ∷ Clock time ∷ []) ≡ listed (came_in (peers_of st) name o)
 heard_answers st name None time = refl
 heard_answers st name (Some x) time = append-nil (listed (answer_in st name x))
+
+no_turn : (full : List Turn) → length full < 1 → full ≡ []
+no_turn [] lt = refl
+no_turn (t ∷ full) lt = absurd (omega (arith, lt))
+
+-- the turn in which an input failed is all that was heard
+failed_turn : (full : List Turn) (last : List Heard) → EndsAs Stopped (length full) 1 last → IsFailedTurn (of_turns full ++ last)
+failed_turn full last ends = subst IsFailedTurn (sym (ap (λ (l : List Turn). of_turns l ++ last) (no_turn full ends.0))) ends.1
+
+pub ends_by : (f : ServeFault) (full : List Turn) (last : List Heard) → EndsAs (fault_end f) (length full) 1 last → EndsTurn (of_serving f) (of_turns full ++ last) (is_fed (fault_end f))
+ends_by (serve_fault.Node f) full last ends = (failed_turn full last ends, refl)
+ends_by serve_fault.Link full last ends = (ap (λ (l : List Turn). of_turns l ++ last) (no_turn full ends.0) ∙ ends.1, refl)
+ends_by serve_fault.Memory full last ends = inl (failed_turn full last ends, refl)
+
+-- a whole turn, for whose body there was no memory
+pub ends_whole : (full : List Turn) (last : List Heard) → EndsAs Whole (length full) 1 last → EndsTurn restore_fault.Memory (of_turns full ++ last) true
+ends_whole full last ends =
+    let one = one_turn full ends.0 in
+    inr ((one.0, ap (λ (l : List Turn). of_turns l ++ last) one.1 ∙ ap (λ (l : List Heard). of_turns (one.0 ∷ []) ++ l) ends.1), refl)
 
 -- the peers that a node keeps are those of the settings
 pub kept_peers : {L : Type 0} (node : Node L) (n : Situation) (steps : List Step) (st : Settings) → (state n.history).settings ≡ Some st → Knows node (after_all n steps) → node.peers ≡ peers_of st
@@ -73,7 +94,7 @@ module _ {L : Type 0} (holds : L → List Entry → List ℕ → Type 0) (stands
         };
         is = is;
         fed = λ told n st begins.
-            let fed : Fed holds stands broken n0 n1 v0 v1 n (steps_of peers w0.clock (of_turns ran.full ++ ran.last)) counts true = ran.fed told n begins.knows begins.stored in
+            let fed : Fed holds stands broken n0 n1 v0 v1 n (steps_of peers w0.clock (of_turns ran.full ++ ran.last)) counts true = (ran.fed told n begins.knows begins.stored).fed in
             let bare = uncounted holds stands broken law n0 n1 v0 v1 n _ counts true fed in
             let by_turn : Fed holds stands broken n0 n1 v0 v1 n (steps_of peers w0.clock (of_turn t)) None true = subst (λ (l : List Heard). Fed holds stands broken n0 n1 v0 v1 n (steps_of peers w0.clock l) None true) heard_is bare in
             let mine : n1.peers ≡ peers_of st = kept_peers n1 n fed.done st begins.settings_are (fed.knows sound_log) in (
@@ -83,15 +104,18 @@ module _ {L : Type 0} (holds : L → List Entry → List ℕ → Type 0) (stands
       }
 
   pub hears_part : (w0 w1 : Waiting) (n0 n1 : Node L) (v0 v1 : View) (datagram : Option (List ℕ)) (counts : Option Tally) (end : End) (e : RestoreFault) (peers : List ℕ) → peers ≡ w0.peers → IsStill w0 w1 → (Tells_bytes v1 → Tells_bytes v0) → Counts v0 v1
-      → (broken n1.log ≡ true → failed_in e ≡ TheDisk) → MadeTurn holds stands broken peers w0.clock w1.clock n0 n1 v0 v1 counts end datagram → HearsPart holds stands broken w0 w1 n0 n1 v0 v1 e
-  hears_part w0 w1 n0 n1 v0 v1 datagram counts end e peers asked still tells no_fall unbroken made =
+      → (broken n1.log ≡ true → failed_in e ≡ TheDisk) → ((full : List Turn) (last : List Heard) → EndsAs end (length full) 1 last → EndsTurn e (of_turns full ++ last) (is_fed end))
+      → MadeTurn holds stands broken peers w0.clock w1.clock n0 n1 v0 v1 counts end datagram → HearsPart holds stands broken w0 w1 n0 n1 v0 v1 e
+  hears_part w0 w1 n0 n1 v0 v1 datagram counts end e peers asked still tells no_fall unbroken ends made =
       let ran = made.ran in
       let heard = of_turns ran.full ++ ran.last in
       record {
         heard = heard;
+        ok = is_fed end;
+        ends = ends ran.full ran.last ran.ended;
         run = record { hears = ran.hears; clock_is = ran.clock_is; still = still; tells = tells; counts = no_fall };
         unbroken = unbroken;
         fed = λ told n st begins.
-            let bare = uncounted holds stands broken law n0 n1 v0 v1 n _ counts (is_fed end) (ran.fed told n begins.knows begins.stored) in
-            (is_fed end, subst (λ (l : List ℕ). Fed holds stands broken n0 n1 v0 v1 n (steps_of l w0.clock heard) None (is_fed end)) (asked ∙ begins.peers_are) bare);
+            subst (λ (l : List ℕ). FedBy holds stands broken n0 n1 v0 v1 n l w0.clock heard (steps_of l w0.clock heard) None (is_fed end)) (asked ∙ begins.peers_are)
+            (by_uncounted holds stands broken law n0 n1 v0 v1 n peers w0.clock heard (steps_of peers w0.clock heard) counts (is_fed end) (ran.fed told n begins.knows begins.stored));
       }

@@ -1,5 +1,5 @@
 -- A restore, part by part.
-use Rattle.std.proofs.Common.{◌≡◌, inl, inr, ⊎_elim, ℕ, zero, suc, Bool, true, false, List, [], ◌∷◌, ◌++◌, Option, Some, IfSome, is_some, sum_by, Ok, refl, sym, ◌∙◌, ap, subst, arith}
+use Rattle.std.proofs.Common.{◌≡◌, inl, inr, ⊎_elim, ℕ, Bool, true, false, List, [], ◌∷◌, ◌++◌, Option, Some, None, IfSome, is_some, sum_by, Ok, refl, sym, ◌∙◌, ap, subst, arith}
 use Rattle.std.proofs.lemmas.Bool.{false≢true}
 use Rattle.psb_bytes.specs.declared.ids.Ref.{Ref}
 use Rattle.psb_bytes.specs.declared.ids.Ticket.{Ticket}
@@ -11,11 +11,12 @@ use Rattle.psb_settings.specs.declared.settings.Settings.{Settings}
 use Rattle.psb_model.specs.State.{State}
 use Rattle.psb_model.specs.History.{state}
 use Rattle.psb_machine.specs.Machine.{Situation}
+use Rattle.psb_machine.specs.Commands.{peer_ids}
 use Rattle.node_core.specs.declared.node.Node.{Node}
 use Rattle.node_core.specs.Stored.{Knows, Stored}
 use Rattle.node_serve.specs.Spans.{no_tally}
 use Rattle.node_serve.specs.Turns.{peers_in}
-use Rattle.node_serve.proofs.Runs.{counts_same, hears_none, fed_none, uncounted}
+use Rattle.node_serve.proofs.Runs.{counts_same, hears_none, fed_none, uncounted, by_whole}
 use Rattle.node_serve.proofs.Tries.{grows_none, grows_then}
 use Rattle.skeleton.specs.declared.entry.Entry.{Entry}
 use Rattle.skeleton.specs.Reading.{skeleton_of}
@@ -28,12 +29,12 @@ use Rattle.snapshots.proofs.GotTrees.{read_trees_are_in_place, read_trees_are_co
 use Rattle.snapshots.proofs.Written.{writings_are_trees, empty_folders_are_bare}
 use Rattle.snapshot_restore.specs.Course.{Fetch}
 use Rattle.snapshot_restore.specs.Taken.{Taken, taken_uses, AllOpen}
-use Rattle.snapshot_restore.specs.Faults.{IsOfTree, IsOfBelow}
+use Rattle.snapshot_restore.specs.Faults.{IsOfText, IsOfTree, IsOfBelow}
 use Rattle.snapshot_restore.specs.Fetching.{Begins, Takes, TakesAll, Spends, Stops, StopsAll}
-use Rattle.snapshot_restore.specs.Reading.{IsTextRead, IsInText, IsBadBy, IsTreeRead, AreNext}
+use Rattle.snapshot_restore.specs.Reading.{IsTextRead, StopsInText, IsTreeRead, AreInFiles, StopsAt}
 use Rattle.snapshot_restore.specs.StoppedTexts.{StopsLevels}
 use Rattle.snapshot_restore.specs.Written.{entries_calls, TriesFirst, WritesAll, StopsTree}
-use Rattle.snapshot_restore.specs.Restored.{HearsAll, MakesTree, RestoresBelow, CountsTree, IsRestored, Restores, IsLeft, StopsBelow, IsMetBy, IsAtOnce, StopsRestore}
+use Rattle.snapshot_restore.specs.Restored.{HearsAll, MakesTree, RestoresBelow, CountsTree, IsRestored, FoundEmpty, Restores, IsLeft, StopsBelow, IsMetBy, IsAtOnce, StopsRestore}
 use Rattle.snapshot_restore.specs.declared.fault.RestoreFault.{RestoreFault}
 use Rattle.snapshot_restore.specs.declared.fault.RestoreFault.TheVariants as restore_fault
 use Rattle.snapshot_restore.specs.declared.restoring.Restored.{Restored}
@@ -42,14 +43,6 @@ use Rattle.snapshot_restore.proofs.GotTaken.{tree_got, bad_got}
 use Rattle.snapshot_restore.proofs.Taking.{IsQuiet, quiet_spends, quiet_in_vain, takes_then, stops_behind}
 
 -- ---- before anything is read
-
--- the first places of the texts come next
-at_start : (t : Ticket) → AreNext t [] (t.reference ∷ [])
-at_start t = inl (inside t.levels (t.reference ∷ []))
-  where
-    inside : (levels : ℕ) (refs : List Ref) → IsInText levels refs [] refs
-    inside zero refs = refl
-    inside (suc levels) refs = inl refl
 
 pub writes_none : (root : List ℕ) (v : FolderView) → Writes root v v []
 writes_none root v = record { tells = λ told. told; content = λ c d is now. same_ v.content c d is now; no_fall = omega arith }
@@ -63,15 +56,26 @@ tries_none v = record { tried = []; left = []; parts = refl; grown = grows_none 
 hears_nothing : (v : View) → HearsAll v v []
 hears_nothing v = record { hears = hears_none v; tells = λ told. told; counts = counts_same v }
 
-tree_not_bad : (levels : ℕ) (refs : List Ref) (ts : List Taken) (e : RestoreFault) → IsOfTree e → IsBadBy levels refs ts e
-tree_not_bad levels refs ts (restore_fault.Node f) is = tt
-tree_not_bad levels refs ts restore_fault.Link is = tt
-tree_not_bad levels refs ts restore_fault.Folder is = tt
-tree_not_bad levels refs ts restore_fault.NotEmpty is = tt
-tree_not_bad levels refs ts (restore_fault.Missing n) is = tt
-tree_not_bad levels refs ts (restore_fault.Altered n got) is = tt
-tree_not_bad levels refs ts (restore_fault.BadSkeleton f place) is = absurd is
-tree_not_bad levels refs ts restore_fault.Memory is = tt
+-- where the texts stopped, and where the tree did
+at_text : (t : Ticket) (ts : List Taken) (next : List Ref) (e : RestoreFault) → IsOfText e → StopsInText t.levels (t.reference ∷ []) ts next e → StopsAt t ts next e
+at_text t ts next (restore_fault.Node f) is here = inl here
+at_text t ts next restore_fault.Link is here = inl here
+at_text t ts next restore_fault.Folder is here = absurd is
+at_text t ts next restore_fault.NotEmpty is here = absurd is
+at_text t ts next (restore_fault.Missing n) is here = inl here
+at_text t ts next (restore_fault.Altered n got) is here = inl here
+at_text t ts next (restore_fault.BadSkeleton f place) is here = here
+at_text t ts next restore_fault.Memory is here = inr (inl here)
+
+at_tree : (t : Ticket) (ts : List Taken) (next : List Ref) (e : RestoreFault) → IsOfTree e → AreInFiles t ts next → StopsAt t ts next e
+at_tree t ts next (restore_fault.Node f) is here = inr here
+at_tree t ts next restore_fault.Link is here = inr here
+at_tree t ts next restore_fault.Folder is here = inr here
+at_tree t ts next restore_fault.NotEmpty is here = absurd is
+at_tree t ts next (restore_fault.Missing n) is here = inr here
+at_tree t ts next (restore_fault.Altered n got) is here = inr here
+at_tree t ts next (restore_fault.BadSkeleton f place) is here = absurd is
+at_tree t ts next restore_fault.Memory is here = inr (inr here)
 
 -- what waits, at the start of a call
 pub record IsFresh {L : Type 0} (w : Waiting) (node : Node L) (turns : ℕ) : Type 0 where
@@ -100,15 +104,15 @@ early_quiet (restore_fault.Altered n got) is = absurd is
 early_quiet (restore_fault.BadSkeleton f place) is = absurd is
 early_quiet restore_fault.Memory is = tt
 
-early_not_bad : (levels : ℕ) (refs : List Ref) (e : RestoreFault) → IsEarly e → IsBadBy levels refs [] e
-early_not_bad levels refs (restore_fault.Node f) is = tt
-early_not_bad levels refs restore_fault.Link is = tt
-early_not_bad levels refs restore_fault.Folder is = tt
-early_not_bad levels refs restore_fault.NotEmpty is = tt
-early_not_bad levels refs (restore_fault.Missing n) is = tt
-early_not_bad levels refs (restore_fault.Altered n got) is = tt
-early_not_bad levels refs (restore_fault.BadSkeleton f place) is = absurd is
-early_not_bad levels refs restore_fault.Memory is = tt
+at_first : (t : Ticket) (e : RestoreFault) → IsEarly e → StopsAt t [] [] e
+at_first t (restore_fault.Node f) is = absurd is
+at_first t restore_fault.Link is = absurd is
+at_first t restore_fault.Folder is = inl (refl, refl)
+at_first t restore_fault.NotEmpty is = (refl, refl)
+at_first t (restore_fault.Missing n) is = absurd is
+at_first t (restore_fault.Altered n got) is = absurd is
+at_first t (restore_fault.BadSkeleton f place) is = absurd is
+at_first t restore_fault.Memory is = inl (refl, refl)
 
 early_not_met : (t : Ticket) (ts : List Taken) (e : RestoreFault) → IsEarly e → IsMetBy t ts e
 early_not_met t ts (restore_fault.Node f) is = tt
@@ -136,12 +140,12 @@ module _ {L : Type 0} (holds : L → List ARecord → List ℕ → Type 0) (stan
   unbegun node v was is t root turns front e sound early writes tries = record {
     leaves = record {
       ts = [];
-      next = t.reference ∷ [];
-      inside = at_start t;
-      bad = early_not_bad t.levels (t.reference ∷ []) e early;
+      next = [];
+      here = at_first t e early;
       open_all = tt;
       last = [];
-      spends = quiet_spends turns (t.reference ∷ []) [] e (early_quiet e early);
+      ok = true;
+      spends = quiet_spends turns [] e (early_quiet e early);
       places = [];
       writes = writes;
       left = inl (refl, tries);
@@ -149,24 +153,23 @@ module _ {L : Type 0} (holds : L → List ARecord → List ℕ → Type 0) (stan
     run = hears_nothing v;
     unbroken = λ broke. absurd (false≢true (sym sound ∙ broke));
     all = λ told n st k s present. record {
-      ok = true;
-      fed = uncounted holds stands broken law node node v v n [] (Some no_tally) true (fed_none holds stands broken law node n v k s);
+      fed = by_whole holds stands broken law node node v v n (peer_ids st) 0 [] [] None (uncounted holds stands broken law node node v v n [] (Some no_tally) true (fed_none holds stands broken law node n v k s));
       taken = tt;
-      in_vain = quiet_in_vain st n (t.reference ∷ []) [] e true (early_quiet e early);
+      in_vain = quiet_in_vain st n [] e (early_quiet e early);
     };
   }
 
-  below_stopped : (w0 w1 : Waiting) (n0 n1 : Node L) (v0 v1 : View) (was is : FolderView) (t : Ticket) (root : List ℕ) (turns : ℕ) (ts : List Taken) (next : List Ref) (e : RestoreFault) (places : List Place) → IsFresh w0 n0 turns → AreNext t ts next → IsBadBy t.levels (t.reference ∷ []) ts e
+  below_stopped : (w0 w1 : Waiting) (n0 n1 : Node L) (v0 v1 : View) (was is : FolderView) (t : Ticket) (root : List ℕ) (turns : ℕ) (ts : List Taken) (next : List Ref) (e : RestoreFault) (places : List Place) → IsFresh w0 n0 turns → StopsAt t ts next e
       → Stops holds stands broken w0 w1 n0 n1 v0 v1 ts next e → Writes root was is places → IsLeft t root [] ts was is places e → StopsBelow holds stands broken n0 n1 v0 v1 was is t root turns [] e
-  below_stopped w0 w1 n0 n1 v0 v1 was is t root turns ts next e places fresh inside bad s writes left = record {
+  below_stopped w0 w1 n0 n1 v0 v1 was is t root turns ts next e places fresh here s writes left = record {
     leaves = record {
       ts = ts;
       next = next;
-      inside = inside;
-      bad = bad;
+      here = here;
       open_all = s.open_all;
       last = s.last;
-      spends = subst (λ (k : ℕ). Spends k next s.last e) fresh.turns_are s.spends;
+      ok = s.ok;
+      spends = subst (λ (k : ℕ). Spends k next s.last s.ok e) fresh.turns_are s.spends;
       places = places;
       writes = writes;
       left = left;
@@ -174,16 +177,16 @@ module _ {L : Type 0} (holds : L → List ARecord → List ℕ → Type 0) (stan
     run = record { hears = s.run.hears; tells = s.run.tells; counts = s.run.counts };
     unbroken = s.unbroken;
     all = λ told n st k stored present.
-        subst (λ (c : ℕ). StopsAll holds stands broken turns c n0 n1 v0 v1 n st ts next s.last e) fresh.clock
-        (subst (λ (k : ℕ). StopsAll holds stands broken k w0.clock n0 n1 v0 v1 n st ts next s.last e) fresh.turns_are
+        subst (λ (c : ℕ). StopsAll holds stands broken turns c n0 n1 v0 v1 n st ts next s.last s.ok e) fresh.clock
+        (subst (λ (k : ℕ). StopsAll holds stands broken k w0.clock n0 n1 v0 v1 n st ts next s.last s.ok e) fresh.turns_are
         (s.all told n st (begins_fresh w0 n0 turns v0 n st fresh k stored present)));
   }
 
   -- a text was not read
-  pub texts_stopped : (w0 w1 : Waiting) (n0 n1 : Node L) (v0 v1 : View) (was : FolderView) (t : Ticket) (root : List ℕ) (turns : ℕ) (e : RestoreFault) → IsFresh w0 n0 turns → StopsLevels holds stands broken w0 w1 n0 n1 v0 v1 t.levels (t.reference ∷ []) e
+  pub texts_stopped : (w0 w1 : Waiting) (n0 n1 : Node L) (v0 v1 : View) (was : FolderView) (t : Ticket) (root : List ℕ) (turns : ℕ) (e : RestoreFault) → IsFresh w0 n0 turns → IsOfText e → StopsLevels holds stands broken w0 w1 n0 n1 v0 v1 t.levels (t.reference ∷ []) e
       → StopsBelow holds stands broken n0 n1 v0 v1 was was t root turns [] e
-  texts_stopped w0 w1 n0 n1 v0 v1 was t root turns e fresh s =
-      below_stopped w0 w1 n0 n1 v0 v1 was was t root turns s.ts s.next e [] fresh (inl s.inside) s.bad s.stops (writes_none root was) (inl (refl, tries_none was))
+  texts_stopped w0 w1 n0 n1 v0 v1 was t root turns e fresh of_text s =
+      below_stopped w0 w1 n0 n1 v0 v1 was was t root turns s.ts s.next e [] fresh (at_text t s.ts s.next e of_text s.here) s.stops (writes_none root was) (inl (refl, tries_none was))
 
   -- the skeleton was read, and the tree not written
   pub tree_stopped : (w0 w1 w2 : Waiting) (n0 n1 n2 : Node L) (v0 v1 v2 : View) (was is : FolderView) (t : Ticket) (root : List ℕ) (turns : ℕ) (texts : List Taken) (text : List ℕ) (entries : List Entry) (e : RestoreFault) → IsFresh w0 n0 turns → IsOfTree e
@@ -191,8 +194,7 @@ module _ {L : Type 0} (holds : L → List ARecord → List ℕ → Type 0) (stan
       → StopsBelow holds stands broken n0 n2 v0 v2 was is t root turns [] e
   tree_stopped w0 w1 w2 n0 n1 n2 v0 v1 v2 was is t root turns texts text entries e fresh of_tree reads_text reads r s =
       below_stopped w0 w2 n0 n2 v0 v2 was is t root turns (texts ++ s.ts) s.next e s.places fresh
-      (inr (record { front = texts; behind = s.ts; text = text; entries = entries; parts = refl; reads_text = reads_text; reads = reads; here = s.parts }))
-      (tree_not_bad t.levels (t.reference ∷ []) (texts ++ s.ts) e of_tree)
+      (at_tree t (texts ++ s.ts) s.next e of_tree (record { front = texts; behind = s.ts; text = text; entries = entries; parts = refl; reads_text = reads_text; reads = reads; here = s.parts }))
       (stops_behind holds stands broken law w0 w1 w2 n0 n1 n2 v0 v1 v2 texts s.ts s.next e r s.stops)
       s.writes
       (inr (record { texts = texts; files = s.ts; text = text; entries = entries; parts = refl; reads_text = reads_text; reads = reads; begun = s.begun; tries = s.tries }))
@@ -274,56 +276,60 @@ module _ {L : Type 0} (holds : L → List ARecord → List ℕ → Type 0) (stan
       }))
       left
 
-  met_by : (t : Ticket) (ts : List Taken) (e : RestoreFault) → AllOpen ts → IsBadBy t.levels (t.reference ∷ []) ts e → IsMetBy t ts e
-  met_by t ts (restore_fault.Node f) o bad = tt
-  met_by t ts restore_fault.Link o bad = tt
-  met_by t ts restore_fault.Folder o bad = tt
-  met_by t ts restore_fault.NotEmpty o bad = tt
-  met_by t ts (restore_fault.Missing n) o bad = tt
-  met_by t ts (restore_fault.Altered n got) o bad = tt
-  met_by t ts (restore_fault.BadSkeleton f place) o bad = λ bodies meant is. bad_texts_are_met bodies (taken_uses ts) t meant is (bad_got t.levels (t.reference ∷ []) ts f place bad o)
-  met_by t ts restore_fault.Memory o bad = tt
+  met_by : (t : Ticket) (ts : List Taken) (next : List Ref) (e : RestoreFault) → AllOpen ts → StopsAt t ts next e → IsMetBy t ts e
+  met_by t ts next (restore_fault.Node f) o here = tt
+  met_by t ts next restore_fault.Link o here = tt
+  met_by t ts next restore_fault.Folder o here = tt
+  met_by t ts next restore_fault.NotEmpty o here = tt
+  met_by t ts next (restore_fault.Missing n) o here = tt
+  met_by t ts next (restore_fault.Altered n got) o here = tt
+  met_by t ts next (restore_fault.BadSkeleton f place) o here = λ bodies meant is. bad_texts_are_met bodies (taken_uses ts) t meant is (bad_got t.levels (t.reference ∷ []) ts f place here.0 o)
+  met_by t ts next restore_fault.Memory o here = tt
 
-  early_at_once : (e : RestoreFault) → IsEarly e → IsAtOnce e [] [] []
-  early_at_once (restore_fault.Node f) early = tt
-  early_at_once restore_fault.Link early = tt
-  early_at_once restore_fault.Folder early = tt
-  early_at_once restore_fault.NotEmpty early = (refl, refl, refl)
-  early_at_once (restore_fault.Missing n) early = tt
-  early_at_once (restore_fault.Altered n got) early = tt
-  early_at_once (restore_fault.BadSkeleton f place) early = tt
-  early_at_once restore_fault.Memory early = tt
+  early_at_once : (was is : FolderView) (root : List ℕ) (e : RestoreFault) → IsEarly e → IsAtOnce was is root e [] [] []
+  early_at_once was is root (restore_fault.Node f) early = absurd early
+  early_at_once was is root restore_fault.Link early = absurd early
+  early_at_once was is root restore_fault.Folder early = inl (refl, refl, refl)
+  early_at_once was is root restore_fault.NotEmpty early = (refl, refl, refl)
+  early_at_once was is root (restore_fault.Missing n) early = absurd early
+  early_at_once was is root (restore_fault.Altered n got) early = absurd early
+  early_at_once was is root (restore_fault.BadSkeleton f place) early = absurd early
+  early_at_once was is root restore_fault.Memory early = inl (refl, refl, refl)
 
-  below_not_at_once : (e : RestoreFault) (ts : List Taken) (last : List Fetch) (places : List Place) → IsOfBelow e → IsAtOnce e ts last places
-  below_not_at_once (restore_fault.Node f) ts last places below = tt
-  below_not_at_once restore_fault.Link ts last places below = tt
-  below_not_at_once restore_fault.Folder ts last places below = tt
-  below_not_at_once restore_fault.NotEmpty ts last places below = absurd below
-  below_not_at_once (restore_fault.Missing n) ts last places below = tt
-  below_not_at_once (restore_fault.Altered n got) ts last places below = tt
-  below_not_at_once (restore_fault.BadSkeleton f place) ts last places below = tt
-  below_not_at_once restore_fault.Memory ts last places below = tt
+  below_at_once : (was is : FolderView) (root : List ℕ) (e : RestoreFault) (ts : List Taken) (last : List Fetch) (places : List Place) → IsOfBelow e → FoundEmpty was is root → IsAtOnce was is root e ts last places
+  below_at_once was is root (restore_fault.Node f) ts last places below empty = empty
+  below_at_once was is root restore_fault.Link ts last places below empty = empty
+  below_at_once was is root restore_fault.Folder ts last places below empty = inr empty
+  below_at_once was is root restore_fault.NotEmpty ts last places below empty = absurd below
+  below_at_once was is root (restore_fault.Missing n) ts last places below empty = empty
+  below_at_once was is root (restore_fault.Altered n got) ts last places below empty = empty
+  below_at_once was is root (restore_fault.BadSkeleton f place) ts last places below empty = empty
+  below_at_once was is root restore_fault.Memory ts last places below empty = inr empty
+
+  -- what the look found, before anything was written
+  found_empty : (was mid is : FolderView) (root : List ℕ) (places : List Place) → (Tells_content mid → mid.content ≡ was.content) → IfSome mid.content (λ c. Lists c root []) → Writes root mid is places → FoundEmpty was is root
+  found_empty was mid is root places same empty w = λ told. subst (λ (o : Option Content). IfSome o (λ c. Lists c root [])) (same (w.tells told)) empty
 
   pub refused : (node : Node L) (v : View) (was is : FolderView) (t : Ticket) (root : List ℕ) (turns : ℕ) (e : RestoreFault) → broken node.log ≡ false → IsEarly e → (Tells_content is → is.content ≡ was.content) → Tries (Listing root) was is
       → StopsRestore holds stands broken node node v v was is t root turns e
   unfolding unbegun
   refused node v was is t root turns e sound early same tries =
       let below = unbegun node v was is t root turns (Listing root ∷ []) e sound early (looked was is root same tries) (listed was is root tries) in
-      record { below = below; met = early_not_met t below.leaves.ts e early; at_once = early_at_once e early }
+      record { below = below; met = early_not_met t below.leaves.ts e early; at_once = early_at_once was is root e early }
 
-  pub stopped : (n0 n1 : Node L) (v0 v1 : View) (was mid is : FolderView) (t : Ticket) (root : List ℕ) (turns : ℕ) (e : RestoreFault) → IsOfBelow e → (Tells_content mid → mid.content ≡ was.content) → Tries (Listing root) was mid → StopsBelow holds stands broken n0 n1 v0 v1 mid is t root turns [] e
+  pub stopped : (n0 n1 : Node L) (v0 v1 : View) (was mid is : FolderView) (t : Ticket) (root : List ℕ) (turns : ℕ) (e : RestoreFault) → IsOfBelow e → (Tells_content mid → mid.content ≡ was.content) → IfSome mid.content (λ c. Lists c root []) → Tries (Listing root) was mid → StopsBelow holds stands broken n0 n1 v0 v1 mid is t root turns [] e
       → StopsRestore holds stands broken n0 n1 v0 v1 was is t root turns e
-  stopped n0 n1 v0 v1 was mid is t root turns e below same tries s =
+  stopped n0 n1 v0 v1 was mid is t root turns e below same empty tries s =
       let l = s.leaves in
       record {
         below = record {
           leaves = record {
             ts = l.ts;
             next = l.next;
-            inside = l.inside;
-            bad = l.bad;
+            here = l.here;
             open_all = l.open_all;
             last = l.last;
+            ok = l.ok;
             spends = l.spends;
             places = l.places;
             writes = behind_look was mid is root l.places same tries l.writes;
@@ -333,8 +339,8 @@ module _ {L : Type 0} (holds : L → List ARecord → List ℕ → Type 0) (stan
           unbroken = s.unbroken;
           all = s.all;
         };
-        met = met_by t l.ts e l.open_all l.bad;
-        at_once = below_not_at_once e l.ts l.last l.places below;
+        met = met_by t l.ts l.next e l.open_all l.here;
+        at_once = below_at_once was is root e l.ts l.last l.places below (found_empty was mid is root l.places same empty l.writes);
       }
 
   counted : (t : Ticket) (ts : List Taken) (entries : List Entry) (tree : List Place) (d : Restored) → IsTreeRead t ts entries tree → AllOpen ts → d.files ≡ sum_by one_file entries → d.folders ≡ sum_by one_folder entries → d.bytes ≡ sum_by its_bytes entries → CountsTree d tree
@@ -379,6 +385,7 @@ module _ {L : Type 0} (holds : L → List ARecord → List ℕ → Type 0) (stan
       let counts = counted t m.ts m.entries m.tree d m.read m.open_all m.files m.folders m.bytes in
       record {
         below = record { made = made; run = r.run; all = r.all };
+        empty = found_empty was mid is root m.tree same empty m.writes;
         exact = record {
           counts = counts;
           exact = λ bodies meant is_it. ⊎_elim

@@ -1,5 +1,5 @@
 -- A turn of a place, with the Gets in front of it.
-use Rattle.std.proofs.Common.{◌≡◌, ℕ, Bool, true, false, List, [], ◌∷◌, ◌++◌, Option, Some, None, refl, sym, ◌∙◌, ap, subst}
+use Rattle.std.proofs.Common.{◌≡◌, inl, inr, ℕ, Bool, true, false, List, [], ◌∷◌, ◌++◌, Option, Some, None, refl, sym, ◌∙◌, ap, subst}
 use Rattle.std.proofs.lemmas.Bool.{false≢true}
 use Rattle.std.proofs.lemmas.List.{append-nil}
 use Rattle.psb_bytes.specs.declared.ids.Ref.{Ref}
@@ -14,13 +14,14 @@ use Rattle.psb_machine.specs.Commands.{peer_ids}
 use Rattle.psb_machine.proofs.SettingsStay.{all_stay}
 use Rattle.node_core.specs.declared.node.Node.{Node}
 use Rattle.node_serve.specs.Hears.{Hears, steps_of, of_turn}
-use Rattle.node_serve.specs.Spans.{Counts, no_tally, Fed}
+use Rattle.node_serve.specs.Spans.{Counts, no_tally, Fed, FedBy}
 use Rattle.node_serve.specs.Turns.{OnlySends}
 use Rattle.node_serve.proofs.Tries.{grows_none}
-use Rattle.node_serve.proofs.Runs.{counts_same, counts_then, hears_none, hears_then, fed_none, fed_then, fed_as, uncounted}
+use Rattle.node_serve.proofs.Runs.{counts_same, counts_then, hears_none, hears_then, fed_none, fed_then, uncounted, by_whole, by_then, by_as}
 use Rattle.snapshot_restore.specs.Course.{asks, round_steps}
 use Rattle.snapshot_restore.specs.Fetching.{Begins, Runs, Asks, HearsTurn, HearsPart, MakesRound, StopsRound}
 use Rattle.snapshot_restore.specs.declared.fault.RestoreFault.{RestoreFault}
+use Rattle.snapshot_restore.specs.declared.fault.RestoreFault.TheVariants as restore_fault
 use Rattle.snapshot_restore.specs.declared.waiting.Waiting.{Waiting}
 use Rattle.snapshot_restore.specs.declared.waiting.Brought.{Brought}
 
@@ -87,24 +88,29 @@ module _ {L : Type 0} (holds : L → List Entry → List ℕ → Type 0) (stands
   pub stops_round : (w0 w1 : Waiting) (n0 n1 : Node L) (v0 v1 v2 : View) (r : Ref) (i : ℕ) (e : RestoreFault) → broken n0.log ≡ false → Asks holds stands broken n0 v0 v1 r.name i → HearsPart holds stands broken w0 w1 n0 n1 v1 v2 e
       → StopsRound holds stands broken w0 w1 n0 n1 v0 v2 r i e
   stops_round w0 w1 n0 n1 v0 v1 v2 r i e sound a h = record {
-    rounds = h.heard ∷ [];
+    part = h.heard ∷ [];
+    ok = h.ok;
+    ends = inl (h.heard, refl, h.ends);
     run = runs_as w0 w1 v0 v2 h.heard (h.heard ++ []) (sym (append-nil h.heard)) (runs_asked w0 w1 v0 v1 v2 h.heard a.only_sends a.tells a.counts h.run);
     unbroken = h.unbroken;
     fed = λ told n st begins.
         let first = after_asks w0.peers n0 n1 v0 v1 v2 r.name i n st sound begins a (h.run.tells told) in
         let then_ = h.fed told (after_all n first.0.done) st first.1 in
-        let steps = round_steps st r.name w0.clock i h.heard in (
-          then_.0,
-          fed_as holds stands broken law n0 n1 v0 v2 n steps (steps ++ []) None then_.0 (sym (append-nil steps))
-              (fed_then holds stands broken law n0 n0 n1 v0 v1 v2 n (asks st r.name i) (steps_of (peer_ids st) w0.clock h.heard) None None then_.0 first.0 then_.1),
-        );
+        let steps = round_steps st r.name w0.clock i h.heard in
+        subst (λ (l : List Heard). FedBy holds stands broken n0 n1 v0 v2 n (peer_ids st) w0.clock l (steps ++ []) None h.ok) (sym (append-nil h.heard))
+        (by_as holds stands broken law n0 n1 v0 v2 n (peer_ids st) w0.clock h.heard steps (steps ++ []) None h.ok (sym (append-nil steps))
+        (by_then holds stands broken law n0 n0 n1 v0 v1 v2 n (peer_ids st) w0.clock [] h.heard (asks st r.name i) (steps_of (peer_ids st) w0.clock h.heard) None None h.ok first.0 then_));
   }
 
   -- there was no memory for the Gets
-  pub unbegun_round : (w : Waiting) (node : Node L) (v : View) (r : Ref) (i : ℕ) (e : RestoreFault) → broken node.log ≡ false → StopsRound holds stands broken w w node node v v r i e
-  unbegun_round w node v r i e sound = record {
-    rounds = [];
+  pub unbegun_round : (w : Waiting) (node : Node L) (v : View) (r : Ref) (i : ℕ) (e : RestoreFault) → broken node.log ≡ false → e ≡ restore_fault.Memory → StopsRound holds stands broken w w node node v v r i e
+  unbegun_round w node v r i e sound memory = record {
+    part = [];
+    ok = true;
+    ends = inr (memory, refl, refl);
     run = runs_none w v;
     unbroken = λ broke. absurd (false≢true (sym sound ∙ broke));
-    fed = λ told n st begins. (true, uncounted holds stands broken law node node v v n [] (Some no_tally) true (fed_none holds stands broken law node n v begins.knows begins.stored));
+    fed = λ told n st begins.
+        by_whole holds stands broken law node node v v n (peer_ids st) w.clock [] [] None
+        (uncounted holds stands broken law node node v v n [] (Some no_tally) true (fed_none holds stands broken law node n v begins.knows begins.stored));
   }

@@ -72,6 +72,12 @@ pub record Faults (device : Device) (old new : View) : Type 0 where
 
 -- ---- which faults may come
 
+-- where the node's own body is read
+abbrev pub IsOfRead : RestoreFault → Type 0
+IsOfRead (restore_fault.Node f) = f ≡ fault.DiskFault
+IsOfRead restore_fault.Memory = Unit {0}
+IsOfRead e = ⊥
+
 -- in a turn
 abbrev pub IsOfTurn : RestoreFault → Type 0
 IsOfTurn (restore_fault.Node f) = f ≡ fault.DiskFault

@@ -1,8 +1,9 @@
 -- What a run that takes bodies makes of a node, and what one leaves that stops.
-use Rattle.std.specs.Prelude.{◌≡◌, ℕ, Bool, true, false, List, [], ◌∷◌, ◌++◌, IfSome, Option, Some, None}
+use Rattle.std.specs.Prelude.{◌≡◌, ◌⊎◌, ℕ, ◌<◌, ◌≤◌, Bool, true, false, List, [], ◌∷◌, ◌++◌, length, IfSome, Option, Some, None}
 use Rattle.psb_bytes.specs.declared.ids.Ref.{Ref}
 use Rattle.convergent_seal.specs.Sealing.{opened}
 use Rattle.psb_station.specs.View.{View, Heard}
+use Rattle.psb_station.specs.View.Heard.{Frame, Fault}
 use Rattle.psb_station.specs.Span.{Tells_bytes}
 use Rattle.node_journal.specs.Entry.{Entry}
 use Rattle.psb_settings.specs.declared.settings.Settings.{Settings}
@@ -14,12 +15,12 @@ use Rattle.node_core.specs.declared.node.Node.{Node}
 use Rattle.node_core.specs.Peers.{PeersView}
 use Rattle.node_core.specs.Stored.{Knows, Stored}
 use Rattle.node_serve.specs.Hears.{Hears, steps_of, clock_of, of_turn}
-use Rattle.node_serve.specs.Spans.{Counts, Fed}
+use Rattle.node_serve.specs.Spans.{Counts, Fed, FedBy}
 use Rattle.node_serve.specs.Turns.{OnlySends}
 use Rattle.snapshots.specs.Meaning.{opens}
 use Rattle.snapshot_restore.specs.Answers.{answer_by, answers, listed}
 use Rattle.snapshot_restore.specs.Course.{Fetch, all_of, asks, heard_in, fetch_steps, restore_steps, round_steps}
-use Rattle.snapshot_restore.specs.Taken.{Taken, fetches, AllOpen, OwnOpens, NoneOwn, NoneOpens, last_of, IsAnswered, AreTaken, IsSpent, IsVain}
+use Rattle.snapshot_restore.specs.Taken.{Taken, fetches, AllOpen, OwnOpens, NoneOwn, NoneOpens, AreWhole, last_of, IsAnswered, AreTaken, IsSpent, IsVain}
 use Rattle.snapshot_restore.specs.Faults.{TheDisk, failed_in}
 use Rattle.snapshot_restore.specs.declared.fault.RestoreFault.{RestoreFault}
 use Rattle.snapshot_restore.specs.declared.fault.RestoreFault.TheVariants as restore_fault
@@ -92,13 +93,27 @@ pub record HearsTurn {L : Type 0} (holds : L → List Entry → List ℕ → Typ
       → Fed holds stands broken old new before now n (steps_of (peer_ids settings) w0.clock (of_turn turn)) None true
       × (answers settings r.name (of_turn turn) ≡ listed came)
 
--- one in which something failed
+-- what was heard in a turn in which an input failed: the frame, or all of it, where a tick failed
+abbrev pub IsFailedTurn : List Heard → Type 0
+IsFailedTurn heard = ((x : List ℕ) × (heard ≡ Frame x ∷ [])) ⊎ ((t : Turn) × (heard ≡ of_turn t))
+
+-- What was heard in a turn that did not end well, and whether all of it was fed: the failure of the link alone; or an
+-- input failed; or, where memory was short for what it brought, all of it.
+abbrev pub EndsTurn : RestoreFault → List Heard → Bool → Type 0
+EndsTurn restore_fault.Link heard ok = (heard ≡ Fault ∷ []) × (ok ≡ true)
+EndsTurn (restore_fault.Node f) heard ok = IsFailedTurn heard × (ok ≡ false)
+EndsTurn restore_fault.Memory heard ok = (IsFailedTurn heard × (ok ≡ false)) ⊎ (((t : Turn) × (heard ≡ of_turn t)) × (ok ≡ true))
+EndsTurn e heard ok = ⊥
+
+-- a turn that did not end well
 pub record HearsPart {L : Type 0} (holds : L → List Entry → List ℕ → Type 0) (stands : List Entry → List ℕ → Type 0) (broken : L → Bool) (w0 w1 : Waiting) (old new : Node L) (before now : View) (e : RestoreFault) : Type 0 where
   pub heard : List Heard
+  pub ok : Bool
+  pub ends : EndsTurn e heard ok
   pub run : Runs w0 w1 before now heard
   pub unbroken : broken new.log ≡ true → failed_in e ≡ TheDisk
   pub fed : Tells_bytes now → (n : Situation) (settings : Settings) → Begins holds w0.peers old before n settings
-      → (ok : Bool) × Fed holds stands broken old new before now n (steps_of (peer_ids settings) w0.clock heard) None ok
+      → FedBy holds stands broken old new before now n (peer_ids settings) w0.clock heard (steps_of (peer_ids settings) w0.clock heard) None ok
 
 -- a whole turn, with the Gets in front of it where its index asks for them
 pub record MakesRound {L : Type 0} (holds : L → List Entry → List ℕ → Type 0) (stands : List Entry → List ℕ → Type 0) (broken : L → Bool) (w0 w1 : Waiting) (old new : Node L) (before now : View) (r : Ref) (i : ℕ) (b : Brought) : Type 0 where
@@ -110,13 +125,19 @@ pub record MakesRound {L : Type 0} (holds : L → List Entry → List ℕ → Ty
       → Fed holds stands broken old new before now n (round_steps settings r.name w0.clock i (of_turn turn)) None true
       × (answers settings r.name (of_turn turn) ≡ listed came)
 
--- one that ended early, if it was begun
+-- the turn in which it stopped; it was not begun where there was no memory for its Gets
+abbrev pub EndsIn : RestoreFault → List (List Heard) → Bool → Type 0
+EndsIn e part ok = ((heard : List Heard) × (part ≡ heard ∷ []) × EndsTurn e heard ok) ⊎ ((e ≡ restore_fault.Memory) × (part ≡ []) × (ok ≡ true))
+
+-- one that did not end well, if it was begun
 pub record StopsRound {L : Type 0} (holds : L → List Entry → List ℕ → Type 0) (stands : List Entry → List ℕ → Type 0) (broken : L → Bool) (w0 w1 : Waiting) (old new : Node L) (before now : View) (r : Ref) (i : ℕ) (e : RestoreFault) : Type 0 where
-  pub rounds : List (List Heard)
-  pub run : Runs w0 w1 before now (all_of rounds)
+  pub part : List (List Heard)
+  pub ok : Bool
+  pub ends : EndsIn e part ok
+  pub run : Runs w0 w1 before now (all_of part)
   pub unbroken : broken new.log ≡ true → failed_in e ≡ TheDisk
   pub fed : Tells_bytes now → (n : Situation) (settings : Settings) → Begins holds w0.peers old before n settings
-      → (ok : Bool) × Fed holds stands broken old new before now n (fetch_steps settings r.name w0.clock i rounds) None ok
+      → FedBy holds stands broken old new before now n (peer_ids settings) w0.clock (all_of part) (fetch_steps settings r.name w0.clock i part) None ok
 
 -- ---- the turns of a place
 
@@ -131,27 +152,32 @@ pub record Awaits {L : Type 0} (holds : L → List Entry → List ℕ → Type 0
       → Fed holds stands broken old new before now n (fetch_steps settings r.name w0.clock 0 rounds) None true
       × IsAnswered settings w0.turns r body rounds
 
--- all of them were made
-abbrev pub SpendsAll : ℕ → List ℕ → List (List Heard) → RestoreFault → Type 0
-SpendsAll turns name rounds (restore_fault.Missing n) = (n ≡ name) × IsSpent turns rounds
-SpendsAll turns name rounds (restore_fault.Altered n got) = (n ≡ name) × IsSpent turns rounds
-SpendsAll turns name rounds e = Unit {0}
+-- So many whole turns were made, and this was heard of the one in which it stopped: all were made, and no body that opens
+-- came; or fewer.
+abbrev pub SpendsAll : ℕ → List ℕ → ℕ → List (List Heard) → Bool → RestoreFault → Type 0
+SpendsAll turns name made part ok (restore_fault.Missing n) = (n ≡ name) × (made ≡ turns) × (part ≡ []) × (ok ≡ true)
+SpendsAll turns name made part ok (restore_fault.Altered n got) = (n ≡ name) × (made ≡ turns) × (part ≡ []) × (ok ≡ true)
+SpendsAll turns name made part ok e = (made < turns) × EndsIn e part ok
 
--- and none brought one; the last body that came is told, if one did
-abbrev pub BringsNone : Settings → Ref → List (List Heard) → RestoreFault → Bool → Type 0
-BringsNone settings r rounds (restore_fault.Missing n) ok = (ok ≡ true) × NoneOpens r (answers settings r.name (all_of rounds)) × (last_of (answers settings r.name (all_of rounds)) ≡ None)
-BringsNone settings r rounds (restore_fault.Altered n got) ok = (ok ≡ true) × NoneOpens r (answers settings r.name (all_of rounds)) × (last_of (answers settings r.name (all_of rounds)) ≡ Some got)
-BringsNone settings r rounds e ok = Unit {0}
+-- the last body that came is told, if one did
+abbrev pub TellsLast : List (List ℕ) → RestoreFault → Type 0
+TellsLast came (restore_fault.Missing n) = last_of came ≡ None
+TellsLast came (restore_fault.Altered n got) = last_of came ≡ Some got
+TellsLast came e = Unit {0}
 
 -- no body that opens came, or something failed
 pub record StopsAwaiting {L : Type 0} (holds : L → List Entry → List ℕ → Type 0) (stands : List Entry → List ℕ → Type 0) (broken : L → Bool) (w0 w1 : Waiting) (old new : Node L) (before now : View) (r : Ref) (e : RestoreFault) : Type 0 where
-  pub rounds : List (List Heard)
-  pub run : Runs w0 w1 before now (all_of rounds)
+  pub front : List (List Heard)
+  pub part : List (List Heard)
+  pub ok : Bool
+  pub run : Runs w0 w1 before now (all_of (front ++ part))
   pub unbroken : broken new.log ≡ true → failed_in e ≡ TheDisk
-  pub spends : SpendsAll w0.turns r.name rounds e
+  pub whole : AreWhole front
+  pub spends : SpendsAll w0.turns r.name (length front) part ok e
   pub fed : Tells_bytes now → (n : Situation) (settings : Settings) → Begins holds w0.peers old before n settings
-      → (ok : Bool) × Fed holds stands broken old new before now n (fetch_steps settings r.name w0.clock 0 rounds) None ok
-      × BringsNone settings r rounds e ok
+      → FedBy holds stands broken old new before now n (peer_ids settings) w0.clock (all_of (front ++ part)) (fetch_steps settings r.name w0.clock 0 (front ++ part)) None ok
+      × NoneOpens r (answers settings r.name (all_of front))
+      × TellsLast (answers settings r.name (all_of front)) e
 
 -- ---- places
 
@@ -169,7 +195,7 @@ pub record Takes {L : Type 0} (holds : L → List Entry → List ℕ → Type 0)
       → TakesAll holds stands broken w0.turns w0.clock old new before now n settings ts
 
 -- the place that got no body is the next one, and all its turns were made
-pub record IsSpentOn (turns : ℕ) (name : List ℕ) (next : List Ref) (last : List Fetch) : Type 0 where
+pub record IsSpentOn (turns : ℕ) (name : List ℕ) (next : List Ref) (last : List Fetch) (ok : Bool) : Type 0 where
   pub r : Ref
   pub more : List Ref
   pub rounds : List (List Heard)
@@ -177,40 +203,78 @@ pub record IsSpentOn (turns : ℕ) (name : List ℕ) (next : List Ref) (last : L
   pub name_is : name ≡ r.name
   pub last_is : last ≡ record { name = name; rounds = rounds } ∷ []
   pub spent : IsSpent turns rounds
+  pub all_fed : ok ≡ true
 
-abbrev pub Spends : ℕ → List Ref → List Fetch → RestoreFault → Type 0
-Spends turns next last (restore_fault.Missing name) = IsSpentOn turns name next last
-Spends turns next last (restore_fault.Altered name got) = IsSpentOn turns name next last
-Spends turns next last e = Unit {0}
+-- It stopped at the next place: whole turns were made of it, fewer than there may be, and then it stopped in one.
+pub record IsCutOn (turns : ℕ) (next : List Ref) (last : List Fetch) (ok : Bool) (e : RestoreFault) : Type 0 where
+  pub r : Ref
+  pub more : List Ref
+  pub front : List (List Heard)
+  pub part : List (List Heard)
+  pub next_is : next ≡ r ∷ more
+  pub last_is : last ≡ record { name = r.name; rounds = front ++ part } ∷ []
+  pub soon : length front < turns
+  pub whole : AreWhole front
+  pub ends : EndsIn e part ok
+
+-- nothing more was asked for, and all was fed
+abbrev pub IsUnasked : List Fetch → Bool → Type 0
+IsUnasked last ok = (last ≡ []) × (ok ≡ true)
+
+-- What was asked for last, and whether all was fed: where the link failed, the next place; where the disk failed or memory
+-- was short, nothing or the next place; else nothing.
+abbrev pub Spends : ℕ → List Ref → List Fetch → Bool → RestoreFault → Type 0
+Spends turns next last ok (restore_fault.Missing name) = IsSpentOn turns name next last ok
+Spends turns next last ok (restore_fault.Altered name got) = IsSpentOn turns name next last ok
+Spends turns next last ok restore_fault.Link = IsCutOn turns next last ok restore_fault.Link
+Spends turns next last ok (restore_fault.Node f) = IsUnasked last ok ⊎ IsCutOn turns next last ok (restore_fault.Node f)
+Spends turns next last ok restore_fault.Memory = IsUnasked last ok ⊎ IsCutOn turns next last ok restore_fault.Memory
+Spends turns next last ok restore_fault.Folder = IsUnasked last ok
+Spends turns next last ok restore_fault.NotEmpty = IsUnasked last ok
+Spends turns next last ok (restore_fault.BadSkeleton f place) = IsUnasked last ok
 
 -- no body that opens came for it, and this one last, if one did
-pub record IsVainOn (settings : Settings) (n : Situation) (next : List Ref) (last : List Fetch) (got : Option (List ℕ)) (ok : Bool) : Type 0 where
+pub record IsVainOn (settings : Settings) (n : Situation) (next : List Ref) (last : List Fetch) (got : Option (List ℕ)) : Type 0 where
   pub r : Ref
   pub more : List Ref
   pub rounds : List (List Heard)
   pub next_is : next ≡ r ∷ more
   pub last_is : last ≡ record { name = r.name; rounds = rounds } ∷ []
   pub vain : IsVain settings n r rounds got
-  pub all_done : ok ≡ true
 
-abbrev pub IsInVain : Settings → Situation → List Ref → List Fetch → RestoreFault → Bool → Type 0
-IsInVain settings n next last (restore_fault.Missing name) ok = IsVainOn settings n next last None ok
-IsInVain settings n next last (restore_fault.Altered name got) ok = IsVainOn settings n next last (Some got) ok
-IsInVain settings n next last e ok = Unit {0}
+-- none came for it in the turns in front of the one in which it stopped
+pub record IsVainSoFar (settings : Settings) (n : Situation) (next : List Ref) (last : List Fetch) : Type 0 where
+  pub r : Ref
+  pub more : List Ref
+  pub front : List (List Heard)
+  pub part : List (List Heard)
+  pub next_is : next ≡ r ∷ more
+  pub last_is : last ≡ record { name = r.name; rounds = front ++ part } ∷ []
+  pub one : length part ≤ 1
+  pub none : NoneOwn n.history r
+  pub others : NoneOpens r (answers settings r.name (all_of front))
+
+abbrev pub IsInVain : Settings → Situation → List Ref → List Fetch → RestoreFault → Type 0
+IsInVain settings n next last (restore_fault.Missing name) = IsVainOn settings n next last None
+IsInVain settings n next last (restore_fault.Altered name got) = IsVainOn settings n next last (Some got)
+IsInVain settings n next last restore_fault.Link = IsVainSoFar settings n next last
+IsInVain settings n next last (restore_fault.Node f) = (last ≡ []) ⊎ IsVainSoFar settings n next last
+IsInVain settings n next last restore_fault.Memory = (last ≡ []) ⊎ IsVainSoFar settings n next last
+IsInVain settings n next last e = Unit {0}
 
 -- where the disk tells its bytes: the course was that of the places that were taken, and of the last one
-pub record StopsAll {L : Type 0} (holds : L → List Entry → List ℕ → Type 0) (stands : List Entry → List ℕ → Type 0) (broken : L → Bool) (turns clock : ℕ) (old new : Node L) (before now : View) (n : Situation) (settings : Settings) (ts : List Taken) (next : List Ref) (last : List Fetch) (e : RestoreFault) : Type 0 where
-  pub ok : Bool
-  pub fed : Fed holds stands broken old new before now n (restore_steps settings clock (fetches ts ++ last)) None ok
+pub record StopsAll {L : Type 0} (holds : L → List Entry → List ℕ → Type 0) (stands : List Entry → List ℕ → Type 0) (broken : L → Bool) (turns clock : ℕ) (old new : Node L) (before now : View) (n : Situation) (settings : Settings) (ts : List Taken) (next : List Ref) (last : List Fetch) (ok : Bool) (e : RestoreFault) : Type 0 where
+  pub fed : FedBy holds stands broken old new before now n (peer_ids settings) clock (heard_in (fetches ts ++ last)) (restore_steps settings clock (fetches ts ++ last)) None ok
   pub taken : AreTaken settings turns n clock ts
-  pub in_vain : IsInVain settings (after_all n (restore_steps settings clock (fetches ts))) next last e ok
+  pub in_vain : IsInVain settings (after_all n (restore_steps settings clock (fetches ts))) next last e
 
 -- The bodies of these places were taken, and then it stopped; the next places would have been these.
 pub record Stops {L : Type 0} (holds : L → List Entry → List ℕ → Type 0) (stands : List Entry → List ℕ → Type 0) (broken : L → Bool) (w0 w1 : Waiting) (old new : Node L) (before now : View) (ts : List Taken) (next : List Ref) (e : RestoreFault) : Type 0 where
   pub last : List Fetch
+  pub ok : Bool
   pub run : Runs w0 w1 before now (heard_in (fetches ts ++ last))
   pub unbroken : broken new.log ≡ true → failed_in e ≡ TheDisk
   pub open_all : AllOpen ts
-  pub spends : Spends w0.turns next last e
+  pub spends : Spends w0.turns next last ok e
   pub all : Tells_bytes now → (n : Situation) (settings : Settings) → Begins holds w0.peers old before n settings
-      → StopsAll holds stands broken w0.turns w0.clock old new before now n settings ts next last e
+      → StopsAll holds stands broken w0.turns w0.clock old new before now n settings ts next last ok e

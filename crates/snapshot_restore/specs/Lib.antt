@@ -7,3 +7,4 @@ pub mod Reading
 pub mod StoppedTexts
 pub mod Written
 pub mod Restored
+pub mod FewPlaces

@@ -1,11 +1,11 @@
 -- What a restore makes of a node and of the target, and what one leaves that stops.
-use Rattle.std.specs.Prelude.{◌≡◌, ◌⊎◌, ℕ, Bool, true, List, [], ◌∷◌, ◌++◌, sum_by, Some, Ok}
+use Rattle.std.specs.Prelude.{◌≡◌, ◌⊎◌, ℕ, Bool, true, List, [], ◌∷◌, ◌++◌, sum_by, Some, IfSome, Ok}
 use Rattle.psb_bytes.specs.declared.ids.Ref.{Ref}
 use Rattle.psb_bytes.specs.declared.ids.Ticket.{Ticket}
 use Rattle.psb_station.specs.View.{View, Heard}
 use Rattle.psb_station.specs.Calls.{Grows}
 use Rattle.psb_station.specs.Span.{Tells_bytes}
-use Rattle.psb_station.specs.Folder.{Content, FolderView, FolderCall, Listing}
+use Rattle.psb_station.specs.Folder.{Content, FolderView, FolderCall, Listing, Lists, Tells_content}
 use Rattle.node_journal.specs.Entry.{Entry as ARecord}
 use Rattle.psb_settings.specs.declared.settings.Settings.{Settings}
 use Rattle.psb_model.specs.History.{state}
@@ -25,7 +25,7 @@ use Rattle.snapshot_restore.specs.Course.{Fetch, heard_in}
 use Rattle.snapshot_restore.specs.Taken.{Taken, taken_uses, fetches, AllOpen}
 use Rattle.snapshot_restore.specs.Faults.{TheDisk, failed_in}
 use Rattle.snapshot_restore.specs.Fetching.{TakesAll, Spends, StopsAll}
-use Rattle.snapshot_restore.specs.Reading.{IsTextRead, IsBadBy, IsTreeRead, AreNext}
+use Rattle.snapshot_restore.specs.Reading.{IsTextRead, IsTreeRead, StopsAt}
 use Rattle.snapshot_restore.specs.Written.{entries_calls, TriesFirst, AreBegun}
 use Rattle.snapshot_restore.specs.declared.fault.RestoreFault.{RestoreFault}
 use Rattle.snapshot_restore.specs.declared.fault.RestoreFault.TheVariants as restore_fault
@@ -78,9 +78,14 @@ pub record IsExact (was is : FolderView) (t : Ticket) (root : List ℕ) (d : Res
   pub counts : CountsTree d tree
   pub exact : (bodies : Bodies) (meant : List Place) → means bodies t ≡ Some meant → IsRestored was is root d meant ⊎ AreMet bodies (taken_uses ts)
 
+-- the target listed nothing as it was looked at, before anything was asked, read or made
+abbrev pub FoundEmpty : FolderView → FolderView → List ℕ → Type 0
+FoundEmpty was is root = Tells_content is → IfSome was.content (λ c. Lists c root [])
+
 pub record Restores {L : Type 0} (holds : L → List ARecord → List ℕ → Type 0) (stands : List ARecord → List ℕ → Type 0) (broken : L → Bool) (old new : Node L) (before now : View) (was is : FolderView) (t : Ticket) (root : List ℕ) (turns : ℕ) (d : Restored) : Type 0 where
   pub below : RestoresBelow holds stands broken old new before now was is t root turns (Listing root ∷ []) d
   pub exact : IsExact was is t root d below.made.ts below.made.tree
+  pub empty : FoundEmpty was is root
 
 -- ---- what was left
 
@@ -104,11 +109,12 @@ IsLeft t root front ts was is places e = ((places ≡ []) × TriesFirst was is f
 pub record LeavesTree (was is : FolderView) (t : Ticket) (root : List ℕ) (turns : ℕ) (front : List FolderCall) (e : RestoreFault) : Type 0 where
   pub ts : List Taken
   pub next : List Ref
-  pub inside : AreNext t ts next
-  pub bad : IsBadBy t.levels (t.reference ∷ []) ts e
+  pub here : StopsAt t ts next e
   pub open_all : AllOpen ts
+  -- what was asked for last, and whether all was fed
   pub last : List Fetch
-  pub spends : Spends turns next last e
+  pub ok : Bool
+  pub spends : Spends turns next last ok e
   pub places : List Place
   pub writes : Writes root was is places
   pub left : IsLeft t root front ts was is places e
@@ -118,19 +124,26 @@ pub record StopsBelow {L : Type 0} (holds : L → List ARecord → List ℕ → 
   pub run : HearsAll before now (heard_in (fetches leaves.ts ++ leaves.last))
   pub unbroken : broken new.log ≡ true → failed_in e ≡ TheDisk
   pub all : Tells_bytes now → (n : Situation) (settings : Settings) → Knows old n → Stored holds old n.history before → (state n.history).settings ≡ Some settings
-      → StopsAll holds stands broken turns 0 old new before now n settings leaves.ts leaves.next leaves.last e
+      → StopsAll holds stands broken turns 0 old new before now n settings leaves.ts leaves.next leaves.last leaves.ok e
 
 -- where the ticket means a tree, a text on the way is outside the grammar only where two unequal texts were met
 abbrev pub IsMetBy : Ticket → List Taken → RestoreFault → Type 0
 IsMetBy t ts (restore_fault.BadSkeleton fault place) = (bodies : Bodies) (meant : List Place) → means bodies t ≡ Some meant → AreMet bodies (taken_uses ts)
 IsMetBy t ts e = Unit {0}
 
--- A target that is not empty is found to be so before anything is asked, read or made.
-abbrev pub IsAtOnce : RestoreFault → List Taken → List Fetch → List Place → Type 0
-IsAtOnce restore_fault.NotEmpty ts last places = (ts ≡ []) × (last ≡ []) × (places ≡ [])
-IsAtOnce e ts last places = Unit {0}
+-- nothing was asked, read or made
+abbrev pub IsUntried : List Taken → List Fetch → List Place → Type 0
+IsUntried ts last places = (ts ≡ []) × (last ≡ []) × (places ≡ [])
+
+-- A target that is not empty is found to be so before anything is asked, read or made. It may be that it could not be
+-- looked at. Whatever else is answered, it listed nothing.
+abbrev pub IsAtOnce : FolderView → FolderView → List ℕ → RestoreFault → List Taken → List Fetch → List Place → Type 0
+IsAtOnce was is root restore_fault.NotEmpty ts last places = IsUntried ts last places
+IsAtOnce was is root restore_fault.Folder ts last places = IsUntried ts last places ⊎ FoundEmpty was is root
+IsAtOnce was is root restore_fault.Memory ts last places = IsUntried ts last places ⊎ FoundEmpty was is root
+IsAtOnce was is root e ts last places = FoundEmpty was is root
 
 pub record StopsRestore {L : Type 0} (holds : L → List ARecord → List ℕ → Type 0) (stands : List ARecord → List ℕ → Type 0) (broken : L → Bool) (old new : Node L) (before now : View) (was is : FolderView) (t : Ticket) (root : List ℕ) (turns : ℕ) (e : RestoreFault) : Type 0 where
   pub below : StopsBelow holds stands broken old new before now was is t root turns (Listing root ∷ []) e
   pub met : IsMetBy t below.leaves.ts e
-  pub at_once : IsAtOnce e below.leaves.ts below.leaves.last below.leaves.places
+  pub at_once : IsAtOnce was is root e below.leaves.ts below.leaves.last below.leaves.places

@@ -78,6 +78,7 @@ pub record IsAnswered (settings : Settings) (turns : ℕ) (r : Ref) (body : List
   pub whole : AreWhole front
   pub others : NoneOpens r (answers settings r.name (all_of front))
   pub brings : answers settings r.name (of_turn turn) ≡ body ∷ []
+  pub opens_it : opens r body ≡ true
 
 -- The body is the node's own; or the node has none that opens, and this one came.
 abbrev pub IsTaken : Settings → ℕ → Situation → Taken → Type 0

@@ -3,7 +3,7 @@ ghost use Rattle.std.specs.Prelude.{◌≡◌, ◌⊎◌, ◌∷◌, [], option_
 ghost use Rattle.convergent_seal.specs.Sealing.{opened};
 ghost use Rattle.psb_station.specs.Span.{Keeps};
 ghost use Rattle.node_serve.specs.Spans.{IsUp};
-ghost use Rattle.snapshot_restore.specs.Faults.{Neither, Faults, IsOfTurn, IsOfPlace, failed};
+ghost use Rattle.snapshot_restore.specs.Faults.{Neither, Faults, IsOfRead, IsOfTurn, IsOfPlace, failed};
 ghost use Rattle.snapshot_restore.specs.Fetching.{IsBrought, came_in, Asks, HearsTurn, HearsPart, MakesRound, StopsRound, Awaits, StopsAwaiting, IsOwn, Takes, Stops};
 ghost use Rattle.snapshot_restore.specs.Taken.{Taken};
 
@@ -176,7 +176,7 @@ fn own_plain<L: Log, S: Station>(
     ensures same { node.new ≡ node.old }
     ensures keeps { Keeps (S.view station.old) (S.view station.new) }
     ensures faults { Faults (failed result) (S.view station.old) (S.view station.new) }
-    ensures only { IfErr result IsOfTurn }
+    ensures only { IfErr result IsOfRead }
 {
     let mut body = Vec::new(alloc);
     match node.body(station, &reference.name, &mut body) {

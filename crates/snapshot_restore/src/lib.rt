@@ -3,10 +3,12 @@
 
 mod fault;
 mod fetching;
+mod laws;
 mod restoring;
 mod texts;
 mod tree;
 mod waiting;
 
 pub use fault::RestoreFault;
+pub use laws::places_are_few;
 pub use restoring::{Restored, restore};

@@ -7,9 +7,9 @@ ghost use Rattle.skeleton.specs.Reading.{skeleton_of};
 ghost use Rattle.skeleton.specs.Texts.{skeleton_text};
 ghost use Rattle.snapshot_restore.specs.Faults.{Faults, IsOfText, failed};
 ghost use Rattle.snapshot_restore.specs.Fetching.{Takes};
-ghost use Rattle.snapshot_restore.specs.Reading.{IsListRead, IsTextRead};
+ghost use Rattle.snapshot_restore.specs.Reading.{IsRead, IsListRead, IsTextRead};
 ghost use Rattle.snapshot_restore.specs.StoppedTexts.{StopsText, StopsList, StopsLevels};
-ghost use Rattle.snapshot_restore.specs.Taken.{Taken, taken_refs, taken_text};
+ghost use Rattle.snapshot_restore.specs.Taken.{Taken, taken_text};
 
 use crate::RestoreFault;
 use crate::fetching::fetch;
@@ -45,7 +45,7 @@ fn fetch_text<L: Log, S: Station>(
     refs: &[Ref],
 ) -> Result<Vec<u8>, RestoreFault>
     requires up { IsUp L.holds L.size L.keeps_body L.is_broken node.old (S.view station.old) }
-    ensures read { IfOk result (λ text. (ts : List Taken) × (taken_refs ts ≡ refs.now) × (text.items ≡ taken_text ts)
+    ensures read { IfOk result (λ text. (ts : List Taken) × IsRead refs.now ts × (text.items ≡ taken_text ts)
         × Takes L.holds L.stands L.is_broken waiting.old waiting.new node.old node.new (S.view station.old) (S.view station.new) ts) }
     ensures stopped { IfErr result (λ e. StopsText L.holds L.stands L.is_broken waiting.old waiting.new node.old node.new (S.view station.old) (S.view station.new) refs.now e) }
     ensures up { OnOk result (IsUp L.holds L.size L.keeps_body L.is_broken node.new (S.view station.new)) }
@@ -108,7 +108,7 @@ fn fetch_last<L: Log, S: Station>(
     refs: &[Ref],
 ) -> Result<Skeleton, RestoreFault>
     requires up { IsUp L.holds L.size L.keeps_body L.is_broken node.old (S.view station.old) }
-    ensures read { IfOk result (λ s. (ts : List Taken) × (taken_refs ts ≡ refs.now) × (skeleton_of (taken_text ts) ≡ Ok s)
+    ensures read { IfOk result (λ s. (ts : List Taken) × IsRead refs.now ts × (skeleton_of (taken_text ts) ≡ Ok s)
         × Takes L.holds L.stands L.is_broken waiting.old waiting.new node.old node.new (S.view station.old) (S.view station.new) ts) }
     ensures short { IfOk result (λ s. length (skeleton_text s) ≤ MOST_TEXT_BYTES) }
     ensures stopped { IfErr result (λ e. StopsLevels L.holds L.stands L.is_broken waiting.old waiting.new node.old node.new (S.view station.old) (S.view station.new) 0 refs.now e) }

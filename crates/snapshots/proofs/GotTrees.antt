@@ -26,7 +26,7 @@ use Rattle.snapshots.specs.Walks.{rise, IsWithin, AreFound}
 use Rattle.snapshots.specs.WalkSteps.{In}
 use Rattle.snapshots.specs.Shapes.{IsOf, AreOf}
 use Rattle.snapshots.specs.declared.walking.Found.{Found}
-use Rattle.snapshots.proofs.Members.{by_cases, to_in, from_in, in_left, of_map, passes}
+use Rattle.snapshots.proofs.Members.{by_cases, to_in, from_in, in_left, of_map, parted, passes}
 use Rattle.snapshots.proofs.Skeletons.{in_back}
 use Rattle.snapshots.proofs.WalkTrees.{in_place}
 use Rattle.snapshots.proofs.SkeletonCounts.{agrees, all_agree}
@@ -46,12 +46,6 @@ read_is_skeleton text entries e =
 
 found_of : Entry → Found
 found_of e = record { path = e.path; kind = e.kind }
-
--- a member, and what stands in front of it
-parted : (e : Entry) (es : List Entry) → In e es → (front : List Entry) × (back : List Entry) × (es ≡ front ++ e ∷ back)
-parted e [] i = absurd i
-parted e (x ∷ es) (inl is) = ([], es, ap (λ (y : Entry). y ∷ es) is)
-parted e (x ∷ es) (inr i) = let p = parted e es i in (x ∷ p.0, p.1, ap (λ (l : List Entry). x ∷ l) p.2)
 
 rises : (es front : List Entry) → IsSkeleton (front ++ es) → rise (map found_of es) ≡ true
 unfolding found_of

@@ -13,6 +13,7 @@ pub mod WalkTrees
 pub mod GotTrees
 pub mod Written
 pub mod WalkPlaces
+pub mod NotTooLarge
 pub mod ChunkLengths
 pub mod Gatherings
 pub mod PieceReads

@@ -39,6 +39,12 @@ in_app x [] b i = inr i
 in_app x (y ∷ a) b (inl is) = inl (inl is)
 in_app x (y ∷ a) b (inr i) = ⊎_elim (λ j. inl (inr j)) (λ j. inr j) (in_app x a b i)
 
+-- what stands in front of it, and behind
+pub parted : {X : Type 0} (x : X) (xs : List X) → In x xs → (front : List X) × (back : List X) × (xs ≡ front ++ x ∷ back)
+parted x [] i = absurd i
+parted x (y ∷ ys) (inl is) = ([], ys, ap (λ (z : _). z ∷ ys) is)
+parted x (y ∷ ys) (inr i) = let p = parted x ys i in (y ∷ p.0, p.1, ap (λ (l : List _). y ∷ l) p.2)
+
 pub in_map : {X Y : Type 0} (f : X → Y) (x : X) (xs : List X) → In x xs → In (f x) (map f xs)
 in_map f x [] i = absurd i
 in_map f x (y ∷ ys) (inl is) = inl (ap f is)

@@ -1,16 +1,17 @@
 -- The last part of a path, and what stands in front of it.
-use Rattle.std.proofs.Common.{◌≡◌, ◌≢◌, ◌⊎◌, inl, inr, ⊎_elim, ℕ, zero, suc, ◌<◌, get_or, true, false, not, ◌||◌, List, [], ◌∷◌, ◌++◌, refl, sym, ap, subst, ◌∙◌, arith}
+use Rattle.std.proofs.Common.{◌≡◌, ◌≢◌, ◌⊎◌, inl, inr, ⊎_elim, ℕ, zero, suc, ◌+◌, ◌<◌, ◌≤◌, length, take, drop, get_or, leb, true, false, not, ◌||◌, List, [], ◌∷◌, ◌++◌, refl, sym, ap, subst, ◌∙◌, arith, length-append}
 use Rattle.std.specs.List.{list_all, list_any, onto_first}
 use Rattle.std.specs.Str.{is_utf8, IsUtf8}
-use Rattle.std.proofs.lemmas.Bool.{and_parts, false≢true, true≢false, eqb-true}
+use Rattle.std.proofs.lemmas.Bool.{and_parts, false≢true, true≢false, eqb-true, le-leb, leb-true}
 use Rattle.std.proofs.lemmas.List.{map-append}
 use Rattle.std.proofs.lemmas.List.Folds.{list_all-append}
-use Rattle.std.proofs.lemmas.Str.{IsUtf8-append, IsUtf8-from_ascii, IsUtf8-from_is_utf8, is_utf8-from_IsUtf8}
-use Rattle.psb_bytes.specs.Names.{is_slash, is_name, parts}
+use Rattle.std.proofs.lemmas.Str.{IsUtf8-append, IsUtf8-from_ascii, IsUtf8-from_is_utf8, is_utf8-from_IsUtf8, IsUtf8-take, IsUtf8-drop, IsCharBoundary-after_ascii, IsCharBoundary-at_seam}
+use Rattle.psb_bytes.specs.Names.{is_slash, is_name, parts, has_names}
 use Rattle.psb_bytes.specs.Paths.{parents}
 use Rattle.psb_station.specs.Folder.{IsName}
 use Rattle.psb_station.specs.MemTree.{under}
-use Rattle.snapshots.specs.Walks.{has_names}
+use Rattle.skeleton.specs.declared.limits.TheConstants.{MOST_PATH_BYTES}
+use Rattle.skeleton.specs.Paths.{within, is_path}
 use Rattle.snapshots.proofs.Members.{by_cases}
 
 NoSlash : List ℕ → Type 0
@@ -164,3 +165,73 @@ same_base [] [] n m is_n is_m e = refl
 same_base [] (d ∷ b) n m is_n is_m e = absurd (no_split (d ∷ b) m n (no_slash n is_n) e)
 same_base (c ∷ a) [] n m is_n is_m e = absurd (no_split (c ∷ a) n m (no_slash m is_m) (sym e))
 same_base (c ∷ a) (d ∷ b) n m is_n is_m e = (same_split (c ∷ a) (d ∷ b) n m (no_slash n is_n) (no_slash m is_m) e).0
+
+pub has_some : (p : List ℕ) → has_names p ≡ true → p ≢ []
+has_some [] h = λ _. false≢true (and_parts (is_utf8 []) false h).1
+has_some (c ∷ p) h = λ e. absurd (cc)
+
+some_bytes : (path : List ℕ) → path ≢ [] → 1 ≤ length path
+some_bytes [] some = absurd (some refl)
+some_bytes (c ∷ path) some = omega arith
+
+-- one that is not too long is a path of a skeleton, and such a path has names
+pub path_is : (path : List ℕ) → has_names path ≡ true → length path ≤ MOST_PATH_BYTES → is_path path ≡ true
+unfolding is_path
+path_is path named short = rw (le-leb 1 (length path) (some_bytes path (has_some path named)), le-leb (length path) MOST_PATH_BYTES short) named
+
+pub valid_names : (path : List ℕ) → is_path path ≡ true → has_names path ≡ true
+unfolding is_path
+valid_names path is = (and_parts (within 1 MOST_PATH_BYTES (length path)) (has_names path) is).1
+
+pub valid_short : (path : List ℕ) → is_path path ≡ true → length path ≤ MOST_PATH_BYTES
+unfolding is_path
+valid_short path is =
+    let bounds = (and_parts (within 1 MOST_PATH_BYTES (length path)) (has_names path) is).0 in
+    leb-true (length path) MOST_PATH_BYTES (and_parts (leb 1 (length path)) (leb (length path) MOST_PATH_BYTES) bounds).1
+
+-- what stands in front of a name is text
+front_text : (front name : List ℕ) → is_utf8 (front ++ 47 ∷ name) ≡ true → is_utf8 front ≡ true
+front_text front name text =
+    let whole = front ++ 47 ∷ name in
+    let u : IsUtf8 whole = IsUtf8-from_is_utf8 whole text in
+    let slash : get_or whole (length front) 0 ≡ 47 = at_slash front in
+    let inside : length front < length whole = omega (arith, length-append front (47 ∷ name)) in
+    let behind : IsUtf8 name = subst IsUtf8 (drop_slash front) (IsUtf8-drop whole (length front + 1) u (IsCharBoundary-after_ascii whole (length front) u inside (omega (arith, slash)))) in
+    is_utf8-from_IsUtf8 front (subst IsUtf8 (take_front front) (IsUtf8-take whole (length front) u (IsCharBoundary-at_seam whole front (47 ∷ name) refl (slash_text name (is_utf8-from_IsUtf8 name behind)))))
+  where
+    at_slash : (f : List ℕ) → get_or (f ++ 47 ∷ name) (length f) 0 ≡ 47
+    at_slash [] = refl
+    at_slash (c ∷ f) = at_slash f
+
+    drop_slash : (f : List ℕ) → drop (length f + 1) (f ++ 47 ∷ name) ≡ name
+    drop_slash [] = refl
+    drop_slash (c ∷ f) = let next : length (c ∷ f) + 1 ≡ suc (length f + 1) = omega arith in rw next (drop_slash f)
+
+    take_front : (f : List ℕ) → take (length f) (f ++ 47 ∷ name) ≡ f
+    take_front [] = refl
+    take_front (c ∷ f) = ap (λ (l : List ℕ). c ∷ l) (take_front f)
+
+-- a path is a name, or a name in a folder whose path has names in it
+pub record IsInside (path front : List ℕ) : Type 0 where
+  pub names : has_names front ≡ true
+  pub shorter : length front < length path
+  pub lies : parents path ≡ parents front ++ front ∷ []
+
+pub inside_of : (path : List ℕ) → has_names path ≡ true → (parents path ≡ []) ⊎ ((front : List ℕ) × IsInside path front)
+inside_of path h =
+    let both = and_parts (is_utf8 path) (list_all is_name (parts path)) h in
+    ⊎_elim
+    (λ none. inl (parents_none path none))
+    (λ s.
+    let split : list_all is_name (parts s.0 ++ s.1 ∷ []) ≡ true = subst (λ (l : List (List ℕ)). list_all is_name l ≡ true) (ap parts s.2 ∙ parts_child s.0 s.1 s.3) both.1 in
+    let names = and_parts (list_all is_name (parts s.0)) (list_all is_name (s.1 ∷ [])) (sym (list_all-append is_name (parts s.0) (s.1 ∷ [])) ∙ split) in
+    let text = front_text s.0 s.1 (ap is_utf8 (sym s.2) ∙ both.0) in
+    inr (
+      s.0,
+      record {
+        names = rw (text, names.0) refl;
+        shorter = omega (arith, ap (λ (l : List ℕ). length l) s.2, length-append s.0 (47 ∷ s.1));
+        lies = ap parents s.2 ∙ parents_child s.0 s.1 s.3;
+      },
+    ))
+    (split_path path)

@@ -4,6 +4,7 @@ use Rattle.std.specs.List.{list_all, IsDistinct}
 use Rattle.std.specs.Str.{bytes_eq}
 use Rattle.std.proofs.lemmas.List.{map-append}
 use Rattle.std.proofs.lemmas.List.Elements.{All-contains}
+use Rattle.psb_bytes.specs.Names.{has_names}
 use Rattle.psb_bytes.specs.Paths.{parents}
 use Rattle.psb_station.specs.Folder.{Content, Stored, Folder as AFolder, File as AFile, Special as ASpecial, found, child, kind_of, IsName, Lists}
 use Rattle.psb_station.specs.MemTree.{under}
@@ -12,7 +13,7 @@ use Rattle.psb_station.proofs.PathText.{under_same}
 use Rattle.skeleton.specs.declared.entry.EntryKind.{EntryKind}
 use Rattle.skeleton.specs.declared.entry.EntryKind.TheVariants as kind
 use Rattle.snapshots.specs.declared.walking.Found.{Found}
-use Rattle.snapshots.specs.Walks.{has_names, IsKind, StandsAs, InTree}
+use Rattle.snapshots.specs.Walks.{IsKind, StandsAs, InTree}
 use Rattle.snapshots.specs.WalkSteps.{In, entry_kind, child_of, found_as, founds, special_as, specials, is_text, IsSeen}
 use Rattle.snapshots.proofs.Members.{to_in, from_in, in_left, in_right, in_app, in_map, of_map, passes, Apart, to_apart, from_apart, apart_app, apart_map}
 use Rattle.snapshots.proofs.PathSplits.{IsBase, named_under, parents_under, same_base}

@@ -63,8 +63,8 @@ entries_size (e ∷ es) h =
     let t = and_parts (agrees e) (list_all agrees es) h in
     omega (arith, sum_by-cons its_bytes e es, entries_size es t.1, content_size e.kind e.size e.refs t.0, length-append e.refs (refs_in es))
 
--- each entry has a byte at least, and each ref 68
-pub text_long : (es : List Entry) → IsSkeleton es → length es + 68 * length (refs_in es) ≤ length (skeleton_text es)
+-- the mark and the number of entries have 12 bytes, each entry one at least, and each ref 68
+pub text_long : (es : List Entry) → IsSkeleton es → 12 + length es + 68 * length (refs_in es) ≤ length (skeleton_text es)
 text_long es h =
     omega (arith, entries_long es (all_agree es h), length-append SKELETON_MARK (entries_bytes es), length-append (u32_bytes (length es)) (flat_map entry_bytes es))
 

@@ -28,6 +28,7 @@ use Rattle.snapshots.specs.Trees.{ascend, AreInPlace}
 use Rattle.snapshots.specs.Laws.{TreesAreInPlace, PlacesHaveSkeletons}
 use Rattle.snapshots.specs.WalkSteps.{In}
 use Rattle.snapshots.proofs.Members.{to_in, from_in, in_app, in_right, all_pass, same_bytes}
+use Rattle.snapshots.proofs.PathSplits.{path_is as valid_path}
 use Rattle.snapshots.proofs.Tickets.{refs_fit, stand_le, part_long}
 
 pub in_back : {X : Type 0} (x : X) (a b : List X) → In x (a ++ x ∷ b)
@@ -54,7 +55,7 @@ in_map b r [] i = absurd i
 in_map b r (x ∷ xs) (inl is) = (x, inl refl, sym is)
 in_map b r (x ∷ xs) (inr i) = let m = in_map b r xs i in (m.0, inr m.1, m.2)
 
-lies_in : (path r : List ℕ) → In r (parents path) → (rest : List ℕ) × (path ≡ r ++ 47 ∷ rest)
+pub lies_in : (path r : List ℕ) → In r (parents path) → (rest : List ℕ) × (path ≡ r ++ 47 ∷ rest)
 lies_in [] r i = absurd i
 lies_in (b ∷ path) r i = at (is_slash b) refl i (λ q j. lies_in path q j)
   where
@@ -171,8 +172,8 @@ places_have_skeleton places are = grow [] places are (record { each = λ before 
     none (b ∷ before) entry after is = absurd (cc)
 
 pub tree_in_place : TreesAreInPlace
-tree_in_place content root places tree = record {
+tree_in_place content root places tree short = record {
   ordered = tree.ordered;
-  paths = λ p has. (tree.stand p has).path;
+  paths = λ p has. valid_path p.path (tree.stand p has).path (short p has);
   reached = λ p has. (tree.stand p has).reached;
 }

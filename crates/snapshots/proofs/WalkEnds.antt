@@ -1,5 +1,5 @@
 -- The end of a walk, when all folders were listed and what was found is in its order.
-use Rattle.std.proofs.Common.{◌≡◌, ◌≢◌, inl, inr, ⊎_elim, ℕ, suc, ◌+◌, ◌<◌, ◌≤◌, true, false, List, [], ◌∷◌, map, length, get_or, Contains, Option, Some, None, Less, Equal, Greater, refl, sym, ap, subst, ◌∙◌, arith}
+use Rattle.std.proofs.Common.{◌≡◌, ◌≢◌, inl, inr, ⊎_elim, ℕ, suc, ◌+◌, ◌<◌, ◌≤◌, true, false, List, [], ◌∷◌, map, length, take, get_or, Contains, Option, Some, None, Less, Equal, Greater, refl, sym, ap, subst, ◌∙◌, arith}
 use Rattle.std.specs.Prelude.{IfSome}
 use Rattle.std.specs.List.{list_all}
 use Rattle.std.specs.List.Sorted.{IsPermutation, IsSortedBy}
@@ -13,7 +13,7 @@ use Rattle.std.proofs.lemmas.List.{take_all}
 use Rattle.std.proofs.lemmas.List.Sorted.{IsPermutation-map, IsPermutation-sym, Contains-permutation, sum_by-IsPermutation}
 use Rattle.std.proofs.lemmas.Map.Keys.{IsDistinct-IsPermutation}
 use Rattle.std.proofs.lemmas.Option.{same_Some}
-use Rattle.psb_bytes.specs.Names.{is_name, parts}
+use Rattle.psb_bytes.specs.Names.{is_name, parts, has_names}
 use Rattle.psb_bytes.specs.Paths.{parents}
 use Rattle.psb_station.specs.Folder.{Content, Stored, Special as ASpecial, found, child, kind_of}
 use Rattle.psb_station.specs.MemTree.{under}
@@ -23,24 +23,12 @@ use Rattle.skeleton.specs.declared.limits.TheConstants.{MOST_PATH_BYTES}
 use Rattle.skeleton.specs.Paths.{is_path, is_below}
 use Rattle.snapshots.specs.declared.walking.Found.{Found}
 use Rattle.snapshots.specs.declared.walking.Walked.{Walked}
-use Rattle.snapshots.specs.Walks.{has_names, IsWithin, rise, entry_len, bare_len, AreFound, IsWalk}
+use Rattle.snapshots.specs.Walks.{IsWithin, rise, entry_len, bare_len, AreFound, IsWalk, AreFoldersOf}
 use Rattle.snapshots.specs.WalkSteps.{In, entry_kind, founds, specials, is_short, folders, IsThere, IsSoFar, IsOn}
 use Rattle.snapshots.proofs.Members.{to_in, from_in, in_right, of_map, passes, Apart, to_apart, from_apart}
-use Rattle.snapshots.proofs.PathSplits.{made_of}
+use Rattle.snapshots.proofs.PathSplits.{made_of, path_is}
 use Rattle.snapshots.proofs.Seen.{name_of, path_of, folder_at, of_founds, to_founds, of_specials, to_specials, founds_apart, specials_apart, is_kind, is_special, stands_as}
-use Rattle.snapshots.proofs.WalkTurns.{to_folders, has_some}
-
--- ---- valid paths
-
-some_bytes : (path : List ℕ) → path ≢ [] → 1 ≤ length path
-some_bytes [] some = absurd (some refl)
-some_bytes (c ∷ path) some = omega arith
-
-path_is : (path : List ℕ) → has_names path ≡ true → length path ≤ MOST_PATH_BYTES → is_path path ≡ true
-unfolding is_path
-path_is path named short =
-    let both = and_parts (is_utf8 path) (list_all is_name (parts path)) named in
-    rw (both.0, le-leb 1 (length path) (some_bytes path (has_some path named)), le-leb (length path) MOST_PATH_BYTES short, both.1) refl
+use Rattle.snapshots.proofs.WalkTurns.{to_folders, of_folders_at}
 
 -- ---- the order
 
@@ -165,3 +153,10 @@ walks o root index w last le on p = at o (end_of o root index w last le on p)
     at : (x : Option Content) (e : IsEnd x root w last) → IfSome x (λ c. IsWalk c root last w.left)
     at None e = tt
     at (Some c) e = is_walk c (Some c) root w last e e.so_far.there
+
+-- the folders that were listed are those that were found
+pub all_listed : (fs last : List Found) (index : ℕ) → length fs ≤ index → IsPermutation fs last → AreFoldersOf last (folders (take index fs))
+all_listed fs last index le p path = (
+  λ has. moved fs last p (folder_at path) (from_in (folder_at path) fs (of_folders_at path fs (subst (λ (l : List Found). In path (folders l)) (take_all index fs le) (to_in path (folders (take index fs)) has)))),
+  λ has. from_in path (folders (take index fs)) (subst (λ (l : List Found). In path (folders l)) (sym (take_all index fs le)) (to_folders path fs (to_in (folder_at path) fs (moved last fs (IsPermutation-sym fs last p) (folder_at path) has)))),
+)

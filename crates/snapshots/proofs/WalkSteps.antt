@@ -1,13 +1,14 @@
 -- A name more, and a folder more.
 use Rattle.std.proofs.Common.{◌≡◌, inl, inr, ⊎_elim, ℕ, ◌+◌, ◌<◌, ◌≤◌, min, true, List, [], ◌∷◌, ◌++◌, map, length, take, drop, get_or, All, Option, Some, None, IfSome, is_some, refl, sym, ap, subst, ◌∙◌, append_assoc, arith, length-append}
-use Rattle.std.specs.Prelude.{Result, Ok, Err, OnOk}
+use Rattle.std.specs.Prelude.{Result, Ok, Err, OnOk, IfOk, IsErr}
 use Rattle.std.specs.List.{list_all, IsDistinct}
 use Rattle.std.specs.Str.{is_utf8, bytes_eq}
-use Rattle.std.proofs.lemmas.Bool.{le-leb}
+use Rattle.std.proofs.lemmas.Bool.{le-leb, false≢true}
 use Rattle.std.proofs.lemmas.List.{map-append, take_more, drop_more, take-append-drop, append-nil}
 use Rattle.std.proofs.lemmas.List.Elements.{All-nil, All-cons, All-contains}
 use Rattle.std.proofs.lemmas.List.Folds.{list_all-append}
 use Rattle.std.proofs.lemmas.List.Sums.{sum_by-append, sum_by-cons}
+use Rattle.psb_bytes.specs.Names.{has_names}
 use Rattle.psb_station.specs.Folder.{Content, found, IsName, Lists}
 use Rattle.psb_station.specs.MemTree.{under}
 use Rattle.psb_station.specs.declared.item.Item.{Item}
@@ -15,7 +16,7 @@ use Rattle.skeleton.specs.declared.entry.EntryKind.{EntryKind}
 use Rattle.skeleton.specs.declared.limits.TheConstants.{MOST_PATH_BYTES, MOST_TEXT_BYTES}
 use Rattle.snapshots.specs.declared.walking.Found.{Found}
 use Rattle.snapshots.specs.declared.walking.Walked.{Walked}
-use Rattle.snapshots.specs.Walks.{has_names, InTree, entry_len, entries_len, bare_len, IsTooLarge}
+use Rattle.snapshots.specs.Walks.{InTree, entry_len, entries_len, bare_len, IsTooLarge}
 use Rattle.snapshots.specs.WalkSteps.{In, entry_kind, child_of, found_as, founds, special_as, specials, is_text, is_short, Pushes, Adds, IsOverAt, IsFull, Enters, Exceeds, IsSeen, IsThere, IsSoFar}
 use Rattle.snapshots.proofs.Members.{to_in, from_in, in_left, in_right, in_app, in_map, Apart, to_apart, from_apart, apart_left}
 use Rattle.snapshots.proofs.Seen.{name_of, path_of, founds_app, specials_app, of_founds, to_founds, founds_apart, IsPlace, AreNew, seen_more, place_of, Stand, stand_more, covers_more, stands_as, in_tree}
@@ -35,6 +36,14 @@ specials_of_app base a b = ap specials (map-append (child_of base) a b) ∙ spec
 pub on_ok : {A E P Q : Type 0} (r : Result A E) → (P → Q) → OnOk r P → OnOk r Q
 on_ok (Ok x) f p = f p
 on_ok (Err e) f p = tt
+
+pub not_ok : {A E : Type 0} (r : Result A E) (P : Type 0) → IsErr r → OnOk r P
+not_ok (Ok x) P err = absurd (false≢true err)
+not_ok (Err e) P err = tt
+
+pub not_if_ok : {A E : Type 0} (r : Result A E) (P : A → Type 0) → IsErr r → IfOk r P
+not_if_ok (Ok x) P err = absurd (false≢true err)
+not_if_ok (Err e) P err = tt
 
 -- ---- a name more
 
@@ -122,7 +131,7 @@ pub still : {A : Type 0} (old new : Option A) (P : A → Type 0) → (is_some ne
 still old None P same p = tt
 still {A = A} old (Some x) P same p = subst (λ (o : Option A). IfSome o P) (sym (same refl)) p
 
-if_both : {A : Type 0} (o : Option A) (P Q R : A → Type 0) → ((x : A) → P x → Q x → R x) → IfSome o P → IfSome o Q → IfSome o R
+pub if_both : {A : Type 0} (o : Option A) (P Q R : A → Type 0) → ((x : A) → P x → Q x → R x) → IfSome o P → IfSome o Q → IfSome o R
 if_both None P Q R f p q = tt
 if_both (Some x) P Q R f p q = f x p q
 

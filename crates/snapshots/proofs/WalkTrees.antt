@@ -3,19 +3,20 @@ use Rattle.std.proofs.Common.{◌≡◌, inl, inr, ℕ, true, ◌&&◌, List, []
 use Rattle.std.specs.List.{list_all}
 use Rattle.std.specs.Str.{is_utf8}
 use Rattle.std.proofs.lemmas.Bool.{and_parts}
-use Rattle.psb_bytes.specs.Names.{is_name, parts}
+use Rattle.psb_bytes.specs.Names.{is_name, parts, has_names}
 use Rattle.psb_station.specs.Folder.{Content, Stored, File as AFile, found, child}
 use Rattle.skeleton.specs.declared.entry.EntryKind.{EntryKind}
 use Rattle.skeleton.specs.declared.entry.EntryKind.TheVariants as kind
 use Rattle.skeleton.specs.declared.limits.TheConstants.{MOST_PATH_BYTES}
 use Rattle.skeleton.specs.Paths.{within, is_path, is_below}
 use Rattle.snapshots.specs.Meaning.{Item, Folder, File, Place}
-use Rattle.snapshots.specs.Trees.{ascend, stored_as, IsReached}
-use Rattle.snapshots.specs.Walks.{has_names, rise, IsWithin, IsKind}
+use Rattle.snapshots.specs.Trees.{ascend, stored_as, IsReached, AreInPlace, AreShort}
+use Rattle.snapshots.specs.Walks.{rise, IsWithin, IsKind}
 use Rattle.snapshots.specs.Shapes.{IsOf, AreOf, IsReadAt, AreRead, WalksAreInPlace, WalksFindTrees}
 use Rattle.snapshots.specs.declared.walking.Found.{Found}
 use Rattle.snapshots.specs.WalkSteps.{In}
 use Rattle.snapshots.proofs.Members.{to_in, from_in}
+use Rattle.snapshots.proofs.PathSplits.{valid_names, valid_short}
 
 -- ---- a place and what was found
 
@@ -70,6 +71,9 @@ in_place fs ps are of = record {
       subst (IsReached ps) (sym r.2.path) (reached_by fs ps r.0.path of (are.within r.0 (from_in r.0 fs r.1)));
 }
 
+pub in_place_short : (ps : List Place) → AreInPlace ps → AreShort ps
+in_place_short ps at p has = valid_short p.path (at.paths p has)
+
 -- ---- a tree
 
 found_folder : (f : Found) (path : List ℕ) → f.path ≡ path → IsOf f.kind Folder → f ≡ record { path = path; kind = kind.Folder }
@@ -96,17 +100,11 @@ stands_at content root path kind.Folder item s here is of read = here ∙ ap (λ
 stands_at content root path kind.File item s here is of read =
     subst (λ (i : Item). found content (child root path) ≡ Some (stored_as i)) (sym of.1) (subst (IsReadAt content root path) of.1 read)
 
-pub valid_names : (path : List ℕ) → is_path path ≡ true → has_names path ≡ true
-unfolding is_path
-valid_names path is =
-    let both = and_parts (is_utf8 path) (within 1 MOST_PATH_BYTES (length path) && list_all is_name (parts path)) is in
-    rw (both.0, (and_parts (within 1 MOST_PATH_BYTES (length path)) (list_all is_name (parts path)) both.1).1) refl
-
-abbrev kind_of_item : Item → EntryKind
+abbrev pub kind_of_item : Item → EntryKind
 kind_of_item Folder = kind.Folder
 kind_of_item (File bytes) = kind.File
 
-kind_fits : (item : Item) → IsKind (kind_of_item item) (stored_as item)
+pub kind_fits : (item : Item) → IsKind (kind_of_item item) (stored_as item)
 kind_fits Folder = refl
 kind_fits (File bytes) = (bytes, refl)
 
@@ -128,13 +126,13 @@ walk_finds_tree content root fs left ps are walk of read = record {
       let s = walk.stand r.0 (from_in r.0 fs r.1) in
       let placed = in_place fs ps are of in
       record {
-        path = placed.paths p has;
+        path = valid_names p.path (placed.paths p has);
         here = stands_at content root p.path r.0.kind p.item s.0 (ap (λ (path : List ℕ). found content (child root path)) r.2.path ∙ s.1) s.2 r.2.of (read_at content root ps p read i);
         reached = placed.reached p has;
       };
   all = λ p stands.
       let f : Found = record { path = p.path; kind = kind_of_item p.item } in
-      let there = walk.all f (valid_names p.path stands.path) (stored_as p.item) stands.here (kind_fits p.item) (within_by fs ps p.path of stands.reached) in
+      let there = walk.all f stands.path (stored_as p.item) stands.here (kind_fits p.item) (within_by fs ps p.path of stands.reached) in
       let r = of_back fs ps f of (to_in f fs there) in
       let item = one_item content root p.path p.item r.0.item stands.here r.2.of (subst (λ (path : List ℕ). IsReadAt content root path r.0.item) r.2.path (read_at content root ps r.0 read r.1)) in
       subst (λ (q : Place). Contains ps q) (λ i. record { path = r.2.path i; item = item i }) (from_in r.0 ps r.1);

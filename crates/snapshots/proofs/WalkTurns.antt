@@ -1,30 +1,28 @@
 -- The folders that a walk listed, by the index that it is at, and its calls.
-use Rattle.std.proofs.Common.{◌≡◌, ◌≢◌, inl, inr, ⊎_elim, ℕ, ◌+◌, ◌<◌, ◌≤◌, true, false, List, [], ◌∷◌, ◌++◌, map, length, take, drop, get_or, Option, Some, None, is_some, refl, sym, ap, subst, ◌∙◌, append_assoc, arith, length-append}
+use Rattle.std.proofs.Common.{◌≡◌, ◌≢◌, inl, inr, ⊎_elim, ℕ, ◌+◌, ◌<◌, ◌≤◌, true, false, List, [], ◌∷◌, ◌++◌, map, length, take, drop, get_or, Contains, Option, Some, None, is_some, refl, sym, ap, subst, ◌∙◌, append_assoc, arith, length-append}
 use Rattle.std.specs.Prelude.{IfSome}
-use Rattle.std.specs.Str.{is_utf8}
-use Rattle.std.proofs.lemmas.Bool.{false≢true, and_parts}
 use Rattle.std.proofs.lemmas.List.{map-append, take_more, drop_more, take-append-drop, take-append-le, append-nil}
 use Rattle.std.proofs.lemmas.List.Sums.{sum_by-cons}
 use Rattle.std.specs.List.{list_all}
-use Rattle.std.proofs.lemmas.List.Elements.{All-nil, All-cons, All-append}
+use Rattle.psb_bytes.specs.Names.{has_names}
+use Rattle.psb_bytes.specs.Paths.{parents}
+use Rattle.psb_station.specs.declared.item.Item.{Item}
 use Rattle.psb_station.specs.Calls.{Grows}
-use Rattle.psb_station.specs.Folder.{FolderView, FolderCall, Listing, Content, Tells_content, child, Tries}
+use Rattle.psb_station.specs.Folder.{FolderView, FolderCall, Listing, Content, Stored, Folder as AFolder, Tells_content, found, child, Tries}
 use Rattle.skeleton.specs.declared.entry.EntryKind.{EntryKind}
 use Rattle.skeleton.specs.declared.entry.EntryKind.TheVariants as kind
 use Rattle.skeleton.specs.declared.limits.TheConstants.{MOST_TEXT_BYTES}
+use Rattle.skeleton.proofs.Lists.{push_parts}
 use Rattle.snapshots.specs.declared.walking.Found.{Found}
 use Rattle.snapshots.specs.declared.walking.Walked.{Walked}
-use Rattle.snapshots.specs.Walks.{has_names, entry_len, entries_len, bare_len, IsTooLarge, IsListing, OnlyLists}
-use Rattle.snapshots.specs.WalkSteps.{In, child_of, founds, is_short, IsThere, Enters, Exceeds, folder_as, folders, listed, IsSoFar, IsOn}
-use Rattle.snapshots.proofs.Members.{in_left, in_right, in_app, Apart, to_apart, apart_both}
-use Rattle.snapshots.proofs.Seen.{name_of, path_of, folder_at, of_founds, founds_apart, IsPlace, place_of, seen_nothing}
-use Rattle.snapshots.proofs.WalkSteps.{entered, exceeded}
+use Rattle.snapshots.specs.Walks.{entry_len, entries_len, bare_len, IsKind, IsTooLarge, listings, AreFolders, OnlyLists}
+use Rattle.snapshots.specs.WalkSteps.{In, child_of, founds, is_short, IsSeen, IsThere, Enters, Exceeds, folder_as, folders, listed, IsSoFar, IsOn}
+use Rattle.snapshots.proofs.Members.{to_in, from_in, in_left, in_right, in_app, parted, Apart, to_apart, from_apart, apart_app, apart_both}
+use Rattle.snapshots.proofs.PathSplits.{has_some, parents_under}
+use Rattle.snapshots.proofs.Seen.{name_of, path_of, folder_at, of_founds, founds_apart, IsPlace, place_of, seen_nothing, stands_as}
+use Rattle.snapshots.proofs.WalkSteps.{entered, exceeded, still, if_both}
 
 -- ---- the calls
-
-grows_none : (o : Option (List FolderCall)) → Grows o o []
-grows_none None = tt
-grows_none (Some calls) = (calls, refl, sym (append-nil calls))
 
 grows_then : (a b c : Option (List FolderCall)) (xs ys : List FolderCall) → Grows a b xs → Grows b c ys → Grows a c (xs ++ ys)
 grows_then a b None xs ys one two = tt
@@ -32,28 +30,63 @@ grows_then a b (Some now) xs ys one two =
     let first : Grows a (Some two.0) xs = subst (λ (o : Option (List FolderCall)). Grows a o xs) two.1 one in
     (first.0, first.1, two.2 ∙ ap (λ (l : List FolderCall). l ++ ys) first.2 ∙ append_assoc first.0 xs ys)
 
-pub lists_none : (v : FolderView) → OnlyLists v v
-lists_none v = record { content = λ tells. refl; tells = λ tells. tells; calls = []; listings = All-nil IsListing; grown = grows_none v.folder_calls; no_fall = omega arith }
-
-pub lists_one : (path : List ℕ) (old new : FolderView) → (Tells_content new → new.content ≡ old.content) → Tries (Listing path) old new → OnlyLists old new
-lists_one path old new same tries = record {
+-- the folder at the root was listed
+pub lists_first : (root : List ℕ) (old new : FolderView) → (Tells_content new → new.content ≡ old.content) → Tries (Listing root) old new → OnlyLists root [] old new
+lists_first root old new same tries = record {
   content = same;
   tells = tries.tells;
-  calls = Listing path ∷ [];
-  listings = All-cons IsListing (Listing path) [] (path, refl) (All-nil IsListing);
+  folders = record {
+    distinct = from_apart [] tt;
+    names = λ path has. absurd (to_in path [] has);
+    within = λ front path back is. absurd (never_parted front path back is);
+    stand = some_of new.content (λ c path has. absurd (to_in path [] has));
+  };
   grown = tries.calls;
   no_fall = tries.no_fall;
 }
+  where
+    never_parted : (front : List (List ℕ)) (path : List ℕ) (back : List (List ℕ)) → [] ≡ front ++ path ∷ back → ⊥
+    never_parted [] path back is = absurd (cc)
+    never_parted (p ∷ front) path back is = absurd (cc)
 
-pub lists_then : (a b c : FolderView) → OnlyLists a b → OnlyLists b c → OnlyLists a c
-lists_then a b c one two = record {
-  content = λ tells. two.content tells ∙ one.content (two.tells tells);
-  tells = λ tells. one.tells (two.tells tells);
-  calls = one.calls ++ two.calls;
-  listings = All-append IsListing one.calls two.calls one.listings two.listings;
-  grown = grows_then a.folder_calls b.folder_calls c.folder_calls one.calls two.calls one.grown two.grown;
-  no_fall = omega (arith, one.no_fall, two.no_fall);
+    some_of : (o : Option Content) {P : Content → Type 0} → ((c : Content) → P c) → IfSome o P
+    some_of None p = tt
+    some_of (Some c) p = p c
+
+-- what may be listed behind these folders
+pub record MayBeListed (o : Option Content) (root : List ℕ) (below : List (List ℕ)) (path : List ℕ) : Type 0 where
+  pub named : has_names path ≡ true
+  pub new : In path below → ⊥
+  pub inside : (folder : List ℕ) → In folder (parents path) → In folder below
+  pub stands : IfSome o (λ c. found c (child root path) ≡ Some AFolder)
+
+-- and one more below it
+pub lists_next : (root : List ℕ) (below : List (List ℕ)) (path : List ℕ) (first old new : FolderView) → OnlyLists root below first old → MayBeListed old.content root below path
+    → (Tells_content new → new.content ≡ old.content) → Tries (Listing (child root path)) old new → OnlyLists root (below ++ path ∷ []) first new
+lists_next root below path first old new lists may same tries = record {
+  content = λ tells. same tells ∙ lists.content (tries.tells tells);
+  tells = λ tells. lists.tells (tries.tells tells);
+  folders = record {
+    distinct = from_apart (below ++ path ∷ []) (apart_app below (path ∷ []) (to_apart below lists.folders.distinct) (λ i. i, tt)
+        (λ p here there. may.new (subst (λ (q : List ℕ). In q below) (only_one p there) here)));
+    names = λ p has. ⊎_elim (λ i. lists.folders.names p (from_in p below i)) (λ i. subst (λ (q : List ℕ). has_names q ≡ true) (sym (only_one p i)) may.named) (in_app p below (path ∷ []) (to_in p (below ++ path ∷ []) has));
+    within = λ front p back is folder lies. ⊎_elim
+        (λ last. from_in folder front (subst (λ (l : List (List ℕ)). In folder l) last.0 (may.inside folder (subst (λ (q : List ℕ). In folder (parents q)) (sym last.1) (to_in folder (parents p) lies)))))
+        (λ before. lists.folders.within front p before.0 before.1 folder lies)
+        (push_parts below path front p back is);
+    stand = if_both new.content (λ c. (p : List ℕ) → Contains below p → found c (child root p) ≡ Some AFolder) (λ c. found c (child root path) ≡ Some AFolder) (λ c. (p : List ℕ) → Contains (below ++ path ∷ []) p → found c (child root p) ≡ Some AFolder)
+        (λ c were is p has. ⊎_elim (λ i. were p (from_in p below i)) (λ i. subst (λ (q : List ℕ). found c (child root q) ≡ Some AFolder) (sym (only_one p i)) is) (in_app p below (path ∷ []) (to_in p (below ++ path ∷ []) has)))
+        (still old.content new.content (λ c. (p : List ℕ) → Contains below p → found c (child root p) ≡ Some AFolder) same lists.folders.stand)
+        (still old.content new.content (λ c. found c (child root path) ≡ Some AFolder) same may.stands);
+  };
+  grown = subst (λ (calls : List FolderCall). Grows first.folder_calls new.folder_calls calls) (ap (λ (l : List FolderCall). Listing root ∷ l) (sym (map-append (λ (p : List ℕ). Listing (child root p)) below (path ∷ []))))
+      (grows_then first.folder_calls old.folder_calls new.folder_calls (listings root below) (Listing (child root path) ∷ []) lists.grown tries.calls);
+  no_fall = omega (arith, lists.no_fall, tries.no_fall);
 }
+  where
+    only_one : (p : List ℕ) → In p (path ∷ []) → p ≡ path
+    only_one p (inl is) = sym is
+    only_one p (inr i) = absurd i
 
 -- ---- the folders that were listed
 
@@ -71,22 +104,31 @@ of_folders : (p : List ℕ) (fs : List Found) → In p (folders fs) → In p (ma
 of_folders p [] i = absurd i
 of_folders p (f ∷ fs) i = ⊎_elim (λ here. inl (in_as p f.path f.kind here)) (λ there. inr (of_folders p fs there)) (in_app p (folder_as f.path f.kind) (folders fs) i)
 
+-- as a folder
+pub of_folders_at : (p : List ℕ) (fs : List Found) → In p (folders fs) → In (folder_at p) fs
+of_folders_at p [] i = absurd i
+of_folders_at p (f ∷ fs) i = ⊎_elim (λ here. inl (at f.path f.kind here)) (λ there. inr (of_folders_at p fs there)) (in_app p (folder_as f.path f.kind) (folders fs) i)
+  where
+    at : (path : List ℕ) (k : EntryKind) → In p (folder_as path k) → ◌≡◌ {A = Found} (record { path = path; kind = k }) (folder_at p)
+    at path kind.Folder (inl is) = ap folder_at is
+    at path kind.Folder (inr i) = absurd i
+    at path kind.File i = absurd i
+
 pub to_folders : (p : List ℕ) (fs : List Found) → In (folder_at p) fs → In p (folders fs)
 to_folders p [] i = absurd i
 to_folders p (f ∷ fs) (inl is) =
     in_left p (folder_as f.path f.kind) (folders fs) (subst (λ (l : List (List ℕ)). In p l) (ap (λ (g : Found). folder_as g.path g.kind) (sym is)) (inl refl))
 to_folders p (f ∷ fs) (inr i) = in_right p (folder_as f.path f.kind) (folders fs) (to_folders p fs i)
 
+folders_more : (fs : List Found) (i : ℕ) (f d : Found) → i < length fs → f ≡ get_or fs i d → folders (take (i + 1) fs) ≡ folders (take i fs) ++ folder_as f.path f.kind
+folders_more fs i f d lt is =
+    ap folders (take_more fs i d lt ∙ ap (λ (g : Found). take i fs ++ g ∷ []) (sym is)) ∙ folders_app (take i fs) (f ∷ []) ∙ ap (λ (l : List (List ℕ)). folders (take i fs) ++ l) (append-nil (folder_as f.path f.kind))
+
 listed_more : (fs : List Found) (i : ℕ) (f d : Found) → i < length fs → f ≡ get_or fs i d → listed (i + 1) fs ≡ listed i fs ++ folder_as f.path f.kind
-listed_more fs i f d lt is = ap (λ (l : List (List ℕ)). [] ∷ l) (
-    ap folders (take_more fs i d lt ∙ ap (λ (g : Found). take i fs ++ g ∷ []) (sym is)) ∙ folders_app (take i fs) (f ∷ []) ∙ ap (λ (l : List (List ℕ)). folders (take i fs) ++ l) (append-nil (folder_as f.path f.kind)))
+listed_more fs i f d lt is = ap (λ (l : List (List ℕ)). [] ∷ l) (folders_more fs i f d lt is)
 
 listed_longer : (fs more : List Found) (i : ℕ) → i ≤ length fs → listed i (fs ++ more) ≡ listed i fs
 listed_longer fs more i le = ap (λ (l : List Found). [] ∷ folders l) (take-append-le i fs more le)
-
-pub has_some : (p : List ℕ) → has_names p ≡ true → p ≢ []
-has_some [] h = λ _. false≢true (and_parts (is_utf8 []) false h).1
-has_some (c ∷ p) h = λ e. absurd (cc)
 
 -- the folder at the index was found
 at_index : (fs : List Found) (i : ℕ) (f d : Found) → i < length fs → f ≡ get_or fs i d → fs ≡ take i fs ++ f ∷ drop (i + 1) fs
@@ -151,6 +193,60 @@ large_folder o n root index w f d lt is folder on same e =
     let next = next_of o root index w f d lt is folder on in
     exceeded o n root (listed index w.found.items) f.path w on.so_far next.place next.fresh same (subst (λ (p : List ℕ). Exceeds n p f.path w) (sym (place_some root f.path next.some)) e)
 
+-- ---- what is listed next
+
+-- the folders that a name lies in were listed before
+lies_below : (below : List (List ℕ)) (items : List Item) (i : Item) → IsSeen ([] ∷ below) items → ((front : List (List ℕ)) (path : List ℕ) (back : List (List ℕ)) → below ≡ front ++ path ∷ back → (folder : List ℕ) → Contains (parents path) folder → Contains front folder)
+    → In i items → (r : List ℕ) → In r (parents i.name) → In r below
+lies_below below items i seen within has r lies =
+    let f = seen.from i has in
+    ⊎_elim (λ none. absurd (subst (λ (l : List (List ℕ)). In r l) (ap parents f.4 ∙ none) lies))
+    (λ some. above f.0 some.0 f.2 (subst (λ (l : List (List ℕ)). In r l) (ap parents f.4 ∙ some.1) lies))
+    (parents_under f.0 f.1 f.3)
+  where
+    above : (base : List ℕ) → base ≢ [] → In base ([] ∷ below) → In r (parents base ++ base ∷ []) → In r below
+    above base some (inl none) j = absurd (some (sym none))
+    above base some (inr here) j = ⊎_elim
+        (λ before.
+        let p = parted base below here in
+        subst (λ (l : List (List ℕ)). In r l) (sym p.2) (in_left r p.0 (base ∷ p.1) (to_in r p.0 (within p.0 base p.1 p.2 r (from_in r (parents base) before)))))
+        (λ last. ⊎_elim (λ is. subst (λ (q : List ℕ). In q below) is here) (λ no_. absurd no_) last)
+        (in_app r (parents base) (base ∷ []) j)
+
+pub may_be_listed : (o : Option Content) (root : List ℕ) (index : ℕ) (w : Walked) (f d : Found) → index < length w.found.items → f ≡ get_or w.found.items index d → f.kind ≡ kind.Folder → IsOn o root index w
+    → AreFolders o root (folders (take index w.found.items)) → MayBeListed o root (folders (take index w.found.items)) f.path
+may_be_listed o root index w f d lt is folder on are =
+    let here : In f (founds on.so_far.items) = subst (λ (l : List Found). In f l) on.so_far.found (in_index w.found.items index f d lt is) in
+    let i = of_founds f on.so_far.items here in
+    let next = next_of o root index w f d lt is folder on in
+    record {
+      named = subst (λ (p : List ℕ). has_names p ≡ true) i.2 (on.so_far.seen.named i.0 i.1);
+      new = λ listed_. next.fresh (inr listed_);
+      inside = λ r lies. lies_below (folders (take index w.found.items)) on.so_far.items i.0 on.so_far.seen are.within i.1 r (subst (λ (p : List ℕ). In r (parents p)) (sym i.2) lies);
+      stands = if_both o (λ c. IsThere c root (listed index w.found.items) on.so_far.items) (λ c. Unit {0}) (λ c. found c (child root f.path) ≡ Some AFolder)
+          (λ c there _.
+          let s = stands_as c root on.so_far.items there.stand f here in
+          s.1 ∙ ap (λ (x : Stored). Some x) (subst (λ (k : EntryKind). IsKind k s.0) folder s.2))
+          on.so_far.there (any_some o);
+    }
+  where
+    any_some : (x : Option Content) → IfSome x (λ c. Unit {0})
+    any_some None = tt
+    any_some (Some c) = tt
+
+-- a file is not listed, and a folder is
+pub next_file : (index : ℕ) (w : Walked) (f d : Found) → index < length w.found.items → f ≡ get_or w.found.items index d → f.kind ≡ kind.File → folders (take index w.found.items) ≡ folders (take (index + 1) w.found.items)
+next_file index w f d lt is file =
+    sym (folders_more w.found.items index f d lt is ∙ ap (λ (k : EntryKind). folders (take index w.found.items) ++ folder_as f.path k) file ∙ append-nil (folders (take index w.found.items)))
+
+pub next_folder : (index : ℕ) (w v : Walked) (f d : Found) (more : List Found) → index < length w.found.items → f ≡ get_or w.found.items index d → f.kind ≡ kind.Folder → v.found.items ≡ w.found.items ++ more
+    → folders (take index w.found.items) ++ f.path ∷ [] ≡ folders (take (index + 1) v.found.items)
+next_folder index w v f d more lt is folder grown =
+    sym (ap (λ (l : List Found). folders (take (index + 1) l)) grown
+    ∙ ap folders (take-append-le (index + 1) w.found.items more (omega (arith, lt)))
+    ∙ folders_more w.found.items index f d lt is
+    ∙ ap (λ (k : EntryKind). folders (take index w.found.items) ++ folder_as f.path k) folder)
+
 -- ---- the first folder
 
 nothing_so_far : (o : Option Content) (root : List ℕ) (w : Walked) → w.found.items ≡ [] → w.left ≡ 0 → w.text_len ≡ 12 → IsSoFar o root [] w
@@ -193,5 +289,5 @@ few o root index w on = omega (arith, counted w.found.items, on.so_far.text, on.
 -- what is known of a walk, with its calls
 pub record IsGoing (first now : FolderView) (root : List ℕ) (index : ℕ) (w : Walked) : Type 0 where
   pub on : IsOn now.content root index w
-  pub lists : OnlyLists first now
+  pub lists : OnlyLists root (folders (take index w.found.items)) first now
   pub steady : now.folder_faults ≡ first.folder_faults

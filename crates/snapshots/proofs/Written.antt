@@ -9,7 +9,7 @@ use Rattle.std.specs.Str.{is_utf8}
 use Rattle.std.proofs.lemmas.Bool.{and_parts, false≢true, true≢false}
 use Rattle.std.proofs.lemmas.List.{append-nil}
 use Rattle.std.proofs.lemmas.List.Folds.{list_all-append}
-use Rattle.psb_bytes.specs.Names.{is_slash, is_name, parts}
+use Rattle.psb_bytes.specs.Names.{is_slash, is_name, parts, has_names}
 use Rattle.psb_bytes.specs.Paths.{parents}
 use Rattle.psb_station.specs.Folder.{Content, Stored, Folder as AFolder, File as AFile, FolderView, Tells_content, Lists, IsName, Appends, plain, found, child}
 use Rattle.psb_station.specs.MemTree.{under}
@@ -21,20 +21,21 @@ use Rattle.skeleton.specs.Paths.{is_path, is_below}
 use Rattle.snapshots.specs.Meaning.{Item, Folder, File, Place}
 use Rattle.snapshots.specs.Trees.{stored_as, ascend, AreInPlace, IsTree, Stands}
 use Rattle.snapshots.specs.WalkSteps.{In}
-use Rattle.snapshots.specs.Walks.{has_names}
 use Rattle.snapshots.specs.Writing.{with_place, with_places, IsBare, IsWhole, Writes, Adds, file_at, EmptyFoldersAreBare, WritingsAreTrees, WritingsStayBelow}
 use Rattle.snapshots.proofs.Members.{by_cases, to_in, from_in}
-use Rattle.snapshots.proofs.PathSplits.{split_path, no_slash, parts_none, parts_child, parents_child, a_name, some_front, under_some}
+use Rattle.snapshots.proofs.PathSplits.{split_path, no_slash, parts_none, parts_child, parents_child, a_name, some_front, under_some, valid_names}
 use Rattle.snapshots.proofs.Skeletons.{in_back, first_below, not_below, rest_ascends}
-use Rattle.snapshots.proofs.WalkTrees.{valid_names}
 
 -- ---- where a path below the root is looked up
 
 abbrev AreNames : List ℕ → Type 0
 AreNames path = list_all is_name (parts path) ≡ true
 
+names_are : (path : List ℕ) → has_names path ≡ true → AreNames path
+names_are path is = (and_parts (is_utf8 path) (list_all is_name (parts path)) is).1
+
 names_of : (path : List ℕ) → is_path path ≡ true → AreNames path
-names_of path is = (and_parts (is_utf8 path) (list_all is_name (parts path)) (valid_names path is)).1
+names_of path is = names_are path (valid_names path is)
 
 -- a path that is no name: what stands in front of its last part, and that part
 record IsSplit (path front name : List ℕ) : Type 0 where
@@ -162,7 +163,7 @@ writings_are_trees c root places bare place = record {
       (put_or_not root c places (plain root));
   ordered = place.ordered;
   stand = λ p has. record {
-    path = place.paths p has;
+    path = valid_names p.path (place.paths p has);
     here = ⊎_elim
         (λ here.
         let one : here.0 ≡ p = one_of_path places here.0 p place.ordered here.1.0 (to_in p places has) (one_place root here.0.path p.path (names_in here.0 here.1.0) (names_of p.path (place.paths p has)) here.1.1) in
@@ -173,7 +174,7 @@ writings_are_trees c root places bare place = record {
   };
   all = λ p s. ⊎_elim
       (λ here.
-      let paths : here.0.path ≡ p.path = one_place root here.0.path p.path (names_in here.0 here.1.0) (names_of p.path s.path) here.1.1 in
+      let paths : here.0.path ≡ p.path = one_place root here.0.path p.path (names_in here.0 here.1.0) (names_are p.path s.path) here.1.1 in
       let items : here.0.item ≡ p.item = one_item here.0.item p.item (same_some (get (with_places root c places) (key root p)) (stored_as here.0.item) (stored_as p.item) here.1.2 s.here) in
       subst (Contains places) (λ i. record { path = paths i; item = items i }) (from_in here.0 places here.1.0))
       (λ same. absurd (never_some (stored_as p.item) (sym (bare.none p.path s.path) ∙ sym same.1 ∙ s.here)))
@@ -218,7 +219,7 @@ pub empty_folders_are_bare : EmptyFoldersAreBare
 empty_folders_are_bare c root whole lists = record {
   folder = lists.folder;
   none = λ path is.
-      let names = names_of path is in
+      let names = names_are path is in
       ap (get c) (looked_up root path names) ∙ none_of path names (get c (under (plain root) path)) refl;
 }
   where

@@ -1,13 +1,14 @@
 -- The places of a tree by what a walk found and by what was read of its files.
-use Rattle.std.specs.Prelude.{◌≡◌, ℕ, ◌+◌, ◌*◌, List, [], ◌∷◌, length, Some}
+use Rattle.std.specs.Prelude.{◌≡◌, ◌≤◌, ℕ, ◌+◌, ◌*◌, List, [], ◌∷◌, length, Some}
 use Rattle.psb_station.specs.Folder.{Content, File as AFile, found, child}
 use Rattle.skeleton.specs.declared.entry.EntryKind.{EntryKind}
 use Rattle.skeleton.specs.declared.entry.EntryKind.TheVariants as kind
+use Rattle.skeleton.specs.declared.limits.TheConstants.{MOST_TEXT_BYTES}
 use Rattle.skeleton.specs.Texts.{skeleton_text}
 use Rattle.snapshots.specs.Meaning.{Item, Folder, File, Place, refs_in}
 use Rattle.snapshots.specs.Tickets.{skeleton_of_tree}
 use Rattle.snapshots.specs.Trees.{AreInPlace, IsTree}
-use Rattle.snapshots.specs.Walks.{bare_len, AreFound, IsWalk}
+use Rattle.snapshots.specs.Walks.{bare_len, AreFound, IsWalk, IsNotTooLarge}
 use Rattle.snapshots.specs.declared.walking.Found.{Found}
 
 -- what stands at a place is of the kind that was found
@@ -46,3 +47,7 @@ WalksAreInPlace = (fs : List Found) (places : List Place) → AreFound fs → Ar
 
 abbrev pub WalksFindTrees : Type 0
 WalksFindTrees = (content : Content) (root : List ℕ) (fs : List Found) (left : ℕ) (places : List Place) → AreFound fs → IsWalk content root fs left → AreOf fs places → AreRead content root places → IsTree content root places
+
+-- Where a walk found what stands in a folder, it is not too large.
+abbrev pub WalksAreNotTooLarge : Type 0
+WalksAreNotTooLarge = (content : Content) (root : List ℕ) (fs : List Found) (left : ℕ) → AreFound fs → IsWalk content root fs left → bare_len fs ≤ MOST_TEXT_BYTES → IsNotTooLarge content root

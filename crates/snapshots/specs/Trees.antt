@@ -1,7 +1,9 @@
 -- The tree of a folder: what stands below it, but for what is neither a folder nor a file.
-use Rattle.std.specs.Prelude.{◌≡◌, ℕ, Bool, true, ◌&&◌, List, [], ◌∷◌, length, sum_by, Contains, Some}
+use Rattle.std.specs.Prelude.{◌≡◌, ◌≤◌, ℕ, Bool, true, ◌&&◌, List, [], ◌∷◌, length, sum_by, Contains, Some}
+use Rattle.psb_bytes.specs.Names.{has_names}
 use Rattle.psb_bytes.specs.Paths.{parents}
 use Rattle.psb_station.specs.Folder.{Content, Stored, Folder as AFolder, File as AFile, found, child}
+use Rattle.skeleton.specs.declared.limits.TheConstants.{MOST_PATH_BYTES}
 use Rattle.skeleton.specs.Paths.{is_path, is_below}
 use Rattle.snapshots.specs.Meaning.{Item, Folder, File, Place}
 
@@ -28,16 +30,21 @@ pub record AreInPlace (places : List Place) : Type 0 where
 
 -- a place of a tree: it stands in the folder, and so does each folder that it lies in
 pub record Stands (content : Content) (root : List ℕ) (places : List Place) (p : Place) : Type 0 where
-  pub path : is_path p.path ≡ true
+  pub path : has_names p.path ≡ true
   pub here : found content (child root p.path) ≡ Some (stored_as p.item)
   pub reached : IsReached places p.path
 
--- these are the folders and files below the folder at the root, each once, in the order of their paths
+-- these are the folders and files below the folder at the root, each once, in the order of their paths, however long these
+-- are
 pub record IsTree (content : Content) (root : List ℕ) (places : List Place) : Type 0 where
   pub folder : found content root ≡ Some AFolder
   pub ordered : ascend places ≡ true
   pub stand : (p : Place) → Contains places p → Stands content root places p
   pub all : (p : Place) → Stands content root places p → Contains places p
+
+-- no path is too long for a skeleton
+abbrev pub AreShort : List Place → Type 0
+AreShort places = (p : Place) → Contains places p → length p.path ≤ MOST_PATH_BYTES
 
 -- ---- its counts
 

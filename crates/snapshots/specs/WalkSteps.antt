@@ -1,9 +1,10 @@
 -- How a walk goes on: the names of one folder after those of another.
-use Rattle.std.specs.Prelude.{◌≡◌, ◌⊎◌, ℕ, ◌+◌, ◌<◌, ◌≤◌, min, nat_le, Bool, true, List, [], ◌∷◌, ◌++◌, length, map, take, All, Option, Some, None, IfSome, bytes_eq}
+use Rattle.std.specs.Prelude.{◌≡◌, ◌⊎◌, ℕ, ◌+◌, ◌<◌, ◌≤◌, min, nat_le, Bool, true, List, [], ◌∷◌, ◌++◌, length, map, take, All, Option, Some, None, IfSome, Result, OnOk, bytes_eq}
 use Rattle.std.specs.List.{list_all, IsDistinct}
 use Rattle.std.specs.Str.{is_utf8}
+use Rattle.psb_bytes.specs.Names.{has_names}
 use Rattle.psb_bytes.specs.Paths.{parents}
-use Rattle.psb_station.specs.Folder.{Content, Stored, Folder as AFolder, found, child, kind_of, IsName, Lists}
+use Rattle.psb_station.specs.Folder.{Content, FolderView, Stored, Folder as AFolder, found, child, kind_of, IsName, Lists}
 use Rattle.psb_station.specs.MemTree.{under}
 use Rattle.psb_station.specs.declared.item.Kind.{Kind}
 use Rattle.psb_station.specs.declared.item.Kind.TheVariants as seen
@@ -17,7 +18,7 @@ use Rattle.snapshots.specs.declared.walking.WalkFault.{WalkFault}
 use Rattle.snapshots.specs.declared.walking.WalkFault.TheVariants as fault
 use Rattle.psb_station.specs.declared.folder.FolderError.{FolderError}
 use Rattle.psb_station.specs.declared.folder.FolderError.TheVariants as error
-use Rattle.snapshots.specs.Walks.{has_names, entry_len, entries_len, bare_len}
+use Rattle.snapshots.specs.Walks.{entry_len, entries_len, bare_len, OnlyLists}
 
 abbrev pub fault_of : FolderError → WalkFault
 fault_of error.Failed = fault.Folder
@@ -160,3 +161,11 @@ pub record IsSoFar (content : Option Content) (root : List ℕ) (done : List (Li
 pub record IsOn (content : Option Content) (root : List ℕ) (index : ℕ) (w : Walked) : Type 0 where
   pub inside : index ≤ length w.found.items
   pub so_far : IsSoFar content root (listed index w.found.items) w
+
+-- ---- the calls so far
+
+-- Behind the listings up to an index came at most that of the folder there; where all went well the index goes on.
+abbrev pub ListsNext : {R : Type 0} → List ℕ → ℕ → List Found → List Found → FolderView → FolderView → Result R WalkFault → Type 0
+ListsNext root index found now before after result =
+    (first : FolderView) → OnlyLists root (folders (take index found)) first before
+    → (below : List (List ℕ)) × OnlyLists root below first after × OnOk result (below ≡ folders (take (index + 1) now))

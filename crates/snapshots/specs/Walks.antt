@@ -1,8 +1,7 @@
 -- What a walk through a folder finds, and where the folder is too large.
-use Rattle.std.specs.Prelude.{◌≡◌, ◌⊎◌, ℕ, ◌+◌, ◌<◌, ◌≤◌, min, Bool, true, ◌&&◌, List, [], ◌∷◌, length, map, sum_by, All, Contains, Some, bytes_eq}
-use Rattle.std.specs.List.{list_all, IsDistinct}
-use Rattle.std.specs.Str.{is_utf8}
-use Rattle.psb_bytes.specs.Names.{is_name, parts}
+use Rattle.std.specs.Prelude.{◌≡◌, ◌⊎◌, ◌↔◌, ℕ, ◌+◌, ◌<◌, ◌≤◌, min, Bool, true, ◌&&◌, List, [], ◌∷◌, ◌++◌, length, map, sum_by, Contains, Option, Some, IfSome, bytes_eq}
+use Rattle.std.specs.List.{IsDistinct}
+use Rattle.psb_bytes.specs.Names.{has_names}
 use Rattle.psb_bytes.specs.Paths.{parents}
 use Rattle.psb_station.specs.Calls.{Grows}
 use Rattle.psb_station.specs.Folder.{FolderView, FolderCall, Content, Stored, Listing, Folder as AFolder, File as AFile, Special as ASpecial, Tells_content, found, child}
@@ -11,10 +10,6 @@ use Rattle.skeleton.specs.declared.entry.EntryKind.TheVariants as kind
 use Rattle.skeleton.specs.declared.limits.TheConstants.{MOST_PATH_BYTES, MOST_TEXT_BYTES}
 use Rattle.skeleton.specs.Paths.{is_path, is_below}
 use Rattle.snapshots.specs.declared.walking.Found.{Found}
-
--- UTF-8 whose parts are names, of any length
-abbrev pub has_names : List ℕ → Bool
-has_names path = is_utf8 path && list_all is_name (parts path)
 
 -- what stands there is of this kind
 abbrev pub IsKind : EntryKind → Stored → Type 0
@@ -99,16 +94,33 @@ pub record HasMuch (content : Content) (root : List ℕ) : Type 0 where
 abbrev pub IsTooLarge : Content → List ℕ → Type 0
 IsTooLarge content root = HasLongPath content root ⊎ HasMuch content root
 
+-- neither is there
+pub record IsNotTooLarge (content : Content) (root : List ℕ) : Type 0 where
+  pub paths : ¬ HasLongPath content root
+  pub few : ¬ HasMuch content root
+
 -- ---- the calls
 
-abbrev pub IsListing : FolderCall → Type 0
-IsListing call = (path : List ℕ) × (call ≡ Listing path)
+-- the folder at the root is listed, and then these below it
+abbrev pub listings : List ℕ → List (List ℕ) → List FolderCall
+listings root below = Listing root ∷ map (λ (path : List ℕ). Listing (child root path)) below
 
--- a run of listings, which change nothing
-pub record OnlyLists (old new : FolderView) : Type 0 where
+-- Folders below the root, by their paths: each once, and each behind all folders that it lies in.
+pub record AreFolders (content : Option Content) (root : List ℕ) (below : List (List ℕ)) : Type 0 where
+  pub distinct : IsDistinct bytes_eq below
+  pub names : (path : List ℕ) → Contains below path → has_names path ≡ true
+  pub within : (front : List (List ℕ)) (path : List ℕ) (back : List (List ℕ)) → below ≡ front ++ path ∷ back → (folder : List ℕ) → Contains (parents path) folder → Contains front folder
+  -- as far as the folder at the root tells what it holds
+  pub stand : IfSome content (λ c. (path : List ℕ) → Contains below path → found c (child root path) ≡ Some AFolder)
+
+-- The folder at the root was listed, and then these below it. Nothing else was done, and this changes nothing.
+pub record OnlyLists (root : List ℕ) (below : List (List ℕ)) (old new : FolderView) : Type 0 where
   pub content : Tells_content new → new.content ≡ old.content
   pub tells : Tells_content new → Tells_content old
-  pub calls : List FolderCall
-  pub listings : All IsListing calls
-  pub grown : Grows old.folder_calls new.folder_calls calls
+  pub folders : AreFolders new.content root below
+  pub grown : Grows old.folder_calls new.folder_calls (listings root below)
   pub no_fall : old.folder_faults ≤ new.folder_faults
+
+-- these are the folders that were found
+abbrev pub AreFoldersOf : List Found → List (List ℕ) → Type 0
+AreFoldersOf entries below = (path : List ℕ) → Contains below path ↔ Contains entries (record { path = path; kind = kind.Folder })

@@ -1,13 +1,13 @@
 -- A tree that is written below a folder.
 use Rattle.std.specs.Prelude.{◌≡◌, ◌⊎◌, ℕ, ◌≤◌, true, List, [], ◌∷◌, ◌++◌, take, Contains, IfSome, Some, None}
 use Rattle.std.specs.FinMap.{get, insert}
+use Rattle.psb_bytes.specs.Names.{has_names}
 use Rattle.psb_bytes.specs.Paths.{parents}
 use Rattle.psb_station.specs.Calls.{Grows}
 use Rattle.psb_station.specs.Folder.{Content, Stored, Folder as AFolder, FolderView, FolderCall, MakingFolder, MakingFile, Appending, Tells_content, Lists, plain, found, child}
 use Rattle.psb_station.specs.declared.item.Item.{Item as AnItem}
 use Rattle.skeleton.specs.declared.entry.EntryKind.{EntryKind}
 use Rattle.skeleton.specs.declared.entry.EntryKind.TheVariants as kind
-use Rattle.skeleton.specs.Paths.{is_path}
 use Rattle.snapshots.specs.Meaning.{Item, Folder, File, Place}
 use Rattle.snapshots.specs.Trees.{stored_as, AreInPlace, IsTree}
 
@@ -22,7 +22,7 @@ with_places root c (p ∷ ps) = with_places root (with_place root c p) ps
 -- a folder stands there, and nothing below it
 pub record IsBare (c : Content) (root : List ℕ) : Type 0 where
   pub folder : found c root ≡ Some AFolder
-  pub none : (path : List ℕ) → is_path path ≡ true → found c (child root path) ≡ None
+  pub none : (path : List ℕ) → has_names path ≡ true → found c (child root path) ≡ None
 
 -- what stands at a path stands in folders
 abbrev pub IsWhole : Content → Type 0

@@ -1,9 +1,9 @@
 //! The laws of tickets, of trees, of walks and of readers.
-ghost use Rattle.snapshots.specs.Laws.{TicketMeansItsTree, TreesAreInPlace, PlacesHaveSkeletons, TreesHaveTickets};
+ghost use Rattle.snapshots.specs.Laws.{TicketMeansItsTree, TreesAreInPlace, PlacesHaveSkeletons, TreesHaveTickets, FoldersHaveOneTree, ShortTreesAreNotTooLarge};
 ghost use Rattle.snapshots.specs.GotLaws.{ReadsTheMeaning, BadTextsAreMet, ReadTreesAreInPlace, ReadTreesAreCounted};
 ghost use Rattle.snapshots.specs.Reading.{EndedReadersGaveAll, ReadersGiveFirstChunks, ReadersReadOnePieceAhead};
 ghost use Rattle.snapshots.specs.Writing.{EmptyFoldersAreBare, WritingsAreTrees, WritingsStayBelow};
-ghost use Rattle.snapshots.specs.Shapes.{WalksHavePlaces, SkeletonsAreAsLong, WalksAreInPlace, WalksFindTrees};
+ghost use Rattle.snapshots.specs.Shapes.{WalksHavePlaces, SkeletonsAreAsLong, WalksAreInPlace, WalksFindTrees, WalksAreNotTooLarge};
 
 /// A ticket means the tree that it was made of, over any bodies that have the sealed pieces of its files, of
 /// its skeleton and of the lists of refs above that.
@@ -34,8 +34,8 @@ pub fn read_trees_are_counted()
     ensures { ReadTreesAreCounted }
 {}
 
-/// What stands below a folder, in the order of the paths, is in place: each behind the folders that it
-/// lies in.
+/// What stands below a folder, in the order of the paths, is in place, where none of these is too long:
+/// each behind the folders that it lies in.
 #[tactic(auto, using(crate::proofs::Skeletons::tree_in_place))]
 pub fn trees_are_in_place()
     ensures { TreesAreInPlace }
@@ -73,6 +73,22 @@ pub fn walks_are_in_place()
 /// Where the folder tells what it holds, and its files were read, what a walk finds is its tree.
 pub fn walks_find_trees()
     ensures { WalksFindTrees }
+{}
+
+/// A folder has one tree.
+#[tactic(auto, using(crate::proofs::NotTooLarge::one_tree))]
+pub fn folders_have_one_tree()
+    ensures { FoldersHaveOneTree }
+{}
+
+/// Where no path of its tree is too long, nor the text of its skeleton, a folder is not too large.
+pub fn short_trees_are_not_too_large()
+    ensures { ShortTreesAreNotTooLarge }
+{}
+
+/// Where a walk found what stands in a folder, the folder is not too large.
+pub fn walks_are_not_too_large()
+    ensures { WalksAreNotTooLarge }
 {}
 
 /// The chunks that an ended reader gave are those that its file is cut into.

@@ -15,10 +15,11 @@ mod writing;
 pub use counting::{Counts, count};
 pub use laws::{
     a_ticket_means_its_tree, bad_texts_are_met, empty_folders_are_bare, ended_readers_gave_all,
-    places_have_skeletons, read_trees_are_counted, read_trees_are_in_place,
+    folders_have_one_tree, places_have_skeletons, read_trees_are_counted, read_trees_are_in_place,
     readers_give_first_chunks, readers_read_one_piece_ahead, reads_the_meaning,
-    skeletons_are_as_long, trees_are_in_place, trees_have_tickets, walks_are_in_place,
-    walks_find_trees, walks_have_places, writings_are_trees, writings_stay_below,
+    short_trees_are_not_too_large, skeletons_are_as_long, trees_are_in_place, trees_have_tickets,
+    walks_are_in_place, walks_are_not_too_large, walks_find_trees, walks_have_places,
+    writings_are_trees, writings_stay_below,
 };
 pub use paths::child_path;
 pub use reading::ChunkReader;

@@ -1,13 +1,13 @@
 //! What stands below a folder.
-ghost use Rattle.std.specs.Prelude.{◌≡◌, ◌≢◌, ◌⊎◌, ◌+◌, ◌<◌, ◌≤◌, ◌∷◌, [], length, IfOk, OnOk, IfSome};
+ghost use Rattle.std.specs.Prelude.{◌≡◌, ◌≢◌, ◌⊎◌, ℕ, ◌+◌, ◌<◌, ◌≤◌, List, ◌∷◌, [], length, IfOk, OnOk, IfSome};
 ghost use Rattle.std.specs.List.Sorted.{IsPermutation, IsSortedBy};
 ghost use Rattle.psb_station.specs.Calls.{Rose};
-ghost use Rattle.psb_station.specs.Folder.{Tells_content};
+ghost use Rattle.psb_station.specs.Folder.{Listing, Tells_content, Tries};
 ghost use Rattle.psb_station.specs.MemTree.{under};
 ghost use Rattle.skeleton.specs.declared.limits.TheConstants.{MOST_PATH_BYTES, MOST_TEXT_BYTES};
 ghost use Rattle.skeleton.specs.Paths.{is_below};
-ghost use Rattle.snapshots.specs.Walks.{entry_len, bare_len, AreFound, IsWalk, IsTooLarge, OnlyLists};
-ghost use Rattle.snapshots.specs.WalkSteps.{fault_of, entry_kind, IsOver, Pushes, Adds, IsOverAt, IsFull, Enters, Exceeds, IsOn};
+ghost use Rattle.snapshots.specs.Walks.{entry_len, bare_len, AreFound, IsWalk, IsTooLarge, OnlyLists, AreFoldersOf};
+ghost use Rattle.snapshots.specs.WalkSteps.{fault_of, entry_kind, IsOver, Pushes, Adds, IsOverAt, IsFull, Enters, Exceeds, IsOn, ListsNext};
 ghost use Rattle.snapshots.specs.declared.walking.Found.{Found};
 ghost use Rattle.snapshots.specs.declared.walking.WalkFault.TheVariants as walk_fault;
 
@@ -189,7 +189,8 @@ fn enter<F: Folder>(
     requires { walked.old.text_len ≤ MOST_TEXT_BYTES }
     ensures entered { OnOk result (Enters (F.view folder.new).content path.now base.now walked.old walked.new) }
     ensures too_large { result ≡ Err WalkFault.TooLarge → Exceeds (F.view folder.new).content path.now base.now walked.old }
-    ensures lists { OnlyLists (F.view folder.old) (F.view folder.new) }
+    ensures content { Tells_content (F.view folder.new) → (F.view folder.new).content ≡ (F.view folder.old).content }
+    ensures tries { Tries (Listing path.now) (F.view folder.old) (F.view folder.new) }
     ensures cause { result ≡ Err WalkFault.Folder → Rose (F.view folder.old).folder_faults (F.view folder.new).folder_faults }
     ensures steady { (result ≡ Err WalkFault.Folder) ⊎ ((F.view folder.new).folder_faults ≡ (F.view folder.old).folder_faults) }
 {
@@ -209,7 +210,7 @@ fn go_on<F: Folder>(
     requires on { IsOn (F.view folder.old).content root.now index walked.old }
     ensures on { OnOk result (IsOn (F.view folder.new).content root.now (index + 1) walked.new) }
     ensures too_large { result ≡ Err WalkFault.TooLarge → IfSome (F.view folder.new).content (λ c. IsTooLarge c root.now) }
-    ensures lists { OnlyLists (F.view folder.old) (F.view folder.new) }
+    ensures lists { ListsNext root.now index walked.old.found.items walked.new.found.items (F.view folder.old) (F.view folder.new) result }
     ensures cause { result ≡ Err WalkFault.Folder → Rose (F.view folder.old).folder_faults (F.view folder.new).folder_faults }
     ensures steady { (result ≡ Err WalkFault.Folder) ⊎ ((F.view folder.new).folder_faults ≡ (F.view folder.old).folder_faults) }
 {
@@ -241,7 +242,10 @@ pub fn walk<F: Folder>(alloc: Global, folder: &mut F, root: &str) -> Result<Walk
     ensures too_large { result ≡ Err WalkFault.TooLarge → IfSome (F.view folder.new).content (λ c. IsTooLarge c root.now) }
     ensures content { Tells_content (F.view folder.new) → (F.view folder.new).content ≡ (F.view folder.old).content }
     ensures tells { Tells_content (F.view folder.new) → Tells_content (F.view folder.old) }
-    ensures lists { OnlyLists (F.view folder.old) (F.view folder.new) }
+
+    // The folder at the root is listed, and then those below it that were found, each once and each behind those that
+    // it lies in: all of them where the walk comes to its end.
+    ensures lists { (below : List (List ℕ)) × OnlyLists root.now below (F.view folder.old) (F.view folder.new) × IfOk result (λ w. AreFoldersOf w.found.items below) }
     ensures cause { result ≡ Err WalkFault.Folder → Rose (F.view folder.old).folder_faults (F.view folder.new).folder_faults }
     ensures steady { (result ≡ Err WalkFault.Folder) ⊎ ((F.view folder.new).folder_faults ≡ (F.view folder.old).folder_faults) }
 {

@@ -8,17 +8,18 @@ ghost use Rattle.std.specs.Cmp.Lexicographic.{slice_cmp};
 ghost use Rattle.psb_station.specs.Folder.{IsName};
 ghost use Rattle.psb_station.specs.declared.item.Item.{Item};
 
+use crate::file_id::{FileId, OwnFile};
 use psb_bytes::Text;
 use psb_station::{FolderError, Item, Kind, is_name};
 use std::alloc::Global;
-use std::fs::{FileType, Files, read_dir, symlink_metadata};
+use std::fs::{Files, Metadata, read_dir, symlink_metadata};
 
-/// A link is no folder and no file here, whatever it leads to.
-fn kind_of(seen: FileType) -> Kind {
+/// A link is no folder and no file here, whatever it leads to, and the node's own file is none.
+fn kind_of(seen: &Metadata, own: Option<FileId>) -> Kind {
     if seen.is_dir() {
         return Kind::Folder;
     }
-    if seen.is_file() {
+    if seen.is_file() && own != Some(FileId::of(seen)) {
         return Kind::File;
     }
     Kind::Other
@@ -69,6 +70,7 @@ fn entries_in<R: Files + Alloc + Clone + Drop>(
     host: &R,
     alloc: Global,
     path: &str,
+    own: Option<FileId>,
 ) -> Result<Vec<Item>, FolderError> {
     let mut items = Vec::new(alloc);
     let Ok(entries) = read_dir(host, path) else {
@@ -78,13 +80,13 @@ fn entries_in<R: Files + Alloc + Clone + Drop>(
         let Ok(entry) = entry else {
             return Err(FolderError::Failed);
         };
-        let Ok(seen) = entry.file_type() else {
+        let Ok(seen) = entry.metadata() else {
             return Err(FolderError::Failed);
         };
         let Ok(name) = Text::copy(alloc, entry.file_name()) else {
             return Err(FolderError::Memory);
         };
-        let kind = kind_of(seen);
+        let kind = kind_of(&seen, own);
         if let Err(_) = items.push(Item { name, kind }) {
             return Err(FolderError::Memory);
         }
@@ -92,11 +94,13 @@ fn entries_in<R: Files + Alloc + Clone + Drop>(
     Ok(items)
 }
 
-/// The names in a folder and their kinds, in the order of their bytes.
+/// The names in a folder and their kinds, in the order of their bytes. The node's own file is of no kind that is
+/// kept.
 pub(crate) fn names_in<R: Files + Alloc + Clone + Drop>(
     host: &R,
     alloc: Global,
     path: &str,
+    own: &mut OwnFile,
 ) -> Result<Vec<Item>, FolderError>
     ensures names { IfOk result (λ items. All (λ (i : Item). IsName i.name) items.items) }
     ensures distinct { IfOk result (λ items. IsDistinct bytes_eq (map (λ (i : Item). i.name) items.items)) }
@@ -104,7 +108,10 @@ pub(crate) fn names_in<R: Files + Alloc + Clone + Drop>(
     if !is_folder(host, path) {
         return Err(FolderError::Failed);
     }
-    let mut items = match entries_in(host, alloc, path) {
+    let Ok(own) = own.id(host) else {
+        return Err(FolderError::Failed);
+    };
+    let mut items = match entries_in(host, alloc, path, own) {
         Ok(items) => items,
         Err(error) => return Err(error),
     };

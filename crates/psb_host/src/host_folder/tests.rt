@@ -5,7 +5,7 @@ use std::os::unix::fs::symlink;
 use std::test::Fail;
 use std::{env, process};
 
-/// A new folder of the machine, which no other run of these tests has.
+/// A new folder of the machine, which no other run of these tests has. The node's own file is `disk` in it.
 #[derive(Drop)]
 struct Home<'a> {
     rt: &'a HostRuntime,
@@ -26,7 +26,8 @@ impl<'a> Home<'a> {
         let id = process::id(rt.process());
         let path = format!(in rt.alloc(); "{}/psb-{id}-{name}", above.as_str())?;
         fs::create_dir(rt, path.as_str())?;
-        let folder = HostFolder::new(rt.alloc(), rt, Unknown);
+        let disk = format!(in rt.alloc(); "{}/disk", path.as_str())?;
+        let folder = HostFolder::new(rt.alloc(), rt, disk, Unknown);
         Ok(Home { rt, path, folder })
     }
 
@@ -87,10 +88,12 @@ fn a_folder_lists_what_stands_in_it(rt: HostRuntime) -> Result<(), Fail> {
     assert!(rt; home.lists(".", &[])?);
     assert_eq!(rt; home.make_folder("d")?, Ok(()));
     assert_eq!(rt; home.make_file("b")?, Ok(()));
+    assert_eq!(rt; home.make_file(".hidden")?, Ok(()));
     home.link("c", "b")?;
     home.link("a", "d")?;
     home.link("e", "gone")?;
     let table = [
+        (".hidden", Kind::File),
         ("a", Kind::Other),
         ("b", Kind::File),
         ("c", Kind::Other),
@@ -100,6 +103,25 @@ fn a_folder_lists_what_stands_in_it(rt: HostRuntime) -> Result<(), Fail> {
     assert!(rt; home.lists(".", &table)?);
     assert!(rt; home.lists("d", &[])?);
     assert!(rt; home.lists("d/", &[])?);
+    home.remove()
+}
+
+#[test]
+fn the_own_file_of_the_node_is_no_file(rt: HostRuntime) -> Result<(), Fail> {
+    let mut home = Home::new(&rt, "own")?;
+    assert_eq!(rt; home.make_folder("d")?, Ok(()));
+    assert_eq!(rt; home.make_file("disk")?, Ok(()));
+    assert_eq!(rt; home.make_file("file")?, Ok(()));
+    fs::hard_link(&rt, home.at("disk")?.as_str(), home.at("d/link")?.as_str())?;
+    let table = [
+        ("d", Kind::Folder),
+        ("disk", Kind::Other),
+        ("file", Kind::File),
+    ];
+    assert!(rt; home.lists(".", &table)?);
+    assert!(rt; home.lists("d", &[("link", Kind::Other)])?);
+    assert_eq!(rt; home.read("disk", 0, &mut [0; 4])?, Err(Failed));
+    assert_eq!(rt; home.append("d/link", &[1])?, Err(Failed));
     home.remove()
 }
 
@@ -135,6 +157,11 @@ fn a_file_grows_and_is_read_in_pieces(rt: HostRuntime) -> Result<(), Fail> {
     assert_eq!(rt; into, [5, 6, 7, 4]);
     assert_eq!(rt; home.read("file", 7, &mut into)?, Ok(0));
     assert_eq!(rt; home.read("file", 100, &mut into)?, Ok(0));
+    // More than one call of the system may write.
+    let many = vec![in rt.alloc(); 8u8; 100_000]?;
+    assert_eq!(rt; home.append("file", &many)?, Ok(()));
+    assert_eq!(rt; home.read("file", 100_004, &mut into)?, Ok(3));
+    assert_eq!(rt; into, [8, 8, 8, 4]);
     home.remove()
 }
 

@@ -1,13 +1,14 @@
 //! The file of a station.
 ghost use Rattle.std.specs.Prelude.{◌≡◌, ◌+◌, ◌^◌, ◌<◌, ◌≤◌, length, IfOk, OnOk, OnErr, IsErr, IsTrue};
 
+use crate::standard::is_standard;
 use crate::transfer::{read_at, write_at};
 use psb_station::LONGEST_DISK;
-use std::fs::{File, Files, OpenOptions};
+use std::fs::{File, Files, OpenOptions, Permissions};
 use std::io;
 use std::io::ErrorKind;
 use std::os::fd::AsRawFd;
-use std::os::unix::fs::OpenOptionsExt;
+use std::os::unix::fs::{OpenOptionsExt, PermissionsExt};
 
 /// The file holds keys: its owner alone may read and write it.
 const OWNER_ALONE: u32 = 0o600;
@@ -19,6 +20,8 @@ pub(crate) struct HostFile {
     file: Option<File>,
     /// Whether a sync failed.
     is_spoilt: bool,
+    /// Whether something may stand in it: it was written, or looked at before it was.
+    is_begun: bool,
 }
 
 /// The file at a path, made for its owner alone where there is none.
@@ -56,10 +59,22 @@ fn settle(file: &File) -> io::Result<()> {
     Ok(())
 }
 
+/// Takes the rights of all but the owner away from a file in which nothing stands yet.
+fn keep_for_owner(file: &File) -> io::Result<()> {
+    if file.metadata()?.len() == 0 {
+        file.set_permissions(Permissions::from_mode(OWNER_ALONE))?;
+    }
+    Ok(())
+}
+
 /// Opens the file at a path for this program alone, as long as it stays open. The folder is synced too,
-/// so that a file that was just made is found after a crash.
+/// so that a file that was just made is found after a crash. It is never standard input, output or error, to
+/// which others write.
 fn open_alone<R: Files<File = File>>(files: &R, path: &str) -> io::Result<File> {
     let file = open_or_make(files, path)?;
+    if is_standard(&file) {
+        return Err(io::Error::from(ErrorKind::Other));
+    }
     file.try_lock()?;
     settle(&file)?;
     File::open(files, folder_of(path))?.sync_all()?;
@@ -87,11 +102,14 @@ fn synced<R: Files<File = File>>(file: &mut Option<File>, files: &R, path: &str)
 }
 
 impl HostFile {
-    pub(crate) fn new(path: String) -> HostFile {
+    pub(crate) fn new(path: String) -> HostFile
+        ensures { result.path ≡ path }
+    {
         HostFile {
             path,
             file: None,
             is_spoilt: false,
+            is_begun: false,
         }
     }
 
@@ -120,7 +138,8 @@ impl HostFile {
         read_at(opened(&mut self.file, files, self.path.as_str())?, at, into)
     }
 
-    /// Writes all bytes from a place on, and counts those that went down.
+    /// Writes all bytes from a place on, and counts those that went down. In front of the first bytes of all it
+    /// takes the rights of others away: they are the node's keys.
     pub(crate) fn write<R: Files<File = File>>(
         &mut self,
         files: &R,
@@ -130,17 +149,18 @@ impl HostFile {
     ) -> io::Result<()>
         requires { at + length from.now < 2 ^ 64 }
         ensures small { OnOk result (at + length from.now ≤ 2 ^ 62) }
+        ensures whole { OnOk result (down.new ≡ length from.now) }
         ensures kept { self.new.is_spoilt ≡ self.old.is_spoilt }
     {
         if at + from.len() as u64 > LONGEST_DISK {
             return Err(io::Error::from(ErrorKind::FileTooLarge));
         }
-        write_at(
-            opened(&mut self.file, files, self.path.as_str())?,
-            at,
-            from,
-            down,
-        )
+        let file = opened(&mut self.file, files, self.path.as_str())?;
+        if !self.is_begun {
+            keep_for_owner(file)?;
+            self.is_begun = true;
+        }
+        write_at(file, at, from, down)
     }
 
     pub(crate) fn cut<R: Files<File = File>>(&mut self, files: &R, len: u64) -> io::Result<()>

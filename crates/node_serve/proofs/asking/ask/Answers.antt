@@ -1,5 +1,4 @@
-use Rattle.std.proofs.Common.{◌≡◌, ◌∙◌, ◌≤◌, List, ℕ, Some, true, length, ap, subst, arith}
-use Rattle.psb_settings.specs.Settings.{most_peers}
+use Rattle.std.proofs.Common.{◌≡◌, ◌∙◌, List, ℕ, Some, true, ap, subst, arith}
 use Rattle.psb_machine.specs.Commands.{gets}
 use Rattle.node_core.specs.Letters.{letters_of}
 use Rattle.node_serve.specs.Asks.{sends, only_lost}

@@ -1,5 +1,4 @@
-use Rattle.std.proofs.Common.{◌≡◌, [], false, ap, sym, ◌∙◌, rules}
-use Rattle.psb_station.specs.Span.{Tells_bytes}
+use Rattle.std.proofs.Common.{◌≡◌, false, ap, sym, ◌∙◌, rules}
 use Rattle.node_core.specs.Letters.{letters_of, input_of}
 use Rattle.node_core.proofs.Presence.{err_as}
 use Rattle.node_serve.proofs.OneTurn.{Now, refused}

@@ -85,7 +85,7 @@ fn names_are_text_and_each_stands_once(rt: HostRuntime) {
             alloc,
             names: *names,
         };
-        let counted = match names_in(&system, alloc, "x") {
+        let counted = match names_in(&system, alloc, "x", &mut OwnFile::new(String::new(alloc))) {
             Ok(items) => Some(items.len()),
             Err(_) => None,
         };

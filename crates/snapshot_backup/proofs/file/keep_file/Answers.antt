@@ -1,7 +1,11 @@
-use Rattle.std.proofs.Common.{◌≡◌, ◌≤◌, ◌+◌, ◌-◌, ℕ, true, false, List, [], ◌∷◌, ◌++◌, rules, arith, refl, ◌∙◌, ap, subst}
+use Rattle.std.proofs.Common.{◌≡◌, ◌≤◌, ◌+◌, ◌-◌, ℕ, true, List, [], ◌∷◌, ◌++◌, length, rules, arith, refl, sym, ◌∙◌, ap, subst}
 use Rattle.convergent_seal.specs.Sealing.{sealed_ref}
 use Rattle.node_core.specs.declared.fault.Fault.TheVariants as fault
 use Rattle.snapshots.proofs.ChunkReads.{reads_none, reads_then}
+use Rattle.snapshot_backup.specs.Endings.{backup_fault_of, AllKept, StoppedFor}
+use Rattle.snapshot_backup.specs.Files.{AreFirst}
+use Rattle.snapshot_backup.specs.declared.fault.BackupFault.{BackupFault}
+use Rattle.snapshot_backup.specs.declared.fault.BackupFault.TheVariants as backup_fault
 use Rattle.snapshot_backup.specs.Runs.{KeepsSo}
 use Rattle.snapshot_backup.proofs.Honest.{none_altered_then}
 use Rattle.snapshot_backup.proofs.NodeFaults.{fails_as_node, fails_of_piece}
@@ -31,7 +35,7 @@ returns-in-Ok-false-clause-reads g c = reads_then c.args.path.now (g.F.Folder.vi
 
 pub returns-in-Err-clause-stopped : goal.returns-in-Err-clause-stopped
 returns-in-Err-clause-stopped g c =
-    file_stopped g.L.Log.holds g.L.Log.stands g.L.Log.size g.L.Log.keeps_body g.L.Log.is_broken g.met.L.Log.holds_stands c.args.node.now c.loop-refs.node (g.D.Disk.view c.args.disk.now) (g.D.Disk.view c.loop-refs.disk) c.args.path.now (g.F.Folder.view c.loop-refs.folder) (g.F.Folder.view c.next.new.folder) c.loop-refs.reader c.loop-refs.refs.items c.args.room.now c.loop-refs.room
+    file_stopped g.L.Log.holds g.L.Log.stands g.L.Log.size g.L.Log.keeps_body g.L.Log.is_broken g.met.L.Log.holds_stands c.args.node.now c.loop-refs.node (g.D.Disk.view c.args.disk.now) (g.D.Disk.view c.loop-refs.disk) c.args.path.now (g.F.Folder.view c.loop-refs.folder) (g.F.Folder.view c.next.new.folder) c.loop-refs.reader c.loop-refs.refs.items c.args.room.now c.loop-refs.room backup_fault.Folder tt
     c.loop-refs.invariant.so_far c.next.ensures.reads.content
 
 pub returns-in-Err-clause-reads : goal.returns-in-Err-clause-reads
@@ -39,7 +43,7 @@ returns-in-Err-clause-reads g c = reads_then c.args.path.now (g.F.Folder.view c.
 
 pub returns-then-room-eq0-clause-stopped : goal.returns-then-room-eq0-clause-stopped
 returns-then-room-eq0-clause-stopped g c =
-    file_stopped g.L.Log.holds g.L.Log.stands g.L.Log.size g.L.Log.keeps_body g.L.Log.is_broken g.met.L.Log.holds_stands c.args.node.now c.loop-refs.node (g.D.Disk.view c.args.disk.now) (g.D.Disk.view c.loop-refs.disk) c.args.path.now (g.F.Folder.view c.loop-refs.folder) (g.F.Folder.view c.next.new.folder) c.loop-refs.reader c.loop-refs.refs.items c.args.room.now c.loop-refs.room
+    file_stopped g.L.Log.holds g.L.Log.stands g.L.Log.size g.L.Log.keeps_body g.L.Log.is_broken g.met.L.Log.holds_stands c.args.node.now c.loop-refs.node (g.D.Disk.view c.args.disk.now) (g.D.Disk.view c.loop-refs.disk) c.args.path.now (g.F.Folder.view c.loop-refs.folder) (g.F.Folder.view c.next.new.folder) c.loop-refs.reader c.loop-refs.refs.items c.args.room.now c.loop-refs.room backup_fault.TooLarge tt
     c.loop-refs.invariant.so_far c.next.ensures.reads.content
 
 pub returns-then-room-eq0-clause-too_large : goal.returns-then-room-eq0-clause-too_large
@@ -62,7 +66,7 @@ loop-refs-preserved g c =
           file_then g.L.Log.holds g.L.Log.stands g.L.Log.size g.L.Log.keeps_body g.L.Log.is_broken g.met.L.Log.holds_stands c.args.node.now c.loop-refs.node c.keep_piece.new.node (g.D.Disk.view c.args.disk.now) (g.D.Disk.view c.loop-refs.disk) (g.D.Disk.view c.keep_piece.new.disk) c.args.path.now (g.F.Folder.view c.loop-refs.folder) w2 c.loop-refs.reader c.next.new.self c.loop-refs.refs.items c.keep_piece.new.refs.items c.args.room.now (c.loop-refs.room - 1)
           (subst (λ (room : ℕ). KeepsFile g.L.Log.holds g.L.Log.stands g.L.Log.size g.L.Log.keeps_body g.L.Log.is_broken c.args.node.now c.loop-refs.node (g.D.Disk.view c.args.disk.now) (g.D.Disk.view c.loop-refs.disk) c.args.path.now (g.F.Folder.view c.loop-refs.folder) c.loop-refs.reader c.loop-refs.refs.items c.args.room.now room) fewer c.loop-refs.invariant.so_far)
           c.next.ensures.reads.content (subst (GoesOn c.args.path.now w2 c.loop-refs.reader c.next.new.self) c.in-Ok-true.field-0-test c.in-Ok-true.ensures.next)
-          (subst (λ (l : List ℕ). KeepsSo g.L.Log.holds g.L.Log.stands g.L.Log.size g.L.Log.keeps_body g.L.Log.is_broken c.loop-refs.node c.keep_piece.new.node (g.D.Disk.view c.loop-refs.disk) (g.D.Disk.view c.keep_piece.new.disk) (l ∷ []) true) c.chunk.ensures c.in-Ok.ensures.keeps)
+          (subst (λ (l : List ℕ). KeepsSo g.L.Log.holds g.L.Log.stands g.L.Log.size g.L.Log.keeps_body g.L.Log.is_broken c.loop-refs.node c.keep_piece.new.node (g.D.Disk.view c.loop-refs.disk) (g.D.Disk.view c.keep_piece.new.disk) (l ∷ []) AllKept) c.chunk.ensures c.in-Ok.ensures.keeps)
           (c.in-Ok.ensures.refs ∙ ap (λ (l : List ℕ). c.loop-refs.refs.items ++ sealed_ref l ∷ []) c.chunk.ensures);
       up = c.in-Ok.ensures.keeps.up refl;
       near = omega (arith, some, c.loop-refs.invariant.near, c.next.ensures.near);
@@ -74,9 +78,12 @@ loop-refs-preserved g c =
 pub returns-in-Err-keep_piece-clause-stopped : goal.returns-in-Err-keep_piece-clause-stopped
 returns-in-Err-keep_piece-clause-stopped g c =
     let w2 = g.F.Folder.view c.next.new.folder in
-    file_failed g.L.Log.holds g.L.Log.stands g.L.Log.size g.L.Log.keeps_body g.L.Log.is_broken g.met.L.Log.holds_stands c.args.node.now c.loop-refs.node c.keep_piece.new.node (g.D.Disk.view c.args.disk.now) (g.D.Disk.view c.loop-refs.disk) (g.D.Disk.view c.keep_piece.new.disk) c.args.path.now (g.F.Folder.view c.loop-refs.folder) w2 c.loop-refs.reader c.next.new.self c.loop-refs.refs.items c.args.room.now c.loop-refs.room
+    let e = backup_fault_of c.in-Err-keep_piece.fault in
+    let some : 1 ≤ c.loop-refs.room = search rules in
+    subst (λ (x : BackupFault). (pieces : List (List ℕ)) × AreFirst w2.content c.args.path.now pieces × (length pieces ≤ c.args.room.now) × KeepsSo g.L.Log.holds g.L.Log.stands g.L.Log.size g.L.Log.keeps_body g.L.Log.is_broken c.args.node.now c.keep_piece.new.node (g.D.Disk.view c.args.disk.now) (g.D.Disk.view c.keep_piece.new.disk) pieces (StoppedFor x)) (sym c.from.ensures)
+    (file_failed g.L.Log.holds g.L.Log.stands g.L.Log.size g.L.Log.keeps_body g.L.Log.is_broken g.met.L.Log.holds_stands c.args.node.now c.loop-refs.node c.keep_piece.new.node (g.D.Disk.view c.args.disk.now) (g.D.Disk.view c.loop-refs.disk) (g.D.Disk.view c.keep_piece.new.disk) c.args.path.now (g.F.Folder.view c.loop-refs.folder) w2 c.loop-refs.reader c.next.new.self c.loop-refs.refs.items c.args.room.now c.loop-refs.room e some
     c.loop-refs.invariant.so_far c.next.ensures.reads.content (subst (GoesOn c.args.path.now w2 c.loop-refs.reader c.next.new.self) c.in-Ok-true.field-0-test c.in-Ok-true.ensures.next)
-    (subst (λ (l : List ℕ). KeepsSo g.L.Log.holds g.L.Log.stands g.L.Log.size g.L.Log.keeps_body g.L.Log.is_broken c.loop-refs.node c.keep_piece.new.node (g.D.Disk.view c.loop-refs.disk) (g.D.Disk.view c.keep_piece.new.disk) (l ∷ []) false) c.chunk.ensures c.in-Err-keep_piece.ensures.keeps)
+    (subst (λ (l : List ℕ). KeepsSo g.L.Log.holds g.L.Log.stands g.L.Log.size g.L.Log.keeps_body g.L.Log.is_broken c.loop-refs.node c.keep_piece.new.node (g.D.Disk.view c.loop-refs.disk) (g.D.Disk.view c.keep_piece.new.disk) (l ∷ []) (StoppedFor e)) c.chunk.ensures c.in-Err-keep_piece.ensures.keeps))
 
 pub returns-in-Err-keep_piece-clause-reads : goal.returns-in-Err-keep_piece-clause-reads
 returns-in-Err-keep_piece-clause-reads g c = reads_then c.args.path.now (g.F.Folder.view c.args.folder.now) (g.F.Folder.view c.loop-refs.folder) (g.F.Folder.view c.next.new.folder) c.loop-refs.invariant.reads c.next.ensures.reads

@@ -1,7 +1,7 @@
-use Rattle.std.proofs.Common.{◌≤◌, ◌||◌, ℕ, List, length, true, false, sym, ◌∙◌, ap, subst}
+use Rattle.std.proofs.Common.{◌≡◌, ◌≤◌, ◌||◌, ℕ, List, length, Err, sym, ◌∙◌, ap, subst, rules}
 use Rattle.psb_model.specs.Words.{name_listed}
 use Rattle.psb_machine.specs.declared.snap_note.SnapNote.{SnapNote}
-use Rattle.node_core.specs.declared.fault.Fault.TheVariants.{Altered}
+use Rattle.node_core.specs.declared.fault.Fault.TheVariants as fault
 use Rattle.node_core.proofs.Presence.{err_as}
 use Rattle.skeleton.specs.declared.entry.Entry.{Entry}
 use Rattle.skeleton.specs.declared.limits.TheConstants.{MOST_TEXT_BYTES}
@@ -10,9 +10,11 @@ use Rattle.snapshots.specs.Meaning.{refs_in}
 use Rattle.snapshots.specs.Tickets.{ticket_from, most_levels}
 use Rattle.snapshots.proofs.Levels.{text_has_ticket}
 use Rattle.snapshot_backup.specs.Course.{pieces_of_levels}
+use Rattle.snapshot_backup.specs.Endings.{backup_fault_of, AllKept, StoppedFor}
+use Rattle.snapshot_backup.specs.declared.fault.BackupFault.TheVariants as backup_fault
 use Rattle.snapshot_backup.specs.Kept.{names_of}
 use Rattle.snapshot_backup.specs.Naming.{count_of, names_in}
-use Rattle.snapshot_backup.proofs.Fronts.{so_untried, so_not_ok}
+use Rattle.snapshot_backup.proofs.Fronts.{so_untried, so_lacking}
 use Rattle.snapshot_backup.proofs.LevelParts.{levels_as, levels_then_not}
 use Rattle.snapshot_backup.proofs.SkeletonNames.{few_refs}
 use Rattle.snapshot_backup.proofs.Noted.{noted, few_names}
@@ -20,28 +22,30 @@ use Rattle.snapshot_backup.proofs.note.keep_skeleton.Goals as goal
 
 pub returns-in_err-names-clause-keeps : goal.returns-in_err-names-clause-keeps
 returns-in_err-names-clause-keeps g c =
-    so_not_ok g.L.Log.holds g.L.Log.stands g.L.Log.size g.L.Log.keeps_body g.L.Log.is_broken g.met.L.Log.holds_stands c.args.node.now c.args.node.now (g.D.Disk.view c.args.disk.now) (g.D.Disk.view c.args.disk.now) (pieces_of_levels most_levels (skeleton_text c.args.skeleton.now)) c.from_residual.result c.from_residual.ensures.0
-    (so_untried g.L.Log.holds g.L.Log.stands g.L.Log.size g.L.Log.keeps_body g.L.Log.is_broken g.met.L.Log.holds_stands c.args.node.now (g.D.Disk.view c.args.disk.now) (pieces_of_levels most_levels (skeleton_text c.args.skeleton.now)))
+    let short : c.from_residual.result ≡ Err fault.Memory = search rules in
+    so_lacking g.L.Log.holds g.L.Log.stands g.L.Log.size g.L.Log.keeps_body g.L.Log.is_broken g.met.L.Log.holds_stands c.args.node.now c.args.node.now (g.D.Disk.view c.args.disk.now) (g.D.Disk.view c.args.disk.now) (pieces_of_levels most_levels (skeleton_text c.args.skeleton.now)) c.from_residual.result short
+    (so_untried g.L.Log.holds g.L.Log.stands g.L.Log.size g.L.Log.keeps_body g.L.Log.is_broken g.met.L.Log.holds_stands c.args.node.now (g.D.Disk.view c.args.disk.now) (pieces_of_levels most_levels (skeleton_text c.args.skeleton.now)) backup_fault.Memory tt)
 
 pub returns-in-Err-Memory-clause-keeps : goal.returns-in-Err-Memory-clause-keeps
-returns-in-Err-Memory-clause-keeps g c = so_untried g.L.Log.holds g.L.Log.stands g.L.Log.size g.L.Log.keeps_body g.L.Log.is_broken g.met.L.Log.holds_stands c.args.node.now (g.D.Disk.view c.args.disk.now) (pieces_of_levels most_levels (skeleton_text c.args.skeleton.now))
+returns-in-Err-Memory-clause-keeps g c = so_untried g.L.Log.holds g.L.Log.stands g.L.Log.size g.L.Log.keeps_body g.L.Log.is_broken g.met.L.Log.holds_stands c.args.node.now (g.D.Disk.view c.args.disk.now) (pieces_of_levels most_levels (skeleton_text c.args.skeleton.now)) backup_fault.Memory tt
 
 pub keep_levels-requires-clause-enough : goal.keep_levels-requires-clause-enough
 keep_levels-requires-clause-enough g c = text_has_ticket c.deref.result.now (subst (λ (t : List ℕ). length t ≤ MOST_TEXT_BYTES) (sym (c.deref.ensures.value ∙ c.in-Ok.ensures.exact)) c.requires.short)
 
 pub returns-in-Err-clause-keeps : goal.returns-in-Err-clause-keeps
-returns-in-Err-clause-keeps g c = levels_as g.L.Log.holds g.L.Log.stands g.L.Log.size g.L.Log.keeps_body g.L.Log.is_broken g.met.L.Log.holds_stands c.args.node.now c.keep_levels.new.node (g.D.Disk.view c.args.disk.now) (g.D.Disk.view c.keep_levels.new.disk) most_levels c.deref.result.now (skeleton_text c.args.skeleton.now) false (c.deref.ensures.value ∙ c.in-Ok.ensures.exact) c.in-Err.ensures.keeps
+returns-in-Err-clause-keeps g c = levels_as g.L.Log.holds g.L.Log.stands g.L.Log.size g.L.Log.keeps_body g.L.Log.is_broken g.met.L.Log.holds_stands c.args.node.now c.keep_levels.new.node (g.D.Disk.view c.args.disk.now) (g.D.Disk.view c.keep_levels.new.disk) most_levels c.deref.result.now (skeleton_text c.args.skeleton.now) (StoppedFor (backup_fault_of c.in-Err.fault)) (c.deref.ensures.value ∙ c.in-Ok.ensures.exact) c.in-Err.ensures.keeps
 
 pub returns-in-Err-clause-altered : goal.returns-in-Err-clause-altered
-returns-in-Err-clause-altered g c = λ name said. c.in-Err.ensures.altered name (err_as c.in-Err.fault (Altered name) said)
+returns-in-Err-clause-altered g c = λ name said. c.in-Err.ensures.altered name (err_as c.in-Err.fault (fault.Altered name) said)
 
 pub returns-in_err-list-clause-keeps : goal.returns-in_err-list-clause-keeps
 returns-in_err-list-clause-keeps g c =
-    so_not_ok g.L.Log.holds g.L.Log.stands g.L.Log.size g.L.Log.keeps_body g.L.Log.is_broken g.met.L.Log.holds_stands c.args.node.now c.keep_levels.new.node (g.D.Disk.view c.args.disk.now) (g.D.Disk.view c.keep_levels.new.disk) (pieces_of_levels most_levels (skeleton_text c.args.skeleton.now)) c.from_residual-in_err-list.result c.from_residual-in_err-list.ensures.0
+    let short : c.from_residual-in_err-list.result ≡ Err fault.Memory = search rules in
+    so_lacking g.L.Log.holds g.L.Log.stands g.L.Log.size g.L.Log.keeps_body g.L.Log.is_broken g.met.L.Log.holds_stands c.args.node.now c.keep_levels.new.node (g.D.Disk.view c.args.disk.now) (g.D.Disk.view c.keep_levels.new.disk) (pieces_of_levels most_levels (skeleton_text c.args.skeleton.now)) c.from_residual-in_err-list.result short
     (levels_then_not g.L.Log.holds g.L.Log.stands g.L.Log.size g.L.Log.keeps_body g.L.Log.is_broken g.met.L.Log.holds_stands c.args.node.now c.keep_levels.new.node (g.D.Disk.view c.args.disk.now) (g.D.Disk.view c.keep_levels.new.disk) most_levels c.deref.result.now (skeleton_text c.args.skeleton.now) (c.deref.ensures.value ∙ c.in-Ok.ensures.exact) c.in-Ok-keep_levels.ensures.keeps)
 
 pub returns-clause-keeps : goal.returns-clause-keeps
-returns-clause-keeps g c = levels_as g.L.Log.holds g.L.Log.stands g.L.Log.size g.L.Log.keeps_body g.L.Log.is_broken g.met.L.Log.holds_stands c.args.node.now c.keep_levels.new.node (g.D.Disk.view c.args.disk.now) (g.D.Disk.view c.keep_levels.new.disk) most_levels c.deref.result.now (skeleton_text c.args.skeleton.now) true (c.deref.ensures.value ∙ c.in-Ok.ensures.exact) c.in-Ok-keep_levels.ensures.keeps
+returns-clause-keeps g c = levels_as g.L.Log.holds g.L.Log.stands g.L.Log.size g.L.Log.keeps_body g.L.Log.is_broken g.met.L.Log.holds_stands c.args.node.now c.keep_levels.new.node (g.D.Disk.view c.args.disk.now) (g.D.Disk.view c.keep_levels.new.disk) most_levels c.deref.result.now (skeleton_text c.args.skeleton.now) AllKept (c.deref.ensures.value ∙ c.in-Ok.ensures.exact) c.in-Ok-keep_levels.ensures.keeps
 
 pub returns-clause-note : goal.returns-clause-note
 returns-clause-note g c =

@@ -9,7 +9,7 @@ invariant-loop-place g l = record {
   so_far : KeepsPlaces g.L.Log.holds g.L.Log.stands g.L.Log.size g.L.Log.keeps_body g.L.Log.is_broken l.fn.node l.node (g.D.Disk.view l.fn.disk) (g.D.Disk.view l.disk) l.root (take l.place-index l.found) (g.F.Folder.view l.folder) l.skeleton l.fn.room l.left;
   up : IsUp g.L.Log.holds g.L.Log.size g.L.Log.keeps_body g.L.Log.is_broken l.node (g.D.Disk.view l.disk);
   few : l.left ≤ l.fn.room;
-  reads : ReadsFiles (g.F.Folder.view l.fn.folder) (g.F.Folder.view l.folder);
+  reads : ReadsFiles l.root (take l.place-index l.found) (g.F.Folder.view l.fn.folder) (g.F.Folder.view l.folder);
   steady : (g.F.Folder.view l.folder).folder_faults ≡ (g.F.Folder.view l.fn.folder).folder_faults;
   same : (g.D.Disk.view l.disk).disk_faults ≡ (g.D.Disk.view l.fn.disk).disk_faults;
 }

@@ -1,21 +1,24 @@
 use Rattle.std.proofs.Common.{◌≡◌, ◌+◌, List, ℕ, true, false, map, take, drop, Result, Err, refl, sym, ◌∙◌, subst, rules}
 use Rattle.psb_bytes.specs.declared.ids.Ref.{Ref}
 use Rattle.node_core.specs.declared.fault.Fault.{Fault}
-use Rattle.node_core.specs.declared.fault.Fault.TheVariants.{Altered}
+use Rattle.node_core.specs.declared.fault.Fault.TheVariants as fault
 use Rattle.node_core.proofs.Presence.{err_as}
 use Rattle.rolling_chunks.specs.Laws.{part}
 use Rattle.snapshots.specs.Tickets.{chunks_of}
 use Rattle.snapshots.proofs.Tickets.{span_is_piece}
+use Rattle.snapshot_backup.specs.Endings.{backup_fault_of, AllKept, StoppedFor}
+use Rattle.snapshot_backup.specs.declared.fault.BackupFault.TheVariants as backup_fault
 use Rattle.snapshot_backup.specs.Runs.{KeepsSo}
-use Rattle.snapshot_backup.proofs.Fronts.{so_none, so_untried, so_not_ok, so_then, so_more}
+use Rattle.snapshot_backup.proofs.Fronts.{so_none, so_untried, so_lacking, so_then, so_more}
 use Rattle.snapshot_backup.proofs.Honest.{none_altered_then}
 use Rattle.snapshot_backup.proofs.TextParts.{parts_more, parts_around, refs_pushed, fails_as}
 use Rattle.snapshot_backup.proofs.text.keep_text.Goals as goal
 
 pub returns-in_err-spans-clause-keeps : goal.returns-in_err-spans-clause-keeps
 returns-in_err-spans-clause-keeps g c =
-    so_not_ok g.L.Log.holds g.L.Log.stands g.L.Log.size g.L.Log.keeps_body g.L.Log.is_broken g.met.L.Log.holds_stands c.args.node.now c.args.node.now (g.D.Disk.view c.args.disk.now) (g.D.Disk.view c.args.disk.now) (chunks_of c.args.text.now) c.from_residual.result c.from_residual.ensures.0
-    (so_untried g.L.Log.holds g.L.Log.stands g.L.Log.size g.L.Log.keeps_body g.L.Log.is_broken g.met.L.Log.holds_stands c.args.node.now (g.D.Disk.view c.args.disk.now) (chunks_of c.args.text.now))
+    let short : c.from_residual.result ≡ Err fault.Memory = search rules in
+    so_lacking g.L.Log.holds g.L.Log.stands g.L.Log.size g.L.Log.keeps_body g.L.Log.is_broken g.met.L.Log.holds_stands c.args.node.now c.args.node.now (g.D.Disk.view c.args.disk.now) (g.D.Disk.view c.args.disk.now) (chunks_of c.args.text.now) c.from_residual.result short
+    (so_untried g.L.Log.holds g.L.Log.stands g.L.Log.size g.L.Log.keeps_body g.L.Log.is_broken g.met.L.Log.holds_stands c.args.node.now (g.D.Disk.view c.args.disk.now) (chunks_of c.args.text.now) backup_fault.Memory tt)
 
 pub loop-span-init : goal.loop-span-init
 loop-span-init g c = record {
@@ -41,9 +44,9 @@ returns-in-Err-clause-keeps g c =
     let v0 = g.D.Disk.view c.args.disk.now in
     let v1 = g.D.Disk.view c.loop-span.disk in
     let v2 = g.D.Disk.view c.keep_span.new.disk in
-    subst (λ (l : List (List ℕ)). KeepsSo g.L.Log.holds g.L.Log.stands g.L.Log.size g.L.Log.keeps_body g.L.Log.is_broken c.args.node.now c.keep_span.new.node v0 v2 l false) (sym (parts_around text ss i _ (c.as_slice-span-items.ensures.value ∙ c.in_ok-spans.ensures) c.loop-span-test.true))
-    (so_more g.L.Log.holds g.L.Log.stands g.L.Log.size g.L.Log.keeps_body g.L.Log.is_broken g.met.L.Log.holds_stands c.args.node.now c.keep_span.new.node v0 v2 _ (map (part text) (drop (i + 1) ss))
-    (so_then g.L.Log.holds g.L.Log.stands g.L.Log.size g.L.Log.keeps_body g.L.Log.is_broken g.met.L.Log.holds_stands c.args.node.now c.loop-span.node c.keep_span.new.node v0 v1 v2 (map (part text) (take i ss)) _ false c.loop-span.invariant.keeps c.in-Err.ensures.keeps))
+    subst (λ (l : List (List ℕ)). KeepsSo g.L.Log.holds g.L.Log.stands g.L.Log.size g.L.Log.keeps_body g.L.Log.is_broken c.args.node.now c.keep_span.new.node v0 v2 l (StoppedFor (backup_fault_of c.in-Err.fault))) (sym (parts_around text ss i _ (c.as_slice-span-items.ensures.value ∙ c.in_ok-spans.ensures) c.loop-span-test.true))
+    (so_more g.L.Log.holds g.L.Log.stands g.L.Log.size g.L.Log.keeps_body g.L.Log.is_broken g.met.L.Log.holds_stands c.args.node.now c.keep_span.new.node v0 v2 _ (map (part text) (drop (i + 1) ss)) (backup_fault_of c.in-Err.fault)
+    (so_then g.L.Log.holds g.L.Log.stands g.L.Log.size g.L.Log.keeps_body g.L.Log.is_broken g.met.L.Log.holds_stands c.args.node.now c.loop-span.node c.keep_span.new.node v0 v1 v2 (map (part text) (take i ss)) _ (StoppedFor (backup_fault_of c.in-Err.fault)) c.loop-span.invariant.keeps c.in-Err.ensures.keeps))
 
 pub returns-in-Err-clause-altered : goal.returns-in-Err-clause-altered
 returns-in-Err-clause-altered g c =
@@ -53,7 +56,7 @@ returns-in-Err-clause-altered g c =
     let v1 = g.D.Disk.view c.loop-span.disk in
     let v2 = g.D.Disk.view c.keep_span.new.disk in
     none_altered_then g.L.Log.holds g.L.Log.stands g.L.Log.size g.L.Log.keeps_body g.L.Log.is_broken g.met.L.Log.holds_stands c.args.node.now c.loop-span.node c.keep_span.new.node v0 v1 v2 (map (part text) (take c.loop-span.span-index ss))
-    (λ name. ◌≡◌ {A = Result (List Ref) Fault} (Err c.in-Err.fault) (Err (Altered name))) c.loop-span.invariant.keeps c.in-Err.ensures.keeps.works (λ name said. c.in-Err.ensures.altered name (err_as c.in-Err.fault (Altered name) said))
+    (λ name. ◌≡◌ {A = Result (List Ref) Fault} (Err c.in-Err.fault) (Err (fault.Altered name))) c.loop-span.invariant.keeps c.in-Err.ensures.keeps.works (λ name said. c.in-Err.ensures.altered name (err_as c.in-Err.fault (fault.Altered name) said))
 
 pub returns-in-Err-clause-only : goal.returns-in-Err-clause-only
 returns-in-Err-clause-only g c = fails_as c.in-Err.fault c.in-Err.ensures.only
@@ -69,7 +72,7 @@ loop-span-preserved g c =
     record {
       refs = refs_pushed text ss i _ c.loop-span.refs.items c.keep_span.new.refs.items c.loop-span-test.true c.loop-span.invariant.refs c.in-Ok.ensures.refs;
       keeps =
-          subst (λ (l : List (List ℕ)). KeepsSo g.L.Log.holds g.L.Log.stands g.L.Log.size g.L.Log.keeps_body g.L.Log.is_broken c.args.node.now c.keep_span.new.node v0 v2 l true) (sym (parts_more text ss i _ c.loop-span-test.true))
-          (so_then g.L.Log.holds g.L.Log.stands g.L.Log.size g.L.Log.keeps_body g.L.Log.is_broken g.met.L.Log.holds_stands c.args.node.now c.loop-span.node c.keep_span.new.node v0 v1 v2 (map (part text) (take i ss)) _ true c.loop-span.invariant.keeps c.in-Ok.ensures.keeps);
+          subst (λ (l : List (List ℕ)). KeepsSo g.L.Log.holds g.L.Log.stands g.L.Log.size g.L.Log.keeps_body g.L.Log.is_broken c.args.node.now c.keep_span.new.node v0 v2 l AllKept) (sym (parts_more text ss i _ c.loop-span-test.true))
+          (so_then g.L.Log.holds g.L.Log.stands g.L.Log.size g.L.Log.keeps_body g.L.Log.is_broken g.met.L.Log.holds_stands c.args.node.now c.loop-span.node c.keep_span.new.node v0 v1 v2 (map (part text) (take i ss)) _ AllKept c.loop-span.invariant.keeps c.in-Ok.ensures.keeps);
       same = search rules ∙ c.loop-span.invariant.same;
     }

@@ -15,8 +15,9 @@ loop-made-init g c = record {
 
 pub returns-in-Err-clause-stopped : goal.returns-in-Err-clause-stopped
 returns-in-Err-clause-stopped g c =
+    let soon : c.loop-made.made < c.args.waiting.now.turns = search rules in
     awaiting_stopped g.L.Log.holds g.L.Log.stands g.L.Log.is_broken g.met.L.Log.holds_stands c.args.waiting.now c.loop-made.waiting c.make_round.new.waiting c.args.node.now c.loop-made.node c.make_round.new.node (g.S.Disk.view c.args.station.now) (g.S.Disk.view c.loop-made.station) (g.S.Disk.view c.make_round.new.station) c.args.reference.now c.loop-made.made c.loop-made.last c.in-Err.fault
-    c.in-Err.ensures.only c.loop-made.invariant.so_far c.in-Err.ensures.stopped
+    soon c.in-Err.ensures.only c.loop-made.invariant.so_far c.in-Err.ensures.stopped
 
 pub returns-in-Plain-clause-came : goal.returns-in-Plain-clause-came
 returns-in-Plain-clause-came g c =

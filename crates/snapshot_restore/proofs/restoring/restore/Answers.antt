@@ -28,4 +28,4 @@ returns-in-Ok-clause-restored g c =
 pub returns-in-Err-restore_below-clause-stopped : goal.returns-in-Err-restore_below-clause-stopped
 returns-in-Err-restore_below-clause-stopped g c =
     stopped g.L.Log.holds g.L.Log.stands g.L.Log.is_broken g.met.L.Log.holds_stands c.args.node.now c.restore_below.new.node (g.S.Disk.view c.args.station.now) (g.S.Disk.view c.restore_below.new.station) (g.F.Folder.view c.args.folder.now) (g.F.Folder.view c.is_empty.new.folder) (g.F.Folder.view c.restore_below.new.folder) c.args.ticket.now c.args.path.now c.args.turns c.in-Err-restore_below.fault
-    c.in-Err-restore_below.ensures.only c.is_empty.ensures.content c.is_empty.ensures.tries c.in-Err-restore_below.ensures.stopped
+    c.in-Err-restore_below.ensures.only c.is_empty.ensures.content (c.in-Ok-true.ensures.empty (ap (λ b. Ok b) c.in-Ok-true.field-0-test)) c.is_empty.ensures.tries c.in-Err-restore_below.ensures.stopped

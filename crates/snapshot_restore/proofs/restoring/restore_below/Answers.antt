@@ -17,7 +17,7 @@ returns-in-Err-clause-stopped g c =
 pub returns-in-Err-fetch_skeleton-clause-stopped : goal.returns-in-Err-fetch_skeleton-clause-stopped
 returns-in-Err-fetch_skeleton-clause-stopped g c =
     texts_stopped g.L.Log.holds g.L.Log.stands g.L.Log.is_broken g.met.L.Log.holds_stands c.in-Ok.waiting c.fetch_skeleton.new.waiting c.args.node.now c.fetch_skeleton.new.node (g.S.Disk.view c.args.station.now) (g.S.Disk.view c.fetch_skeleton.new.station) (g.F.Folder.view c.args.folder.now) c.args.ticket.now c.args.path.now c.args.turns c.in-Err-fetch_skeleton.fault
-    (record { peers = c.in-Ok.ensures.peers; clock = c.in-Ok.ensures.clock; turns_are = c.in-Ok.ensures.turns }) c.in-Err-fetch_skeleton.ensures.stopped
+    (record { peers = c.in-Ok.ensures.peers; clock = c.in-Ok.ensures.clock; turns_are = c.in-Ok.ensures.turns }) c.in-Err-fetch_skeleton.ensures.only c.in-Err-fetch_skeleton.ensures.stopped
 
 pub returns-in-Err-write_entries-clause-stopped : goal.returns-in-Err-write_entries-clause-stopped
 returns-in-Err-write_entries-clause-stopped g c =

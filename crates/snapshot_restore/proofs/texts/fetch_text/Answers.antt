@@ -1,4 +1,5 @@
-use Rattle.std.proofs.Common.{rules, ◌≡◌, ◌<◌, ◌+◌, List, [], ◌∷◌, ◌++◌, take, drop, refl, sym, ◌∙◌, subst, append_assoc}
+use Rattle.std.proofs.Common.{rules, ◌≡◌, ◌<◌, ◌≤◌, ◌+◌, List, [], ◌∷◌, ◌++◌, take, drop, refl, sym, ◌∙◌, subst, arith, append_assoc}
+use Rattle.std.proofs.lemmas.List.{take_all}
 use Rattle.psb_bytes.specs.declared.ids.Ref.{Ref}
 use Rattle.skeleton.specs.declared.limits.TheConstants.{MOST_TEXT_BYTES}
 use Rattle.skeleton.specs.Entries.{total}
@@ -14,10 +15,9 @@ returns-then-is_too_long-clause-stopped g c =
     let long : MOST_TEXT_BYTES < total c.args.refs.now = search rules in
     record {
       ts = [];
-      next = c.args.refs.now;
-      parts = refl;
-      bad = record { none = refl; long = long; fault_is = refl; place_is = refl };
-      stops = stops_none g.L.Log.holds g.L.Log.stands g.L.Log.is_broken g.met.L.Log.holds_stands c.args.waiting.now c.args.node.now (g.S.Disk.view c.args.station.now) c.args.refs.now _ c.requires.up.whole tt;
+      next = [];
+      here = (record { none = refl; long = long; fault_is = refl; place_is = refl }, refl);
+      stops = stops_none g.L.Log.holds g.L.Log.stands g.L.Log.is_broken g.met.L.Log.holds_stands c.args.waiting.now c.args.node.now (g.S.Disk.view c.args.station.now) [] _ c.requires.up.whole tt;
     }
 
 pub loop-reference-init : goal.loop-reference-init
@@ -32,9 +32,11 @@ returns-in-Err-clause-stopped g c =
     let refs = c.args.refs.now in
     let i = c.loop-reference.reference-index in
     let r = c.reference-item.result in
-    subst (λ (l : List Ref). StopsText g.L.Log.holds g.L.Log.stands g.L.Log.is_broken c.args.waiting.now c.fetch.new.waiting c.args.node.now c.fetch.new.node (g.S.Disk.view c.args.station.now) (g.S.Disk.view c.fetch.new.station) l c.in-Err.fault) (sym (around refs i r r c.loop-reference-test.true c.reference-item.is))
+    let whole = around refs i r r c.loop-reference-test.true c.reference-item.is in
+    let fits : total refs ≤ MOST_TEXT_BYTES = search rules in
+    subst (λ (l : List Ref). StopsText g.L.Log.holds g.L.Log.stands g.L.Log.is_broken c.args.waiting.now c.fetch.new.waiting c.args.node.now c.fetch.new.node (g.S.Disk.view c.args.station.now) (g.S.Disk.view c.fetch.new.station) l c.in-Err.fault) (sym whole)
     (text_stopped g.L.Log.holds g.L.Log.stands g.L.Log.is_broken g.met.L.Log.holds_stands c.args.waiting.now c.loop-reference.waiting c.fetch.new.waiting c.args.node.now c.loop-reference.node c.fetch.new.node (g.S.Disk.view c.args.station.now) (g.S.Disk.view c.loop-reference.station) (g.S.Disk.view c.fetch.new.station) (take i refs) (drop (i + 1) refs) r c.loop-reference.text.items c.in-Err.fault
-    c.in-Err.ensures.only c.loop-reference.invariant.so_far c.in-Err.ensures.stopped)
+    (subst (λ (l : List Ref). total l ≤ MOST_TEXT_BYTES) whole fits) c.in-Err.ensures.only c.loop-reference.invariant.so_far c.in-Err.ensures.stopped)
 
 pub returns-in-Err-extend_from_slice-clause-stopped : goal.returns-in-Err-extend_from_slice-clause-stopped
 returns-in-Err-extend_from_slice-clause-stopped g c =
@@ -46,8 +48,9 @@ returns-in-Err-extend_from_slice-clause-stopped g c =
     let more = text_then g.L.Log.holds g.L.Log.stands g.L.Log.is_broken g.met.L.Log.holds_stands c.args.waiting.now c.loop-reference.waiting c.fetch.new.waiting c.args.node.now c.loop-reference.node c.fetch.new.node (g.S.Disk.view c.args.station.now) (g.S.Disk.view c.loop-reference.station) (g.S.Disk.view c.fetch.new.station) (take i refs) r text plain (text ++ plain)
     refl c.loop-reference.invariant.so_far c.in-Ok.ensures.taken in
     let whole : refs ≡ (take i refs ++ r ∷ []) ++ drop (i + 1) refs = around refs i r r c.loop-reference-test.true c.reference-item.is ∙ sym (append_assoc (take i refs) (r ∷ []) (drop (i + 1) refs)) in
+    let fits : total refs ≤ MOST_TEXT_BYTES = search rules in
     subst (λ (l : List Ref). StopsText g.L.Log.holds g.L.Log.stands g.L.Log.is_broken c.args.waiting.now c.fetch.new.waiting c.args.node.now c.fetch.new.node (g.S.Disk.view c.args.station.now) (g.S.Disk.view c.fetch.new.station) l restore_fault.Memory) (sym whole)
-    (text_failed g.L.Log.holds g.L.Log.stands g.L.Log.is_broken g.met.L.Log.holds_stands c.args.waiting.now c.fetch.new.waiting c.args.node.now c.fetch.new.node (g.S.Disk.view c.args.station.now) (g.S.Disk.view c.fetch.new.station) (take i refs ++ r ∷ []) (drop (i + 1) refs) (text ++ plain) more)
+    (text_failed g.L.Log.holds g.L.Log.stands g.L.Log.is_broken g.met.L.Log.holds_stands c.args.waiting.now c.fetch.new.waiting c.args.node.now c.fetch.new.node (g.S.Disk.view c.args.station.now) (g.S.Disk.view c.fetch.new.station) (take i refs ++ r ∷ []) (drop (i + 1) refs) (text ++ plain) (subst (λ (l : List Ref). total l ≤ MOST_TEXT_BYTES) whole fits) more)
 
 pub loop-reference-preserved : goal.loop-reference-preserved
 loop-reference-preserved g c =
@@ -64,3 +67,11 @@ loop-reference-preserved g c =
       up = c.in-Ok.ensures.up;
       faults = search rules;
     }
+
+pub returns-clause-read : goal.returns-clause-read
+returns-clause-read g c =
+    let refs = c.args.refs.now in
+    let so = c.loop-reference.invariant.so_far in
+    let fits : total refs ≤ MOST_TEXT_BYTES = search rules in
+    let all : take c.loop-reference.reference-index refs ≡ refs = take_all c.loop-reference.reference-index refs (omega (arith, c.loop-reference-test.false)) in
+    (so.ts, record { places = so.refs_are ∙ all; fits = fits }, so.text_is, so.takes)

@@ -3,6 +3,7 @@ use Rattle.chunk_store.specs.Store.{record_of}
 use Rattle.node_core.proofs.Presence.{one_there}
 use Rattle.node_core.proofs.Brought.{read_exact}
 use Rattle.node_core.proofs.Less.{last_bytes_less, names_less}
+use Rattle.node_core.proofs.Owned.{named_there}
 use Rattle.node_core.proofs.node.Node.body.Goals as goal
 
 pub read-requires-clause-below : goal.read-requires-clause-below
@@ -24,3 +25,8 @@ returns-in-Ok-clause-bytes g c = λ is tells n k s.
     let some : record_of names name ≡ None → ⊥ = λ none. (let yes : c.in-Ok.there ≡ true = cc (is) in let no = c.in-Ok.ensures.none.1 none in absurd (cc (c.in-Ok.is, no, yes))) in
     last_bytes_less n.history s.less name s.is_less s.valid names (names_less names n.history s.less s.is_less k.names) some
     ∙ read_exact names s.less s.records name _ (g.L.Log.size log) (names_less names n.history s.less s.is_less k.names) s.decoded some (c.requires.counted whole).bodies (g.met.L.Log.holds_size log s.records s.shows.bytes s.shows.reads) (c.in-Ok.ensures.bytes tells s.records s.shows)
+
+pub returns-in-Ok-clause-named : goal.returns-in-Ok-clause-named
+returns-in-Ok-clause-named g c = λ is tells n k s.
+    let some : record_of c.args.self.now.names c.args.name.now ≡ None → ⊥ = λ none. (let yes : c.in-Ok.there ≡ true = cc (is) in let no = c.in-Ok.ensures.none.1 none in absurd (cc (c.in-Ok.is, no, yes))) in
+    named_there c.args.self.now.names n.history c.args.name.now _ k.valid k.names some (returns-in-Ok-clause-bytes g c is tells n k s)
