@@ -23,18 +23,19 @@ fn words_given<R: Env + AllocGlobal>(rt: &R) -> Result<Vec<String>, AllocError> 
     }
 }
 
-/// The program as it was given, over the machine as it is.
-fn given(rt: &HostRuntime) -> Result<Program<'_, HostRuntime, Unknown, Unknown>, AllocError> {
-    Program::new(rt, Unknown, Unknown, words_given(rt)?)
+/// Memory ran out before the command was begun.
+fn no_memory(rt: &HostRuntime) -> ExitCode {
+    let _ = println!(rt; "no memory");
+    exit_code(Status::Memory)
 }
 
 fn main(rt: HostRuntime) -> ExitCode {
     let _standard = Standard::take(&rt);
-    match given(&rt) {
+    let Ok(words) = words_given(&rt) else {
+        return no_memory(&rt);
+    };
+    match Program::new(&rt, Unknown, Unknown, words) {
         Ok(mut program) => program.run(),
-        Err(_) => {
-            let _ = println!(rt; "no memory");
-            exit_code(Status::Memory)
-        }
+        Err(_) => no_memory(&rt),
     }
 }
