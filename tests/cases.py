@@ -67,6 +67,9 @@ def main():
     parser.add_argument("files", nargs="*", metavar="FILE")
     asked = parser.parse_args()
     files = asked.files or [os.path.join(CRATE, "stdin"), os.path.join(CRATE, "stdout")]
+    if not os.path.isfile(asked.program):
+        print("tests/cases.py: there is no program at %s: build it with `rt run` in crates/psb_cases" % asked.program, file=sys.stderr)
+        return 2
     try:
         given, status = answers(asked.program, files[0])
     except (OSError, subprocess.TimeoutExpired) as error:

@@ -12,12 +12,11 @@ import os
 import socket
 import struct
 import subprocess
-import sys
 import tempfile
 
 import own
 import ticks
-from node import MEMORY, PROGRAM, free_port, record, settings, sha
+from node import MEMORY, free_port, program_named, record, settings, sha
 
 ASK = 11
 SIZES, PEERS, SECONDS = (100_000, 1_000_000), range(2, 12), 10
@@ -62,7 +61,7 @@ def later_ticks(program, path, links, port):
 
 
 def main():
-    program = sys.argv[1] if len(sys.argv) > 1 else PROGRAM
+    program = program_named()
     with tempfile.TemporaryDirectory(dir=MEMORY) as folder:
         links = {}
         for peer in PEERS:

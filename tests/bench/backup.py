@@ -15,11 +15,10 @@ import random
 import resource
 import shutil
 import subprocess
-import sys
 import tempfile
 import time
 
-from node import MEMORY, PROGRAM, settings
+from node import MEMORY, program_named, settings
 
 FILES, FOLDERS, BYTES = 14_000, 700, 500_000_000
 
@@ -83,7 +82,7 @@ def time_in(place, program):
 
 
 def main():
-    program = os.path.abspath(sys.argv[1] if len(sys.argv) > 1 else PROGRAM)
+    program = program_named()
     for place in (MEMORY, tempfile.gettempdir()):
         time_in(place, program)
 

@@ -26,6 +26,14 @@ CANCEL, PUT_BACK = 0, 1
 BURST = 100
 
 
+def program_named():
+    """The program that is named, or the one that was built; ends the script where it is not there."""
+    program = os.path.abspath(sys.argv[1] if len(sys.argv) > 1 else PROGRAM)
+    if not os.path.isfile(program):
+        sys.exit(f"there is no program at {program}: build it with `rt run` in crates/psb, or name another one")
+    return program
+
+
 def sha(data):
     return hashlib.sha256(data).digest()
 
@@ -189,7 +197,7 @@ def free_port():
 
 
 def main():
-    program = sys.argv[1] if len(sys.argv) > 1 else PROGRAM
+    program = program_named()
     with tempfile.TemporaryDirectory(dir=MEMORY) as folder, socket.socket(socket.AF_INET, socket.SOCK_DGRAM) as link:
         link.bind(("127.0.0.1", 0))
         port, there = free_port(), link.getsockname()[1]

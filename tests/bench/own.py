@@ -11,10 +11,9 @@ that placed each chunk on its peer, each in a deal of its own; or to which each 
 
 import os
 import struct
-import sys
 import tempfile
 
-from node import MEMORY, PROGRAM, record, settings, sha, timed
+from node import MEMORY, program_named, record, settings, sha, timed
 
 KEPT, SNAPPED, PROPOSED, SETTLED, TURNED, CHOSE = 2, 3, 11, 12, 13, 19
 FRESH, CLASH = 1, 4
@@ -81,7 +80,7 @@ def barred(names):
 
 
 def main():
-    program = sys.argv[1] if len(sys.argv) > 1 else PROGRAM
+    program = program_named()
     with tempfile.TemporaryDirectory(dir=MEMORY) as folder:
         path = os.path.join(folder, "node.img")
         for chunks in (250_000, 500_000, 1_000_000):

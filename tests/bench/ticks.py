@@ -14,12 +14,11 @@ import select
 import socket
 import struct
 import subprocess
-import sys
 import tempfile
 import time
 
 import own
-from node import ACCEPTED, MEMORY, PROGRAM, STORE, datagram, free_port, record, settings, sha
+from node import ACCEPTED, MEMORY, STORE, datagram, free_port, program_named, record, settings, sha
 
 CHUNKS, PEERS, SECONDS = 100_000, range(2, 12), 10
 FIRST_FREE_SLOT = 10**8
@@ -106,7 +105,7 @@ def later_ticks(program, path, links, port):
 
 
 def main():
-    program = sys.argv[1] if len(sys.argv) > 1 else PROGRAM
+    program = program_named()
     with tempfile.TemporaryDirectory(dir=MEMORY) as folder:
         links = {}
         for peer in PEERS:
