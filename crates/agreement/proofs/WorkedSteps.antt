@@ -22,7 +22,7 @@ use Rattle.psb_machine.specs.Proposals.{Asking, proposed_at}
 use Rattle.psb_machine.specs.Sampling.{questions}
 use Rattle.psb_machine.specs.Machine.{Situation, Input, Datagram, Tick, Reaction, keys_of, tells_again, by_standing, on_deal, on_reply, asks_too, by_asking, asking_by, asking_at, choice_at, by_choice, on_tick, react, fresh, settled}
 use Rattle.psb_machine.proofs.Steps.{react-read, on_read-deal, on_read-reply}
-use Rattle.psb_model.specs.Worked.{bytes_from, plain_ticket}
+use Rattle.model_laws.specs.Worked.{bytes_from, plain_ticket}
 use Rattle.agreement.specs.Worlds.{Party, Give, Stop, moved}
 use Rattle.agreement.specs.Worked.{chunk, name, pair_key, node_settings, chosen, asked, placed, quiet_yet, took, store, accepted, first_node, opened, comes, StepsWorked, EndWorked, ToldWorked, WorkedWorld}
 use Rattle.agreement.specs.Agreeing.{placing_by, last_placed}

@@ -9,7 +9,7 @@ use Rattle.psb_model.specs.State.{row, in_key, out_key}
 use Rattle.psb_model.specs.Words.{has, name_eq}
 use Rattle.psb_model.specs.History.{state}
 use Rattle.psb_model.specs.Needed.{last_brought}
-use Rattle.psb_model.specs.Worked.{bytes_from, plain_ticket}
+use Rattle.model_laws.specs.Worked.{bytes_from, plain_ticket}
 use Rattle.psb_model.specs.declared.change.Change.{Change}
 use Rattle.psb_model.specs.declared.change.Change.TheVariants.{Begun, Kept, Snapped, Chose, TookFresh, Proposed, Settled}
 use Rattle.psb_model.specs.declared.deals.DealWhat.TheVariants.{Fresh}

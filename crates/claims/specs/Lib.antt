@@ -1,4 +1,5 @@
 pub mod Source
 pub mod Chain
-pub mod Firsts
+pub mod Fingerprints
+pub mod Growth
 pub mod Walks

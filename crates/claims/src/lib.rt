@@ -3,7 +3,8 @@
 #![tactic(auto)]
 
 mod chain;
-mod index;
+mod fingerprints;
+mod growth;
 mod run;
 mod source;
 mod walk;

@@ -1,13 +1,14 @@
 //! The claims that were walked, and what makes them fast to make and to find.
 
-ghost use Rattle.std.specs.Prelude.{◌≡◌, ◌+◌, ◌*◌, ◌<◌, ◌≤◌, ◌^◌, ℕ, List, IfSome, IfNone, IfOk, OnOk, OnErr, find};
+ghost use Rattle.std.specs.Prelude.{◌≡◌, ◌↔◌, ◌+◌, ◌*◌, ◌<◌, ◌≤◌, ◌^◌, ℕ, true, List, IfSome, IfNone, IfOk, OnOk, OnErr, vec_len, vec_capacity};
 ghost use Rattle.psb_digest.specs.Claims.{claim};
 ghost use Rattle.claims.specs.Chain.{first_link, AreCheckpoints};
-ghost use Rattle.claims.specs.Firsts.{first_bytes, least_below, is_claim};
+ghost use Rattle.claims.specs.Growth.{IsTight};
 ghost use Rattle.claims.specs.Source.{HasNone, IsHome};
 
 use crate::chain::Chain;
-use crate::index::Index;
+use crate::fingerprints::{fingerprint, keep_fingerprint};
+use crate::growth::push_tight;
 use crate::run::ClaimRun;
 use psb_bytes::{Digest, Memory};
 use std::alloc::Global;
@@ -25,14 +26,16 @@ pub(crate) struct Walk {
     next: Digest,
     // The first links of claims 0, 16, 32 and so on.
     checkpoints: Vec<Digest>,
-    index: Index,
+    // The first four bytes of claims 0, 1, 2 and so on.
+    fingerprints: Vec<u32>,
 }
 
 impl Model for Walk {
-    ghost use Rattle.std.specs.Prelude.{◌≡◌};
+    ghost use Rattle.std.specs.Prelude.{◌≡◌, vec_len, vec_capacity};
     ghost use Rattle.claims.specs.Walks.{Walking};
     ghost use Rattle.claims.specs.Chain.{first_link, AreCheckpoints};
-    ghost use Rattle.claims.specs.Firsts.{key_of, Knows};
+    ghost use Rattle.claims.specs.Fingerprints.{AreFingerprints};
+    ghost use Rattle.claims.specs.Growth.{IsTight};
 
     ghost Value = { Walking };
 
@@ -40,7 +43,9 @@ impl Model for Walk {
 
     ghost invariant = { λ w. (w.next ≡ first_link w.chain w.count)
         × AreCheckpoints w.chain w.checkpoints.items w.count
-        × Knows w.index (key_of w.chain) w.count };
+        × AreFingerprints w.chain w.fingerprints.items w.count
+        × IsTight (vec_capacity w.checkpoints) (vec_len w.checkpoints)
+        × IsTight (vec_capacity w.fingerprints) (vec_len w.fingerprints) };
 }
 
 impl Walk {
@@ -55,7 +60,7 @@ impl Walk {
             count: 0,
             next,
             checkpoints: Vec::new(alloc),
-            index: Index::new(alloc),
+            fingerprints: Vec::new(alloc),
         }
     }
 
@@ -94,27 +99,24 @@ impl Walk {
     }
 
     fn is_claim(&self, i: u32, body: &[u8; 512]) -> bool
-        ensures { result ≡ is_claim self.now.seed body.now i }
+        ensures { result ≡ true ↔ (claim self.now.seed i ≡ body.now) }
     {
         self.claim(i) == *body
     }
 
-    /// The least walked number whose claim is the body.
+    /// The least walked number whose claim is the body: one pass over the fingerprints. Where one is
+    /// the body's the claim is made, since two claims may have the same.
     pub(crate) fn home_of(&self, body: &[u8; 512]) -> Option<u32>
-        ensures { result ≡ least_below (is_claim self.now.seed body.now) self.now.count }
+        ensures some { IfSome result (λ i. IsHome self.now.seed body.now 0 self.now.count i) }
+        ensures none { IfNone result (HasNone self.now.seed body.now 0 self.now.count) }
     {
-        let least = self.index.least(first_bytes(body))?;
-        if self.is_claim(least, body) {
-            return Some(least);
+        let sought = fingerprint(body);
+        for i in 0..self.count {
+            if self.fingerprints[i as usize] == sought && self.is_claim(i, body) {
+                return Some(i);
+            }
         }
-        self.first_of(self.index.twins(), body)
-    }
-
-    // The first of these numbers whose claim is the body.
-    fn first_of(&self, numbers: &[u32], body: &[u8; 512]) -> Option<u32>
-        ensures { result ≡ find (is_claim self.now.seed body.now) numbers.now }
-    {
-        numbers.iter().copied().find(|i| self.is_claim(*i, body))
+        None
     }
 
     /// The least number from `count` on and below `end` whose claim is the body, by one pass along
@@ -156,7 +158,7 @@ impl Walk {
         keep_checkpoint(&mut self.checkpoints, self.count, self.next)?;
         let mut next = self.next;
         let bytes = self.chain.pass(self.count, &mut next);
-        self.index.note(first_bytes(&bytes), self.count)?;
+        keep_fingerprint(&mut self.fingerprints, fingerprint(&bytes))?;
         self.count += 1;
         self.next = next;
         Ok(bytes)
@@ -167,17 +169,10 @@ impl Walk {
 fn keep_checkpoint(checkpoints: &mut Vec<Digest>, count: u32, link: Digest) -> Result<(), Memory>
     ensures kept { (seed : List ℕ) → link ≡ first_link seed count → AreCheckpoints seed checkpoints.old.items count → AreCheckpoints seed checkpoints.new.items count }
     ensures more { OnOk result ((seed : List ℕ) → link ≡ first_link seed count → AreCheckpoints seed checkpoints.old.items count → AreCheckpoints seed checkpoints.new.items (count + 1)) }
+    ensures tight { IsTight (vec_capacity checkpoints.old) (vec_len checkpoints.old) → IsTight (vec_capacity checkpoints.new) (vec_len checkpoints.new) }
 {
     if checkpoints.len() == (count / SPACING) as usize {
-        checkpoints.push(link)?;
+        push_tight(checkpoints, link)?;
     }
     Ok(())
-}
-
-fn first_bytes(body: &[u8; 512]) -> u64
-    ensures { result ≡ first_bytes body.now }
-{
-    let mut first = [0; 8];
-    first.copy_from_slice(&body[..8]);
-    u64::from_be_bytes(first)
 }

@@ -12,7 +12,7 @@ use Rattle.psb_model.specs.Words.{units, name_listed}
 use Rattle.psb_model.specs.State.{State, row, used}
 use Rattle.psb_model.specs.Proposing.{as_many, slots_to_give, cancel, slots_to_fill, is_missing, place_of, first_place}
 use Rattle.psb_model.proofs.ByObject.{by_cases}
-use Rattle.psb_model.proofs.Fitting.{is_fit_len, few_units, fit_state}
+use Rattle.model_laws.proofs.Fitting.{is_fit_len, few_units, fit_state}
 use Rattle.psb_ledger.specs.View.{IsReached}
 use Rattle.deals.specs.Placing.{most_units, placed_with}
 

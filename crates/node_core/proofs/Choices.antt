@@ -15,7 +15,7 @@ use Rattle.psb_model.specs.Needed.{IsValid}
 use Rattle.psb_model.specs.declared.change.Change.{Change}
 use Rattle.psb_model.specs.declared.change.Change.TheVariants.{Chose}
 use Rattle.psb_model.specs.declared.entries.Candidate.{Candidate}
-use Rattle.psb_model.proofs.Bodies.{valid_snoc}
+use Rattle.model_laws.proofs.Bodies.{valid_snoc}
 use Rattle.buddy_select.specs.Order.{put_all}
 use Rattle.buddy_select.proofs.Ordering.{put_long}
 use Rattle.wire_codec.specs.Frames.{key_in, datagram}

@@ -24,7 +24,7 @@ use Rattle.psb_model.proofs.Rows.{row_in-at_row, row_in-at_other, row_in-first_r
 use Rattle.psb_model.proofs.Steps.{parts}
 use Rattle.psb_model.proofs.Built.{IsPlain, plain_state, marks_has, allows, begun_before, changed, rows_one, row_then}
 use Rattle.psb_model.proofs.Held.{held_in, own_with_is, Gains, Loses, fresh_gains, swap_gains, refused_gains, proposed_gains, settled_gains, turned_gains, let_go_loses, put_back_loses, all_gain, none_first, was_held, brings_none}
-use Rattle.psb_model.proofs.Leaving.{own_stays, forgot_has, ended_has, settled_beside, turned_beside}
+use Rattle.model_laws.proofs.Leaving.{own_stays, forgot_has, ended_has, settled_beside, turned_beside}
 use Rattle.psb_model.proofs.Prefixes.{state_snoc, changes_counted}
 use Rattle.node_core.specs.declared.entering.Entering.{Entering}
 use Rattle.node_core.specs.Names.{owns, brought_from, KnowsNames, AreThere, Adds, SameNames, HasNoOwner, IsLeft, Drops, GivesUp, deal_names, Enters, IsEntering, Enter, IsNew}

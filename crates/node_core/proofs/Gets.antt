@@ -17,7 +17,7 @@ use Rattle.psb_model.specs.Effects.{after}
 use Rattle.psb_model.specs.Needed.{brings_name, last_bringing, last_brought, IsValid}
 use Rattle.psb_model.specs.declared.change.Change.{Change}
 use Rattle.psb_model.specs.declared.change.Change.TheVariants.{Kept, TookFresh, TookSwap}
-use Rattle.psb_ledger.proofs.Decoded.{all_bytes}
+use Rattle.change_codec.proofs.RecordLaws.{all_bytes}
 use Rattle.wire_codec.specs.Fields.{is_digest, is_text, are_bytes}
 use Rattle.wire_codec.specs.Frames.{read_frame, datagram}
 use Rattle.wire_codec.specs.declared.frame.Frame.TheVariants.{Get, Here}

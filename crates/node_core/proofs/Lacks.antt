@@ -19,7 +19,7 @@ use Rattle.psb_model.proofs.ByObject.{by_cases}
 use Rattle.psb_model.proofs.Own.{name_same, name_refl}
 use Rattle.psb_model.proofs.Steps.{parts}
 use Rattle.psb_model.proofs.Built.{allows}
-use Rattle.psb_model.proofs.Directs.{has_direct}
+use Rattle.model_laws.proofs.Directs.{has_direct}
 use Rattle.psb_model.proofs.Prefixes.{lawful_cons}
 use Rattle.chunk_store.specs.declared.store.Store.{Store}
 use Rattle.chunk_store.specs.Store.{record_of}

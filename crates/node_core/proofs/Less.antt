@@ -16,7 +16,7 @@ use Rattle.psb_model.specs.Needed.{brings, slots_given, brings_name, gives_slot,
 use Rattle.psb_model.specs.declared.change.Change.{Change}
 use Rattle.psb_model.specs.declared.change.Change.TheVariants.{Kept, TookFresh, TookSwap, LetGoBack, Replaced, Settled}
 use Rattle.psb_model.proofs.ByObject.{by_cases}
-use Rattle.psb_model.proofs.Bodies.{valid_snoc, last_brings}
+use Rattle.model_laws.proofs.Bodies.{valid_snoc, last_brings}
 use Rattle.psb_machine.specs.Deals.{are_others, meets_others}
 use Rattle.chunk_store.specs.declared.store.Store.{Store}
 use Rattle.chunk_store.specs.Store.{record_of}

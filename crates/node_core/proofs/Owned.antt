@@ -19,8 +19,8 @@ use Rattle.psb_model.specs.Needed.{brings_name, last_that, last_bringing, last_b
 use Rattle.psb_model.specs.declared.change.Change.{Change}
 use Rattle.psb_model.specs.declared.change.Change.TheVariants.{Kept, Forgot}
 use Rattle.psb_model.proofs.Own.{name_same, name_refl}
-use Rattle.psb_ledger.proofs.Decoded.{all_bytes}
-use Rattle.psb_ledger.proofs.SnappedHeads.{ticket_length, names_length}
+use Rattle.change_codec.proofs.RecordLaws.{all_bytes}
+use Rattle.change_codec.proofs.Lengths.{ticket_length, names_length}
 use Rattle.psb_machine.specs.Deals.{meets_others}
 use Rattle.psb_machine.specs.Laws.{KeepFits, SnapFits}
 use Rattle.psb_machine.specs.Machine.{Situation, Volatile, Reaction as MachineReaction, Keep, on_keep, kept_with, snapped_with, has_snapshot, quiet, grows}

@@ -23,7 +23,7 @@ use Rattle.psb_machine.specs.Replies.{reply_of, reply}
 use Rattle.psb_machine.specs.Machine.{Situation, Input, Datagram, Reaction as MachineReaction, react, tells_again, here}
 use Rattle.psb_machine.specs.declared.deals.Refusal.{Refusal}
 use Rattle.psb_machine.proofs.Lasts.{LastIs, last_there}
-use Rattle.psb_ledger.specs.Records.{OneChangeEach}
+use Rattle.change_codec.specs.Records.{OneChangeEach}
 use Rattle.node_core.specs.declared.node.Node.{Node}
 use Rattle.node_core.specs.declared.offer.Offer.{Offer}
 use Rattle.node_core.specs.declared.offer.Request.{Request}

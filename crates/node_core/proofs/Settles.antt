@@ -13,7 +13,7 @@ use Rattle.psb_model.specs.History.{state}
 use Rattle.psb_model.specs.Needed.{IsValid}
 use Rattle.psb_model.specs.declared.change.Change.{Change}
 use Rattle.psb_model.specs.declared.change.Change.TheVariants.{Settled, Turned}
-use Rattle.psb_model.proofs.Bodies.{valid_snoc}
+use Rattle.model_laws.proofs.Bodies.{valid_snoc}
 use Rattle.psb_machine.specs.Deals.{slots_of}
 use Rattle.psb_machine.specs.Judging.{ReplyFits}
 use Rattle.psb_machine.specs.Settling.{Reply as AnyReply, Accepts, Refuses, answers_deal, settle}

@@ -15,7 +15,7 @@ use Rattle.psb_model.specs.declared.deals.DealWhat.{DealWhat}
 use Rattle.psb_model.specs.declared.deals.DealWhat.TheVariants.{Fresh, Swap, Cancel, PutBack, Forward, Return}
 use Rattle.psb_model.specs.declared.change.Change.{Change}
 use Rattle.psb_model.specs.declared.change.Change.TheVariants.{Proposed}
-use Rattle.psb_model.proofs.Fitting.{fit_state}
+use Rattle.model_laws.proofs.Fitting.{fit_state}
 use Rattle.wire_codec.specs.Fields.{within, are_slots}
 use Rattle.wire_codec.specs.Frames.{key_in}
 use Rattle.psb_machine.specs.Proposals.{Asking as MachineAsking, proposed_at, is_askable, brings_bytes, is_even, asks}
@@ -23,7 +23,7 @@ use Rattle.psb_machine.specs.Machine.{Situation, Volatile, Input, Tick, Reaction
 use Rattle.psb_machine.specs.Laws.{TickFits}
 use Rattle.psb_machine.proofs.Peers.{keyed_is_peer}
 use Rattle.psb_machine.proofs.Ticking.{asking_cases, asking_askable, proposed_may}
-use Rattle.psb_model.proofs.Bodies.{valid_snoc}
+use Rattle.model_laws.proofs.Bodies.{valid_snoc}
 use Rattle.node_core.specs.declared.node.Node.{Node}
 use Rattle.node_core.specs.declared.reaction.Reaction.{Reaction}
 use Rattle.node_core.specs.declared.clocks.Clock.{Clock}

@@ -15,70 +15,9 @@ ghost use Rattle.node_core.specs.Names.{deal_names, Drops};
 
 use chunk_store::{Owner, Store};
 use psb_bytes::{Digest, DigestList, Items, Memory, PeerId};
-use psb_ledger::{Ledger, Opening};
+use psb_ledger::Ledger;
 use psb_model::{Change, Deal, DealWhat, OwnEntry, Snapshot};
 use std::alloc::Global;
-
-/// What the node keeps of its own, in a ledger or in one that is being read up.
-pub(crate) trait OwnPart {
-    ghost state: { Self → State };
-
-    /// The first own chunk, or the first behind the name.
-    fn chunk_after(&self, name: Option<&Digest>) -> Option<OwnEntry>
-        ensures { result ≡ next_own (option_map (λ n. n.now) name.entry) (state self.now).own };
-
-    /// The kept snapshots.
-    fn snapshots(&self) -> &[Snapshot]
-        ensures { result.now ≡ (state self.now).kept };
-
-    /// Whether the name is that of an own chunk.
-    fn has_chunk(&self, name: &Digest) -> bool
-        ensures { result ≡ own_has (state self.now).own name.now };
-
-    /// The own deal with the peer that has no reply yet.
-    fn deal_with(&self, peer: PeerId) -> Option<&Deal>
-        ensures { option_copied result ≡ (row (state self.now) peer).pending };
-}
-
-impl OwnPart for Ledger {
-    ghost state = { λ l. l.state };
-
-    fn chunk_after(&self, name: Option<&Digest>) -> Option<OwnEntry> {
-        self.own_after(name)
-    }
-
-    fn snapshots(&self) -> &[Snapshot] {
-        self.kept()
-    }
-
-    fn has_chunk(&self, name: &Digest) -> bool {
-        self.has_own(name)
-    }
-
-    fn deal_with(&self, peer: PeerId) -> Option<&Deal> {
-        self.pending(peer)
-    }
-}
-
-impl OwnPart for Opening {
-    ghost state = { λ o. o.state };
-
-    fn chunk_after(&self, name: Option<&Digest>) -> Option<OwnEntry> {
-        self.own_after(name)
-    }
-
-    fn snapshots(&self) -> &[Snapshot] {
-        self.kept()
-    }
-
-    fn has_chunk(&self, name: &Digest) -> bool {
-        self.has_own(name)
-    }
-
-    fn deal_with(&self, peer: PeerId) -> Option<&Deal> {
-        self.pending(peer)
-    }
-}
 
 /// Whether names that ascend have this one.
 fn has_name(names: &[Digest], name: &Digest) -> bool
@@ -103,22 +42,22 @@ fn is_listed(kept: &[Snapshot], number: u32, name: &Digest) -> bool
 }
 
 /// Whether a kept snapshot other than this one lists the name.
-fn is_kept<P: OwnPart>(past: &P, number: u32, name: &Digest) -> bool
-    requires { list_all (λ k. names_ascend k.names) (P.state past.now).kept ≡ true }
-    ensures { result ≡ kept_lists (kept_without number (P.state past.now).kept) name.now }
+fn is_kept(past: &Ledger, number: u32, name: &Digest) -> bool
+    requires { list_all (λ k. names_ascend k.names) past.now.state.kept ≡ true }
+    ensures { result ≡ kept_lists (kept_without number past.now.state.kept) name.now }
 {
-    is_listed(past.snapshots(), number, name)
+    is_listed(past.kept(), number, name)
 }
 
 /// Adds a name, where no kept snapshot other than this one lists it.
-fn add_unlisted<P: OwnPart>(
+fn add_unlisted(
     names: &mut Vec<Digest>,
-    past: &P,
+    past: &Ledger,
     number: u32,
     name: Digest,
 ) -> Result<(), Memory>
-    requires { list_all (λ k. names_ascend k.names) (P.state past.now).kept ≡ true }
-    ensures { OnOk result (names.new.items ≡ (if kept_lists (kept_without number (P.state past.now).kept) name then names.old.items else names.old.items ++ name ∷ [])) }
+    requires { list_all (λ k. names_ascend k.names) past.now.state.kept ≡ true }
+    ensures { OnOk result (names.new.items ≡ (if kept_lists (kept_without number past.now.state.kept) name then names.old.items else names.old.items ++ name ∷ [])) }
 {
     if !is_kept(past, number, &name) {
         names.push(name)?;
@@ -127,16 +66,16 @@ fn add_unlisted<P: OwnPart>(
 }
 
 /// The own names that no kept snapshot lists without this one, in their order.
-fn unlisted_names<P: OwnPart>(alloc: Global, past: &P, number: u32) -> Result<DigestList, Memory>
-    requires own { in_order own_key (P.state past.now).own ≡ true }
-    requires kept { list_all (λ k. names_ascend k.names) (P.state past.now).kept ≡ true }
-    ensures { IfOk result (λ names. (q : List ℕ) → name_listed names q ≡ (own_has (P.state past.now).own q && not (kept_lists (kept_without number (P.state past.now).kept) q))) }
+fn unlisted_names(alloc: Global, past: &Ledger, number: u32) -> Result<DigestList, Memory>
+    requires own { in_order own_key past.now.state.own ≡ true }
+    requires kept { list_all (λ k. names_ascend k.names) past.now.state.kept ≡ true }
+    ensures { IfOk result (λ names. (q : List ℕ) → name_listed names q ≡ (own_has past.now.state.own q && not (kept_lists (kept_without number past.now.state.kept) q))) }
 {
     let mut names = Vec::new(alloc);
-    let mut next = past.chunk_after(None);
+    let mut next = past.own_after(None);
     while let Some(own) = next {
         add_unlisted(&mut names, past, number, own.name)?;
-        next = past.chunk_after(Some(&own.name));
+        next = past.own_after(Some(&own.name));
     }
     Ok(Items::from_vec(names))
 }
@@ -155,15 +94,15 @@ fn name_of(deal: &DealWhat) -> Option<Digest>
 }
 
 /// The name of the peer's pending deal, if it has one.
-fn pending_name<P: OwnPart>(past: &P, peer: PeerId) -> Option<Digest>
-    ensures { option_to_list result ≡ deal_names (P.state past.now) peer }
+fn pending_name(past: &Ledger, peer: PeerId) -> Option<Digest>
+    ensures { option_to_list result ≡ deal_names past.now.state peer }
 {
-    name_of(&past.deal_with(peer)?.what)
+    name_of(&past.pending(peer)?.what)
 }
 
 /// The same, as a list.
-fn deal_names<P: OwnPart>(alloc: Global, past: &P, peer: PeerId) -> Result<DigestList, Memory>
-    ensures { IfOk result (λ names. names ≡ deal_names (P.state past.now) peer) }
+fn deal_names(alloc: Global, past: &Ledger, peer: PeerId) -> Result<DigestList, Memory>
+    ensures { IfOk result (λ names. names ≡ deal_names past.now.state peer) }
 {
     let mut names = Vec::new(alloc);
     if let Some(name) = pending_name(past, peer) {
@@ -188,14 +127,10 @@ impl Entering {
     ghost use Rattle.node_core.specs.Names.{IsEntering, IsNew, Enter};
 
     /// What a change does, behind what is past.
-    pub(crate) fn of<P: OwnPart>(
-        alloc: Global,
-        past: &P,
-        change: &Change,
-    ) -> Result<Entering, Memory>
-        requires own { in_order own_key (P.state past.now).own ≡ true }
-        requires kept { list_all (λ k. names_ascend k.names) (P.state past.now).kept ≡ true }
-        ensures { IfOk result (IsEntering (P.state past.now) change.now) }
+    pub(crate) fn of(alloc: Global, past: &Ledger, change: &Change) -> Result<Entering, Memory>
+        requires own { in_order own_key past.now.state.own ≡ true }
+        requires kept { list_all (λ k. names_ascend k.names) past.now.state.kept ≡ true }
+        ensures { IfOk result (IsEntering past.now.state change.now) }
     {
         match change {
             Change::Kept { name, .. } => Ok(Entering::AddsOwner(Owner::Own, *name)),
@@ -217,10 +152,10 @@ impl Entering {
 
     /// Has the names as the change leaves them, whose record has this number, and after which the node keeps this
     /// of its own. Takes no memory.
-    pub(crate) fn enter<P: OwnPart>(&self, names: &mut Store, number: u64, left: &P)
+    pub(crate) fn enter(&self, names: &mut Store, number: u64, left: &Ledger)
         requires room { has_room names.old ≡ true }
         requires fresh { IsNew names.old self.now }
-        ensures { Enter (P.state left.now).own names.old names.new self.now number }
+        ensures { Enter left.now.state.own names.old names.new self.now number }
     {
         match self {
             Entering::Nothing => {}
@@ -239,17 +174,17 @@ fn drop_owner(names: &mut Store, owner: Owner, name: &Digest)
 }
 
 /// Takes the node itself from the owners of a name that is no own chunk's. Takes no memory.
-fn drop_lost<P: OwnPart>(names: &mut Store, name: &Digest, left: &P)
-    ensures { Drops names.old names.new Own (λ q. name_eq name.now q && not (own_has (P.state left.now).own q)) }
+fn drop_lost(names: &mut Store, name: &Digest, left: &Ledger)
+    ensures { Drops names.old names.new Own (λ q. name_eq name.now q && not (own_has left.now.state.own q)) }
 {
-    if !left.has_chunk(name) {
+    if !left.has_own(name) {
         drop_owner(names, Owner::Own, name);
     }
 }
 
 /// Takes the node itself from the owners of those of these names that are no own chunks. Takes no memory.
-fn drop_own<P: OwnPart>(names: &mut Store, dropped: &[Digest], left: &P)
-    ensures { Drops names.old names.new Own (λ q. name_listed dropped.now q && not (own_has (P.state left.now).own q)) }
+fn drop_own(names: &mut Store, dropped: &[Digest], left: &Ledger)
+    ensures { Drops names.old names.new Own (λ q. name_listed dropped.now q && not (own_has left.now.state.own q)) }
 {
     for name in dropped {
         drop_lost(names, name, left);

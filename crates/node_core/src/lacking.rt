@@ -11,7 +11,7 @@ ghost use Rattle.chunk_store.specs.Store.{record_of};
 
 use chunk_store::Store;
 use psb_bytes::{Digest, Memory, PeerId};
-use psb_ledger::Opening;
+use psb_ledger::Ledger;
 use std::alloc::Global;
 use std::collections::BTreeSet;
 
@@ -99,12 +99,12 @@ impl Lacking {
     }
 
     /// Whether one of the slots is to have its bytes here.
-    pub(crate) fn any_direct(&self, opening: &Opening) -> bool
-        ensures some { result ≡ true → (p : ℕ) × (n : ℕ) × (is_slot_lacking self.now p n ≡ true) × (has_so in_key is_direct (row opening.now.state p).ins (Slot n) ≡ true) }
-        ensures none { result ≡ false → (p n : ℕ) → is_slot_lacking self.now p n ≡ true → has_so in_key is_direct (row opening.now.state p).ins (Slot n) ≡ false }
+    pub(crate) fn any_direct(&self, ledger: &Ledger) -> bool
+        ensures some { result ≡ true → (p : ℕ) × (n : ℕ) × (is_slot_lacking self.now p n ≡ true) × (has_so in_key is_direct (row ledger.now.state p).ins (Slot n) ≡ true) }
+        ensures none { result ≡ false → (p n : ℕ) → is_slot_lacking self.now p n ≡ true → has_so in_key is_direct (row ledger.now.state p).ins (Slot n) ≡ false }
     {
         self.slots
             .iter()
-            .any(|at| opening.is_direct(PeerId(at.peer), at.slot))
+            .any(|at| ledger.is_direct(PeerId(at.peer), at.slot))
     }
 }

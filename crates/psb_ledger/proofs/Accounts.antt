@@ -12,7 +12,7 @@ use Rattle.psb_model.specs.Effects.{own_slots, chunk_in}
 use Rattle.psb_model.proofs.ByObject.{sum_by-with_one, sum_by-with_all, by_cases}
 use Rattle.psb_model.proofs.Parts.{sum-own_slots}
 use Rattle.psb_ledger.specs.View.{OwnDealsView, lacks_all, plain_row, fresh_row}
-use Rattle.psb_ledger.proofs.Ordered.{is_false}
+use Rattle.peer_lists.proofs.Ordered.{is_false}
 
 -- what a list lacks, it lacks when others are gone
 pub lacks_kept : {E : Type 0} (key : E → Object) (q : E → Bool) (l : List E) (o : Object) → has key l o ≡ false → has key (filter q l) o ≡ false

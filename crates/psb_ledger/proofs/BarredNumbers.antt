@@ -13,7 +13,7 @@ use Rattle.psb_model.proofs.Own.{name_same}
 use Rattle.psb_model.proofs.ByObject.{by_cases}
 use Rattle.psb_ledger.specs.OwnDeals.{names_of, number_of, latest_number, barred_room, KnowsNumbers}
 use Rattle.psb_ledger.specs.declared.account.barred.Barring.{Barring}
-use Rattle.psb_ledger.proofs.Trees.{by_order}
+use Rattle.peer_lists.proofs.Trees.{by_order}
 use Rattle.psb_ledger.proofs.OwnTrees.{same_name}
 
 -- a name has a number where it stands in the list

@@ -21,14 +21,14 @@ use Rattle.psb_model.proofs.Steps.{parts}
 use Rattle.psb_model.proofs.Own.{own_after_keeps, keeps_then, named_keeps}
 use Rattle.psb_model.proofs.Built.{allows, KeepsNamed, use_kept, rows_use, is_kept}
 use Rattle.psb_model.proofs.ByObject.{by_cases}
-use Rattle.psb_ledger.specs.declared.codec.fields.KeptFields.{KeptFields}
+use Rattle.psb_ledger.specs.declared.fields.KeptFields.{KeptFields}
 use Rattle.psb_ledger.specs.declared.book.Book.TheInside.{Inside}
 use Rattle.psb_ledger.specs.View.{LedgerView, Mine, named_row, plain_state, in_order, own_key, IsMine, IsReached, IsSound}
 use Rattle.psb_ledger.specs.OwnList.{lifts, marks}
 use Rattle.psb_ledger.specs.OwnTree.{own_items}
 use Rattle.psb_ledger.specs.Snapping.{change_of, count_of}
 use Rattle.psb_ledger.proofs.Spelled.{all_end}
-use Rattle.psb_ledger.proofs.Ordered.{is_false}
+use Rattle.peer_lists.proofs.Ordered.{is_false}
 use Rattle.psb_ledger.proofs.OwnTrees.{ordered_with, ordered_kept, ordered_marks}
 use Rattle.psb_ledger.proofs.Sound.{mine, state_of, view_of, plain_of, reached_after}
 use Rattle.psb_ledger.proofs.OwnStays.{all_stay}

@@ -16,10 +16,10 @@ use Rattle.psb_model.proofs.Held.{chunk_stays}
 use Rattle.psb_model.proofs.Built.{allows, row_use, changed}
 use Rattle.psb_model.proofs.Steps.{parts, Step}
 use Rattle.psb_model.proofs.Tidy.{none_returned}
-use Rattle.psb_ledger.specs.declared.codec.fields.CancelFields.{CancelFields}
+use Rattle.psb_ledger.specs.declared.fields.CancelFields.{CancelFields}
 use Rattle.psb_ledger.specs.declared.book.Book.TheInside.{Inside}
 use Rattle.psb_ledger.specs.View.{AccountView, LedgerView, let_go_row, put_back_row, let_go_tests, put_back_tests, lacks_all, HasListRoom}
-use Rattle.psb_ledger.proofs.Trees.{without_none}
+use Rattle.peer_lists.proofs.Trees.{without_none}
 use Rattle.psb_ledger.proofs.Places.{found_here, found_peer, found_account}
 use Rattle.psb_ledger.proofs.OwnStays.{names_more}
 use Rattle.psb_ledger.proofs.Sound.{state_of, view_of, good_of}
@@ -44,27 +44,29 @@ pub row_let_go : (name ns : List ℕ) (deal change : ℕ) (r : Row) → took_dea
 row_let_go name ns deal change r = λ i. let_go_row name ns deal change (record r { debts = debts_stay r.debts i })
 
 pub record CanLetGo (l : Inside) (v : LedgerView) (x : CancelFields) (ns : List ℕ) (i : ℕ) (r : AccountView) : Type 0 where
-  pub ascends : ascend ns ≡ true
+  pub out_room : 2 * length ns ≤ r.out_room
   pub held : held_units (let_go_row x.name ns x.deal l.changes r.row) + length ns ≡ held_units r.row
   pub back : back_units (let_go_row x.name ns x.deal l.changes r.row) + length ns ≡ back_units r.row
   pub enough : length ns ≤ l.used
   pub made : (w : AccountView) (total : ℕ) → total + length ns ≡ l.used → w.id ≡ r.id → w.row ≡ let_go_row x.name ns x.deal l.changes r.row → Makes l v (let_go_of x ns) i l.issued total w
 
-pub can_let_go : (l : Inside) (v : LedgerView) (x : CancelFields) (ns : List ℕ) (i : ℕ) (r : AccountView) → IsAt l v (let_go_of x ns) x.peer i r → CanLetGo l v x ns i r
-can_let_go l v x ns i r f =
+pub can_let_go : (l : Inside) (v : LedgerView) (x : CancelFields) (ns : List ℕ) (i : ℕ) (r : AccountView) → IsAt l v (let_go_of x ns) x.peer i r → HasListRoom v x.peer 0 (2 * length ns) → CanLetGo l v x ns i r
+can_let_go l v x ns i r f room =
     let s = state_of l in
+    let vs = l.accounts.items in
+    let at = found_here vs x.peer i r f.place f.here in
+    let room' : HasListRoom (view_of l) x.peer 0 (2 * length ns) = subst (λ (w : LedgerView). HasListRoom w x.peer 0 (2 * length ns)) (sym f.view) room in
     let c = let_go_of x ns in
     let q = row_at l v c x.peer i r f in
     let tests_hold = (allows s c f.may).tests in
     let ts = parts (tests s c) tests_hold in
     let good = good_of s f.sound.reached in
     let step : Step s c x.peer = steps s c good f.grammar tests_hold in
-    let listed = and_parts (ascend ns) (is_count (length ns)) f.grammar in
     let long : length ns ≡ units_at in_key in_size (row s x.peer).ins (Chunk x.name) = eqb-true (length ns) (units_at in_key in_size (row s x.peer).ins (Chunk x.name)) ts.1.1.1.1.0 in
     let moved : took_deal x.deal l.changes (after_move (let_go_move x.name ns) (row s x.peer)) ≡ let_go_row x.name ns x.deal l.changes r.row = row_let_go x.name ns x.deal l.changes (row s x.peer) ∙ ap (let_go_row x.name ns x.deal l.changes) q in
     let held : held_units (let_go_row x.name ns x.deal l.changes r.row) + length ns ≡ held_units r.row = omega (arith, ap held_units moved, ap held_units q, step.weighs.held, long) in
     record {
-      ascends = listed.0;
+      out_room = subst (λ (y : AccountView). 2 * length ns ≤ y.out_room) (found_account vs x.peer i r at) (room'.out_room (found_peer vs x.peer i r at));
       held = held;
       back = omega (arith, held, ap held_units moved, ap back_units moved, ap held_units q, ap back_units q, step.tidy.balanced, (good.rows x.peer).tidy.balanced, step.weighs.debt, none_returned debt_size (row s x.peer).debts);
       enough = omega (arith, held, within_used l v c x.peer i r f);

@@ -1,17 +1,8 @@
 pub mod Spelled
-pub mod OneChange
-pub mod Decoded
-pub mod SnappedHeads
-pub mod SlotHeads
-pub mod Ordered
 pub mod Numbers
-pub mod Found
 pub mod Listed
-pub mod Trees
-pub mod Merged
 pub mod OwnTrees
 pub mod Places
-pub mod Forms
 pub mod BarredNumbers
 pub mod OwnStays
 pub mod Seeking
@@ -25,4 +16,3 @@ pub mod LettingGo
 pub mod Keeping
 pub mod Replies
 pub mod Choosing
-pub mod DealHeads

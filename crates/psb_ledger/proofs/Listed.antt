@@ -12,7 +12,7 @@ use Rattle.psb_model.specs.Grammar.{ascend}
 use Rattle.psb_model.specs.Conditions.{names_ascend}
 use Rattle.psb_model.specs.Effects.{kept_lists}
 use Rattle.psb_ledger.specs.View.{in_order}
-use Rattle.psb_ledger.proofs.Ordered.{below_rest}
+use Rattle.peer_lists.proofs.Ordered.{below_rest}
 
 -- names that ascend pair by pair are in order as a whole
 pub ascending : (names : List (List ℕ)) → names_ascend names ≡ true → in_order Chunk names ≡ true

@@ -15,7 +15,7 @@ use Rattle.psb_model.specs.Grammar.{ascend}
 use Rattle.psb_model.specs.State.{in_key, out_key}
 use Rattle.psb_model.specs.Effects.{direct_slot, direct_slots, own_slot, own_slots}
 use Rattle.psb_ledger.specs.View.{in_order}
-use Rattle.psb_ledger.proofs.Ordered.{below_rest}
+use Rattle.peer_lists.proofs.Ordered.{below_rest}
 
 less : (a b : ℕ) → nat_lt a b ≡ true → is_lt (object_cmp (Slot a) (Slot b)) ≡ true
 less a b h = grind (arith, nat_tests)

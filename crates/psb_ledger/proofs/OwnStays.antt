@@ -17,7 +17,7 @@ use Rattle.psb_model.proofs.ByObject.{by_cases}
 use Rattle.psb_ledger.specs.View.{AccountView, named_row, in_order, own_key}
 use Rattle.psb_ledger.specs.OwnList.{without_name, released}
 use Rattle.psb_ledger.specs.OwnDeals.{row_names}
-use Rattle.psb_ledger.proofs.Found.{none_behind, rest_ordered}
+use Rattle.peer_lists.proofs.Found.{none_behind, rest_ordered}
 
 -- what the rows name, others name too; but for one name, if there is one
 abbrev pub NamesMost : List (ℕ × Row) → List (ℕ × Row) → Type 0

@@ -29,9 +29,9 @@ use Rattle.psb_model.proofs.ObjectOrder.{less_then}
 use Rattle.psb_ledger.specs.declared.own.OwnChunk.{OwnChunk}
 use Rattle.psb_ledger.specs.View.{in_order, own_key}
 use Rattle.psb_ledger.specs.OwnList.{own_entry, with_newest, is_newest, newest_len, newest_marked, newest_other, newest_lifted, newest_left, lifts, marks, without_name, newest_behind, nearer, is_behind, known_len, next_own}
-use Rattle.psb_ledger.proofs.Ordered.{in_order_with, equal_is_one, or_false, apart, in_order_but, in_order_kept, kept_with}
-use Rattle.psb_ledger.proofs.Trees.{by_order}
-use Rattle.psb_ledger.proofs.Found.{none_behind, rest_ordered}
+use Rattle.peer_lists.proofs.Ordered.{in_order_with, equal_is_one, or_false, apart, in_order_but, in_order_kept, kept_with}
+use Rattle.peer_lists.proofs.Trees.{by_order}
+use Rattle.peer_lists.proofs.Found.{none_behind, rest_ordered}
 
 -- the order by which a tree keeps its names is theirs
 abbrev IsNameOrder : (List ℕ → List ℕ → Ordering) → Type 0

@@ -25,15 +25,15 @@ use Rattle.psb_model.proofs.Steps.{parts, Before}
 use Rattle.psb_model.proofs.Tidy.{IsTidy, weighs, total}
 use Rattle.psb_model.proofs.Standing.{StandsFor, settle_swap_move, settle_cancel_move, settle_put_back_move, units_of_ones}
 use Rattle.psb_model.proofs.Built.{allows, row_use, changed}
-use Rattle.psb_ledger.specs.declared.codec.fields.RefusedFields.{RefusedFields}
-use Rattle.psb_ledger.specs.declared.codec.fields.ReplyFields.{ReplyFields}
+use Rattle.psb_ledger.specs.declared.fields.RefusedFields.{RefusedFields}
+use Rattle.psb_ledger.specs.declared.fields.ReplyFields.{ReplyFields}
 use Rattle.psb_ledger.specs.declared.book.Book.TheInside.{Inside}
-use Rattle.psb_ledger.specs.View.{AccountView, LedgerView, named_row, in_order, own_key, settled_deal, settled_by, settled_row, settle_tests, may_settle_row, outs_settled, lacks_all, account_in, HasListRoom, HasTurnRoom}
+use Rattle.psb_ledger.specs.View.{AccountView, LedgerView, named_row, in_order, own_key, settled_deal, settled_by, settled_row, settle_tests, may_settle_row, ins_of, outs_of, ins_settled, outs_settled, lacks_all, account_in, HasListRoom, HasTurnRoom}
 use Rattle.psb_ledger.specs.OwnTree.{own_items}
 use Rattle.psb_ledger.specs.OwnList.{released}
 use Rattle.psb_ledger.specs.OwnDeals.{row_names, placed_name, coming_name, own_units, drawn}
 use Rattle.psb_ledger.specs.Settling.{SettlesDeal, Settles}
-use Rattle.psb_ledger.proofs.Trees.{without_none}
+use Rattle.peer_lists.proofs.Trees.{without_none}
 use Rattle.psb_ledger.proofs.OwnTrees.{ordered_kept}
 use Rattle.psb_ledger.proofs.OwnStays.{is_but, names_more, has_with_all}
 use Rattle.psb_ledger.proofs.Places.{found_here, found_peer, found_account}
@@ -155,18 +155,18 @@ absent_out : (r : Row) (name : List ℕ) → total r (Chunk name) ≡ 0 → has 
 absent_out r name h = by_cases (has out_key r.outs (Chunk name)) (λ k. absurd (omega (arith, h, has-occurs out_key r.outs (Chunk name) k))) (λ k. k)
 
 -- what the account needs
-pub settles_deal : (issued : ℕ) (own : List OwnEntry) (v : AccountView) (d : Deal) (u : ℕ) (ns : List ℕ) → IsTidy issued v.row → StandsFor issued own v.row d.what → may_settle_row (own_units own (coming_name (Some d))) v.row (Some d) ns ≡ true → ascend ns ≡ true → length ns ≤ v.in_room → outs_settled v.row (Some d) ≤ v.out_room → u ≡ own_units own (placed_name (Some d)) → held_units v.row + own_units own (coming_name (Some d)) < 2 ^ 32 → issued < 2 ^ 32 → SettlesDeal v u ns d.what
-settles_deal issued own v d u ns tidy stands may asc ins outs uis fits small = by_what d.what stands may outs uis fits
+pub settles_deal : (issued : ℕ) (own : List OwnEntry) (v : AccountView) (d : Deal) (u : ℕ) (ns : List ℕ) → IsTidy issued v.row → StandsFor issued own v.row d.what → may_settle_row (own_units own (coming_name (Some d))) v.row (Some d) ns ≡ true → ascend ns ≡ true → length ns + ins_settled (Some d) ≤ v.in_room → outs_settled (Some d) ≤ v.out_room → u ≡ own_units own (placed_name (Some d)) → held_units v.row + own_units own (coming_name (Some d)) < 2 ^ 32 → issued < 2 ^ 32 → SettlesDeal v u ns d.what
+settles_deal issued own v d u ns tidy stands may asc ins outs uis fits small = by_what d.what stands may ins outs uis fits
   where
     deal : DealWhat → Deal
     deal w = record { number = d.number; what = w }
 
-    by_what : (w : DealWhat) → StandsFor issued own v.row w → may_settle_row (own_units own (coming_name (Some (deal w)))) v.row (Some (deal w)) ns ≡ true → outs_settled v.row (Some (deal w)) ≤ v.out_room → u ≡ own_units own (placed_name (Some (deal w))) → held_units v.row + own_units own (coming_name (Some (deal w))) < 2 ^ 32 → SettlesDeal v u ns w
-    by_what (Fresh name) st may outs uis fits =
+    by_what : (w : DealWhat) → StandsFor issued own v.row w → may_settle_row (own_units own (coming_name (Some (deal w)))) v.row (Some (deal w)) ns ≡ true → length ns + ins_of w ≤ v.in_room → outs_of w ≤ v.out_room → u ≡ own_units own (placed_name (Some (deal w))) → held_units v.row + own_units own (coming_name (Some (deal w))) < 2 ^ 32 → SettlesDeal v u ns w
+    by_what (Fresh name) st may ins outs uis fits =
         let both = and_parts (length ns == units (own_len own name)) (each_slot (λ o. not (has in_key v.row.ins o)) ns) may in
         let long : length ns ≡ units (own_len own name) = eqb-true (length ns) (units (own_len own name)) both.0 in
         record {
-          in_room = ins;
+          in_room = omega (arith, ins);
           out_room = outs;
           ascends = asc;
           absent = absent_out v.row name st;
@@ -174,20 +174,21 @@ settles_deal issued own v d u ns tidy stands may asc ins outs uis fits small = b
           held = omega (arith, long, fits);
           back = omega (arith, fits, uis, tidy.balanced);
         }
-    by_what (Swap name numbers) st may outs uis fits =
+    by_what (Swap name numbers) st may ins outs uis fits =
         let w = weighs v.row (settle_swap_move name u numbers) refl (ascend-distinct numbers st.ascends) (omega arith) in
         record {
           out_room = outs;
           absent = absent_out v.row name st.absent;
           same = omega (arith, w.back, units_of_ones out_key out_size v.row.outs numbers tidy.outs_ones st.here, st.long, uis);
         }
-    by_what (Cancel name theirs) st may outs uis fits =
+    by_what (Cancel name theirs) st may ins outs uis fits =
         let w = weighs v.row (settle_cancel_move name theirs) (ascend-distinct theirs st.ascends) refl (omega arith) in
         record {
+          in_room = omega (arith, ins);
           held = omega (arith, w.held, units_of_ones in_key in_size v.row.ins theirs tidy.ins_ones st.here);
           back = omega (arith, w.back, st.long);
         }
-    by_what (PutBack name first) st may outs uis fits =
+    by_what (PutBack name first) st may ins outs uis fits =
         let n = units_at out_key out_size v.row.outs (Chunk name) in
         let w = weighs v.row (settle_put_back_move name first n) refl refl (omega arith) in
         record {
@@ -196,8 +197,8 @@ settles_deal issued own v d u ns tidy stands may asc ins outs uis fits small = b
           free = lacks_range first n v.row.outs (λ m le lt. omega (arith, st.free m le lt));
           same = omega (arith, w.back, sum-own_slots first n);
         }
-    by_what (Forward slot entry) st may outs uis fits = tt
-    by_what (Return slot) st may outs uis fits = tt
+    by_what (Forward slot entry) st may ins outs uis fits = tt
+    by_what (Return slot) st may ins outs uis fits = tt
 
 pub record CanSettle (l : Inside) (v : LedgerView) (x : ReplyFields) (ns : List ℕ) (i u : ℕ) (r : AccountView) : Type 0 where
   pub needs : Settles r u ns r.row.pending
@@ -232,13 +233,13 @@ settled_names r r' o (Some d) u ns e is named n other h = ap (λ y. row_names y 
     by_what (Forward slot entry) named e = names_more r (record r { pending = None }) n (λ k. k) refl (λ k. absurd (not_named (Forward slot entry) named e k)) h
     by_what (Return slot) named e = names_more r (record r { pending = None }) n (λ k. k) refl (λ k. absurd (not_named (Return slot) named e k)) h
 
-pub can_settle : (l : Inside) (v : LedgerView) (x : ReplyFields) (ns : List ℕ) (i u : ℕ) (r : AccountView) → IsAt l v (settling x ns) x.peer i r → in_order own_key (own_items l.own) ≡ true → HasListRoom v x.peer (length ns) (outs_settled (row v.state x.peer) (row v.state x.peer).pending) → u ≡ own_units (own_items l.own) (placed_name r.row.pending) → l.issued < 2 ^ 32 → CanSettle l v x ns i u r
+pub can_settle : (l : Inside) (v : LedgerView) (x : ReplyFields) (ns : List ℕ) (i u : ℕ) (r : AccountView) → IsAt l v (settling x ns) x.peer i r → in_order own_key (own_items l.own) ≡ true → HasListRoom v x.peer (length ns + ins_settled (row v.state x.peer).pending) (outs_settled (row v.state x.peer).pending) → u ≡ own_units (own_items l.own) (placed_name r.row.pending) → l.issued < 2 ^ 32 → CanSettle l v x ns i u r
 can_settle l v x ns i u r f ordered room uis small =
     let s = state_of l in
     let c = settling x ns in
     let vs = l.accounts.items in
     let at = found_here vs x.peer i r f.place f.here in
-    let room' : HasListRoom (view_of l) x.peer (length ns) (outs_settled (row s x.peer) (row s x.peer).pending) = subst (λ (w : LedgerView). HasListRoom w x.peer (length ns) (outs_settled (row w.state x.peer) (row w.state x.peer).pending)) (sym f.view) room in
+    let room' : HasListRoom (view_of l) x.peer (length ns + ins_settled (row s x.peer).pending) (outs_settled (row s x.peer).pending) = subst (λ (w : LedgerView). HasListRoom w x.peer (length ns + ins_settled (row w.state x.peer).pending) (outs_settled (row w.state x.peer).pending)) (sym f.view) room in
     let peer = found_peer vs x.peer i r at in
     let account = found_account vs x.peer i r at in
     let q : row s x.peer ≡ r.row = row_at l v c x.peer i r f in
@@ -246,8 +247,8 @@ can_settle l v x ns i u r f ordered room uis small =
     let asc : ascend ns ≡ true = (and_parts (ascend ns) (is_count (length ns)) (and_parts (body_fits (512 * length ns) None) (numbers_listed ns) f.grammar).1).0 in
     let before : held_units r.row + own_units (own_items l.own) (coming_name r.row.pending) ≤ l.used = omega (arith, use_of l v c x.peer i r f, coming_is s r.row.pending) in
     let used_small = sound_small l.used s f.sound in
-    let ins : length ns ≤ r.in_room = subst (λ (y : AccountView). length ns ≤ y.in_room) account (room'.in_room peer) in
-    let outs : outs_settled r.row r.row.pending ≤ r.out_room = subst (λ (y : AccountView). outs_settled r.row r.row.pending ≤ y.out_room) account (subst (λ (y : Row). outs_settled y y.pending ≤ (account_in vs x.peer).out_room) q (room'.out_room peer)) in
+    let ins : length ns + ins_settled r.row.pending ≤ r.in_room = subst (λ (y : AccountView). length ns + ins_settled r.row.pending ≤ y.in_room) account (subst (λ (y : Row). length ns + ins_settled y.pending ≤ (account_in vs x.peer).in_room) q (room'.in_room peer)) in
+    let outs : outs_settled r.row.pending ≤ r.out_room = subst (λ (y : AccountView). outs_settled r.row.pending ≤ y.out_room) account (subst (λ (y : Row). outs_settled y.pending ≤ (account_in vs x.peer).out_room) q (room'.out_room peer)) in
     let b : Before s x.peer = (good_of s f.sound.reached).rows x.peer in
     let tidy : IsTidy l.issued r.row = subst (IsTidy l.issued) q b.tidy in
     let may : may_settle s x.peer r.row.pending ns ≡ true = ap (λ (y : Row). may_settle s x.peer y.pending ns) (sym q) ∙ ts.1.0 in
@@ -265,7 +266,7 @@ can_settle l v x ns i u r f ordered room uis small =
     settled_use : (s : State) (y : Row) → y.pending ≡ None → row_use s y ≡ held_units y
     settled_use s y h = omega (arith, ap (coming s) h)
 
-    needs_of : (s : State) (r : AccountView) (u : ℕ) (ns : List ℕ) (o : Option Deal) → r.row.pending ≡ o → row s x.peer ≡ r.row → Before s x.peer → IsTidy s.issued r.row → may_settle s x.peer o ns ≡ true → ascend ns ≡ true → length ns ≤ r.in_room → outs_settled r.row o ≤ r.out_room → u ≡ own_units s.own (placed_name o) → held_units r.row + own_units s.own (coming_name o) < 2 ^ 32 → s.issued < 2 ^ 32 → Settles r u ns o
+    needs_of : (s : State) (r : AccountView) (u : ℕ) (ns : List ℕ) (o : Option Deal) → r.row.pending ≡ o → row s x.peer ≡ r.row → Before s x.peer → IsTidy s.issued r.row → may_settle s x.peer o ns ≡ true → ascend ns ≡ true → length ns + ins_settled o ≤ r.in_room → outs_settled o ≤ r.out_room → u ≡ own_units s.own (placed_name o) → held_units r.row + own_units s.own (coming_name o) < 2 ^ 32 → s.issued < 2 ^ 32 → Settles r u ns o
     needs_of s r u ns None e q b tidy may asc ins outs uis fits small = tt
     needs_of s r u ns (Some d) e q b tidy may asc ins outs uis fits small =
         let stands : StandsFor s.issued s.own r.row d.what = subst (λ (y : Row). StandsFor s.issued s.own y d.what) q (b.stands d (ap (λ (y : Row). y.pending) q ∙ e)) in

@@ -1,5 +1,5 @@
 -- The search for the next own deal with a peer, step by step.
-use Rattle.std.proofs.Common.{◌≡◌, ℕ, zero, suc, ◌+◌, ◌<◌, ◌≤◌, Bool, true, false, not, ◌&&◌, cond, List, [], ◌∷◌, ◌++◌, length, length-append, filter, take, drop, get_or, Option, Some, None, IfSome, refl, sym, ap, ◌∙◌, subst, arith, append_assoc}
+use Rattle.std.proofs.Common.{◌≡◌, ℕ, zero, suc, ◌+◌, ◌^◌, ◌<◌, ◌≤◌, Bool, true, false, not, ◌&&◌, ◌||◌, cond, List, [], ◌∷◌, ◌++◌, length, length-append, filter, take, Option, Some, None, IfSome, refl, sym, ap, ◌∙◌, subst, arith, append_assoc}
 use Rattle.std.specs.Prelude.{find, nat_le, if◌then◌else◌}
 use Rattle.std.specs.List.{list_all, flat_map, prefix_len}
 use Rattle.std.specs.Option.{option_map}
@@ -21,8 +21,11 @@ use Rattle.psb_model.proofs.ByObject.{by_cases}
 use Rattle.psb_model.proofs.ObjectOrder.{comes_first, less_then}
 use Rattle.psb_ledger.specs.View.{in_order, own_key}
 use Rattle.psb_ledger.specs.OwnList.{is_behind, next_own}
-use Rattle.psb_ledger.specs.Passed.{is_past, is_past_own, from_object, outs_past, next_out, outs_behind, own_behind}
-use Rattle.psb_ledger.proofs.Ordered.{is_false}
+use Rattle.peer_lists.specs.Chunks.{is_chunk}
+use Rattle.peer_lists.specs.Entries.{from_object}
+use Rattle.peer_lists.specs.Walks.{is_past as is_past_object, chunk_after, IsSlotFrom}
+use Rattle.psb_ledger.specs.Passed.{is_past, is_past_own, chunk_name, number_behind, next_out, outs_behind, own_behind}
+use Rattle.peer_lists.proofs.Ordered.{is_false}
 
 -- ---- the order of names
 
@@ -43,17 +46,38 @@ from_step key o e es =
     (λ k. let n = prefix_len (λ x. is_lt (object_cmp (key x) o)) es in let more : 1 + n ≡ suc n = omega arith in rw (k, more) refl)
     (λ k. rw k refl)
 
-pub next_past : (place : Option (List ℕ)) (outs : List OutEntry) → next_out place (outs_past place outs) ≡ next_out place outs
-next_past None outs = refl
-next_past (Some m) [] = refl
-next_past (Some m) (e ∷ es) = ap (next_out (Some m)) (from_step out_key (Chunk m) e es) ∙ by_object e.object (next_past (Some m) es)
+-- a chunk behind a place
+behind_is : (place : Option (List ℕ)) (n : List ℕ) → is_past_object place (Chunk n) ≡ is_behind place n
+behind_is None n = refl
+behind_is (Some m) n = refl
+
+-- the name of what was found
+abbrev pub name_after : Option OutEntry → Option (List ℕ)
+name_after None = None
+name_after (Some e) = chunk_name e.object
+
+slots_behind : (n : ℕ) (es : List OutEntry) (place : Option (List ℕ)) → list_all (λ (x : OutEntry). is_lt (object_cmp (Slot n) (out_key x))) es ≡ true → chunk_after out_key place es ≡ None
+slots_behind n [] place h = refl
+slots_behind n (e ∷ es) place h =
+    let a = and_parts (is_lt (object_cmp (Slot n) e.object)) (list_all (λ (x : OutEntry). is_lt (object_cmp (Slot n) (out_key x))) es) h in
+    let slot : is_chunk e.object ≡ false = of e.object a.0 in
+    rw slot (slots_behind n es place a.1)
   where
-    by_object : (o : Object) → next_out (Some m) (from_object out_key (Chunk m) es) ≡ next_out (Some m) es
-        → next_out (Some m) (cond (is_lt (object_cmp o (Chunk m))) (from_object out_key (Chunk m) es) (record e { object = o } ∷ es)) ≡ next_out (Some m) (record e { object = o } ∷ es)
-    by_object (Chunk n) rest = by_cases (is_lt (slice_cmp nat_cmp n m))
-        (λ k. rw (k, comes_first (Chunk n) (Chunk m) k) rest)
-        (λ k. rw k refl)
-    by_object (Slot n) rest = refl
+    of : (o : Object) → is_lt (object_cmp (Slot n) o) ≡ true → is_chunk o ≡ false
+    of (Chunk c) h = absurd (false≢true h)
+    of (Slot m) h = refl
+
+pub after_next : (place : Option (List ℕ)) (outs : List OutEntry) → in_order out_key outs ≡ true → name_after (chunk_after out_key place outs) ≡ next_out place outs
+after_next place [] h = refl
+after_next place (e ∷ es) h =
+    let o = and_parts (list_all (λ (x : OutEntry). is_lt (object_cmp e.object (out_key x))) es) (in_order out_key es) h in
+    by_object e.object o.0 (after_next place es o.1)
+  where
+    by_object : (o : Object) → list_all (λ (x : OutEntry). is_lt (object_cmp o (out_key x))) es ≡ true → name_after (chunk_after out_key place es) ≡ next_out place es → name_after (chunk_after out_key place (record e { object = o } ∷ es)) ≡ next_out place (record e { object = o } ∷ es)
+    by_object (Chunk n) first rest =
+        let same = behind_is place n in
+        by_cases (is_behind place n) (λ k. rw (same ∙ k, k) refl) (λ k. rw (same ∙ k, k) rest)
+    by_object (Slot n) first rest = ap name_after (slots_behind n es place first)
 
 -- the next one is behind the place
 next_is_behind : (place : Option (List ℕ)) (outs : List OutEntry) (n : List ℕ) → next_out place outs ≡ Some n → is_behind place n ≡ true
@@ -143,22 +167,122 @@ outs_fall place (e ∷ es) n next = by_object e.object next (outs_fall place es 
 
 -- ---- what is found there
 
--- what was passed is not released
-pub found_past : (s : State) (p : ℕ) (probed : List Object) (place : Option (List ℕ)) (outs : List OutEntry) → none_marked (is_past place) s.own outs ≡ true → find (may_release s p probed) (outs_past place outs) ≡ find (may_release s p probed) outs
-found_past s p probed None outs h = refl
-found_past s p probed (Some m) [] h = refl
-found_past s p probed (Some m) (e ∷ es) h = ap (find (may_release s p probed)) (from_step out_key (Chunk m) e es) ∙ by_object e.object h (found_past s p probed (Some m) es)
+-- what is not behind the place does not pass the test
+abbrev pub skipped : (OutEntry → Bool) → Option (List ℕ) → List OutEntry → Bool
+skipped t place outs = list_all (λ (e : OutEntry). is_past_object place e.object || not (t e)) outs
+
+-- no slot passes
+abbrev pub PassesNoSlot : (OutEntry → Bool) → Type 0
+PassesNoSlot t = (e : OutEntry) → is_chunk e.object ≡ false → t e ≡ false
+
+not_this : (p t : Bool) → p ≡ false → (p || not t) ≡ true → t ≡ false
+not_this true t h k = absurd (true≢false h)
+not_this false true h k = sym k
+not_this false false h k = refl
+
+pub first_found : (t : OutEntry → Bool) (place : Option (List ℕ)) (outs : List OutEntry) (e : OutEntry) → PassesNoSlot t → skipped t place outs ≡ true → Some e ≡ chunk_after out_key place outs → t e ≡ true → Some e ≡ find t outs
+first_found t place [] e none h f k = absurd (cc)
+first_found t place (x ∷ xs) e none h f k =
+    let a = and_parts (is_past_object place x.object || not (t x)) (skipped t place xs) h in
+    by_cases (is_chunk x.object)
+    (λ c.
+    by_cases (is_past_object place x.object)
+    (λ b. let f' : Some e ≡ Some x = rw (c, b) at f in let same : x ≡ e = cc in let here : t x ≡ true = ap t same ∙ k in rw here (ap (λ y. Some y) (sym same)))
+    (λ b. let f' = rw (c, b) at f in let not_here : t x ≡ false = not_this (is_past_object place x.object) (t x) b a.0 in rw not_here (first_found t place xs e none a.1 f' k)))
+    (λ c. let f' = rw c at f in let not_here : t x ≡ false = none x c in rw not_here (first_found t place xs e none a.1 f' k))
+
+pub none_found : (t : OutEntry → Bool) (place : Option (List ℕ)) (outs : List OutEntry) → PassesNoSlot t → skipped t place outs ≡ true → None ≡ chunk_after out_key place outs → None ≡ find t outs
+none_found t place [] none h f = refl
+none_found t place (x ∷ xs) none h f =
+    let a = and_parts (is_past_object place x.object || not (t x)) (skipped t place xs) h in
+    by_cases (is_chunk x.object)
+    (λ c.
+    by_cases (is_past_object place x.object)
+    (λ b. let f' : None ≡ Some x = rw (c, b) at f in absurd (cc))
+    (λ b. let f' = rw (c, b) at f in let not_here : t x ≡ false = not_this (is_past_object place x.object) (t x) b a.0 in rw not_here (none_found t place xs none a.1 f')))
+    (λ c. let f' = rw c at f in let not_here : t x ≡ false = none x c in rw not_here (none_found t place xs none a.1 f'))
+
+-- what stands behind a chunk is passed over
+all_behind : (t : OutEntry → Bool) (o : Object) (n : List ℕ) (es : List OutEntry) → o ≡ Chunk n → list_all (λ (x : OutEntry). is_lt (object_cmp o (out_key x))) es ≡ true → skipped t (Some n) es ≡ true
+all_behind t o n [] is h = refl
+all_behind t o n (x ∷ xs) is h =
+    let a = and_parts (is_lt (object_cmp o (out_key x))) (list_all (λ (y : OutEntry). is_lt (object_cmp o (out_key y))) xs) h in
+    let here : is_lt (object_cmp (Chunk n) x.object) ≡ true = ap (λ y. is_lt (object_cmp y x.object)) (sym is) ∙ a.0 in
+    rw here (all_behind t o n xs is a.1)
+
+or_right : (a b : Bool) → b ≡ true → (a || b) ≡ true
+or_right true b h = refl
+or_right false b h = h
+
+chunk_is : (o : Object) (n : List ℕ) → Some n ≡ chunk_name o → o ≡ Chunk n
+chunk_is (Chunk c) n h = let same : c ≡ n = cc in ap Chunk same
+chunk_is (Slot c) n h = absurd (cc)
+
+pub skips_on : (t : OutEntry → Bool) (place : Option (List ℕ)) (outs : List OutEntry) (e : OutEntry) (n : List ℕ) → PassesNoSlot t → in_order out_key outs ≡ true → skipped t place outs ≡ true → Some e ≡ chunk_after out_key place outs → t e ≡ false → Some n ≡ chunk_name e.object → skipped t (Some n) outs ≡ true
+skips_on t place [] e n none ordered h f k is = refl
+skips_on t place (x ∷ xs) e n none ordered h f k is =
+    let a = and_parts (is_past_object place x.object || not (t x)) (skipped t place xs) h in
+    let o = and_parts (list_all (λ (y : OutEntry). is_lt (object_cmp x.object (out_key y))) xs) (in_order out_key xs) ordered in
+    by_cases (is_chunk x.object)
+    (λ c.
+    by_cases (is_past_object place x.object)
+    (λ b.
+    let f' : Some e ≡ Some x = rw (c, b) at f in
+    let same : x ≡ e = cc in
+    let not_here : not (t x) ≡ true = ap (λ y. not (t y)) same ∙ ap not k in
+    rw (or_right (is_past_object (Some n) x.object) (not (t x)) not_here) (all_behind t x.object n xs (ap (λ (y : OutEntry). y.object) same ∙ chunk_is e.object n is) o.0))
+    (λ b.
+    let f' = rw (c, b) at f in
+    let not_here : not (t x) ≡ true = ap not (not_this (is_past_object place x.object) (t x) b a.0) in
+    rw (or_right (is_past_object (Some n) x.object) (not (t x)) not_here) (skips_on t place xs e n none o.1 a.1 f' k is)))
+    (λ c.
+    let f' = rw c at f in
+    let not_here : not (t x) ≡ true = ap not (none x c) in
+    rw (or_right (is_past_object (Some n) x.object) (not (t x)) not_here) (skips_on t place xs e n none o.1 a.1 f' k is))
+
+-- what was found passes the test
+passes : {E : Type 0} (t : E → Bool) (l : List E) (e : E) → Some e ≡ find t l → t e ≡ true
+passes t [] e h = absurd (cc)
+passes t (x ∷ xs) e h =
+    by_cases (t x)
+    (λ k. let h' : Some e ≡ Some x = rw k at h in let same : x ≡ e = cc in ap t (sym same) ∙ k)
+    (λ k. let h' : Some e ≡ find t xs = rw k at h in passes t xs e h')
+
+-- the place goes on to the chunk that was found
+pub passed_on : (t : OutEntry → Bool) (place next : Option (List ℕ)) (outs : List OutEntry) (e : OutEntry) → PassesNoSlot t → in_order out_key outs ≡ true → skipped t place outs ≡ true → Some e ≡ chunk_after out_key place outs → t e ≡ false → next ≡ chunk_name e.object → (skipped t next outs ≡ true) × (outs_behind next outs < outs_behind place outs)
+passed_on t place next outs e none ordered h f k is = by_object e.object refl
   where
-    by_object : (o : Object) → none_marked (is_past (Some m)) s.own (record e { object = o } ∷ es) ≡ true → (none_marked (is_past (Some m)) s.own es ≡ true → find (may_release s p probed) (from_object out_key (Chunk m) es) ≡ find (may_release s p probed) es)
-        → find (may_release s p probed) (cond (is_lt (object_cmp o (Chunk m))) (from_object out_key (Chunk m) es) (record e { object = o } ∷ es)) ≡ find (may_release s p probed) (record e { object = o } ∷ es)
+    by_object : (o : Object) → e.object ≡ o → (skipped t next outs ≡ true) × (outs_behind next outs < outs_behind place outs)
+    by_object (Chunk n) at =
+        let named : chunk_name e.object ≡ Some n = ap chunk_name at in
+        let next_is : next_out place outs ≡ Some n = sym (after_next place outs ordered) ∙ ap name_after (sym f) ∙ named in
+        subst (λ x. (skipped t x outs ≡ true) × (outs_behind x outs < outs_behind place outs)) (sym (is ∙ named)) (skips_on t place outs e n none ordered h f k (sym named), outs_fall place outs n next_is)
+    by_object (Slot n) at =
+        let chunk = and_parts (is_chunk e.object) (is_past_object place e.object) (passes (λ (x : OutEntry). is_chunk x.object && is_past_object place x.object) outs e f) in
+        absurd (false≢true (ap is_chunk (sym at) ∙ chunk.0))
+
+-- what was passed is not released
+pub releases_no_slot : (s : State) (p : ℕ) (probed : List Object) → PassesNoSlot (may_release s p probed)
+releases_no_slot s p probed e h = of e.object h
+  where
+    of : (o : Object) → is_chunk o ≡ false → may_release s p probed (record e { object = o }) ≡ false
+    of (Chunk n) h = absurd (true≢false h)
+    of (Slot n) h = refl
+
+pub skipped_first : (s : State) (p : ℕ) (probed : List Object) (place : Option (List ℕ)) (outs : List OutEntry) → none_marked (is_past place) s.own outs ≡ true → skipped (may_release s p probed) place outs ≡ true
+skipped_first s p probed place [] h = refl
+skipped_first s p probed place (e ∷ es) h = by_object e.object h (skipped_first s p probed place es)
+  where
+    by_object : (o : Object) → none_marked (is_past place) s.own (record e { object = o } ∷ es) ≡ true → (none_marked (is_past place) s.own es ≡ true → skipped (may_release s p probed) place es ≡ true) → skipped (may_release s p probed) place (record e { object = o } ∷ es) ≡ true
     by_object (Chunk n) h rest =
-        let a = and_parts (not (is_past (Some m) n && own_marked s.own n)) (none_marked (is_past (Some m)) s.own es) h in
-        by_cases (is_lt (slice_cmp nat_cmp n m))
-        (λ k. let past : is_behind (Some m) n ≡ false = comes_first (Chunk n) (Chunk m) k in
-        let unmarked : not (own_marked s.own n) ≡ true = rw past at a.0 in
-        rw (k, is_false (own_marked s.own n) unmarked) (rest a.1))
-        (λ k. rw k refl)
-    by_object (Slot n) h rest = refl
+        let a = and_parts (not (is_past place n && own_marked s.own n)) (none_marked (is_past place) s.own es) h in
+        rw (ap (λ b. b || not (own_marked s.own n && is_free s p probed (Chunk n))) (behind_is place n) ∙ of (is_behind place n) (own_marked s.own n) (is_free s p probed (Chunk n)) a.0) (rest a.1)
+      where
+        of : (b m f : Bool) → not (not b && m) ≡ true → (b || not (m && f)) ≡ true
+        of true m f h = refl
+        of false true f h = absurd (false≢true h)
+        of false false f h = refl
+    by_object (Slot n) h rest = rw (or_right (is_past_object place (Slot n)) true refl) (rest h)
 
 -- ---- the own chunks
 
@@ -301,44 +425,39 @@ take_whole zero (x ∷ xs) h = absurd (omega (arith, h))
 take_whole (suc n) [] h = refl
 take_whole (suc n) (x ∷ xs) h = ap (λ l. x ∷ l) (take_whole n xs (omega (arith, h)))
 
--- The numbers gathered so far with those of the rest are all of them, and are no more than are wanted.
-pub record Gathers {E : Type 0} (f : E → List ℕ) (all : List E) (i most : ℕ) (numbers : List ℕ) : Type 0 where
-  pub whole : numbers ++ flat_map f (drop i all) ≡ flat_map f all
+-- The numbers gathered so far with those of the slots from a number on are all of them, and are no more than
+-- are wanted.
+pub record Gathers {E : Type 0} (key : E → Object) (f : E → List ℕ) (all : List E) (from most : ℕ) (numbers : List ℕ) : Type 0 where
+  pub whole : numbers ++ flat_map f (from_object key (Slot from) all) ≡ flat_map f (from_object key (Slot 0) all)
   pub few : length numbers ≤ most
+  pub small : from ≤ 2 ^ 32
 
-pub gathers_none : {E : Type 0} (f : E → List ℕ) (all : List E) (most : ℕ) → Gathers f all 0 most []
-gathers_none f all most = record { whole = refl; few = omega arith }
+pub gathers_none : {E : Type 0} (key : E → Object) (f : E → List ℕ) (all : List E) (most : ℕ) → Gathers key f all 0 most []
+gathers_none key f all most = record { whole = refl; few = omega arith; small = omega arith }
 
-drop_cons : {E : Type 0} (l : List E) (i : ℕ) (d : E) → i < length l → drop i l ≡ get_or l i d ∷ drop (i + 1) l
-drop_cons [] i d h = absurd (omega (arith, h))
-drop_cons (x ∷ xs) zero d h = refl
-drop_cons (x ∷ xs) (suc i) d h =
-    let more : suc i + 1 ≡ suc (i + 1) = omega arith in
-    rw more (drop_cons xs i d (omega (arith, h)))
+pub gathers_more : {E : Type 0} (key : E → Object) (f : E → List ℕ) (all : List E) (from next most : ℕ) (numbers more : List ℕ) (e : E) → IsSlotFrom key all from (Some e) → Gathers key f all from most numbers → length numbers < most → length (f e) ≤ 1 → more ≡ numbers ++ f e → next ≡ number_behind (key e) → next ≤ 2 ^ 32 → Gathers key f all next most more × (from < next)
+gathers_more key f all from next most numbers more e slot g few one is at small =
+    let behind : next ≡ slot.0 + 1 = at ∙ ap number_behind slot.1 in (
+      record {
+        whole =
+            ap (λ l. l ++ flat_map f (from_object key (Slot next) all)) is
+            ∙ append_assoc numbers (f e) (flat_map f (from_object key (Slot next) all))
+            ∙ ap (λ n. numbers ++ (f e ++ flat_map f (from_object key (Slot n) all))) behind
+            ∙ ap (λ l. numbers ++ flat_map f l) (sym slot.3)
+            ∙ g.whole;
+        few = omega (arith, ap length is, length-append numbers (f e), few, one);
+        small = small;
+      },
+      omega (arith, behind, slot.2),
+    )
 
-drop_all : {E : Type 0} (l : List E) (i : ℕ) → length l ≤ i → drop i l ≡ []
-drop_all [] zero h = refl
-drop_all [] (suc i) h = refl
-drop_all (x ∷ xs) zero h = absurd (omega (arith, h))
-drop_all (x ∷ xs) (suc i) h = drop_all xs i (omega (arith, h))
-
-pub gathers_more : {E : Type 0} (f : E → List ℕ) (all : List E) (i most : ℕ) (numbers more : List ℕ) (d : E) → i < length all → Gathers f all i most numbers → length numbers < most → length (f (get_or all i d)) ≤ 1 → more ≡ numbers ++ f (get_or all i d) → Gathers f all (i + 1) most more
-gathers_more f all i most numbers more d lt g few one is = record {
-  whole =
-      ap (λ l. l ++ flat_map f (drop (i + 1) all)) is
-      ∙ append_assoc numbers (f (get_or all i d)) (flat_map f (drop (i + 1) all))
-      ∙ ap (λ l. numbers ++ flat_map f l) (sym (drop_cons all i d lt))
-      ∙ g.whole;
-  few = omega (arith, ap length is, length-append numbers (f (get_or all i d)), few, one);
-}
-
-pub gathers_all : {E : Type 0} (f : E → List ℕ) (all : List E) (i most : ℕ) (numbers : List ℕ) → length all ≤ i → Gathers f all i most numbers → numbers ≡ take most (flat_map f all)
-gathers_all f all i most numbers past g =
-    let whole : numbers ≡ flat_map f all = sym (append-nil numbers) ∙ ap (λ l. numbers ++ flat_map f l) (sym (drop_all all i past)) ∙ g.whole in
+pub gathers_all : {E : Type 0} (key : E → Object) (f : E → List ℕ) (all : List E) (from most : ℕ) (numbers : List ℕ) → IsSlotFrom key all from None → Gathers key f all from most numbers → numbers ≡ take most (flat_map f (from_object key (Slot 0) all))
+gathers_all key f all from most numbers past g =
+    let whole : numbers ≡ flat_map f (from_object key (Slot 0) all) = sym (append-nil numbers) ∙ ap (λ l. numbers ++ flat_map f l) (sym past) ∙ g.whole in
     sym (ap (take most) (sym whole) ∙ take_whole most numbers g.few)
 
-pub gathers_enough : {E : Type 0} (f : E → List ℕ) (all : List E) (i most : ℕ) (numbers : List ℕ) → Gathers f all i most numbers → length numbers ≡ most → numbers ≡ take most (flat_map f all)
-gathers_enough f all i most numbers g h = sym (ap (take most) (sym g.whole) ∙ take_front most numbers (flat_map f (drop i all)) h)
+pub gathers_enough : {E : Type 0} (key : E → Object) (f : E → List ℕ) (all : List E) (from most : ℕ) (numbers : List ℕ) → Gathers key f all from most numbers → length numbers ≡ most → numbers ≡ take most (flat_map f (from_object key (Slot 0) all))
+gathers_enough key f all from most numbers g h = sym (ap (take most) (sym g.whole) ∙ take_front most numbers (flat_map f (from_object key (Slot from) all)) h)
 
 none_of_two : (b : Bool) (l : List ℕ) → l ≡ [] → (if b then l else []) ≡ []
 none_of_two true l h = h

@@ -29,7 +29,7 @@ abbrev pub state_of : Inside → State
 state_of l = plain_state l.changes l.settings l.accounts.items l.issued (mine l)
 
 abbrev pub view_of : Inside → LedgerView
-view_of l = record { state = state_of l; accounts = l.accounts.items; next = l.next; next_accounts = l.next_accounts.items; next_chosen = l.next_chosen.items; in_blocks = l.in_blocks; own_room = own_room l.own; kept_room = vec_capacity l.kept - vec_len l.kept }
+view_of l = record { state = state_of l; accounts = l.accounts.items; next = l.next; next_accounts = l.next_accounts.items; next_chosen = l.next_chosen.items; own_room = own_room l.own; kept_room = vec_capacity l.kept - vec_len l.kept }
 
 -- a state that a history gives is good, and so is each that a lawful change makes of it
 pub good_of : (s : State) → IsReached s → Good s

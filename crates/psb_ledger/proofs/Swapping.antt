@@ -1,12 +1,10 @@
 -- A chunk that may be taken in the place of slots: what the account needs, and what is left.
-use Rattle.std.proofs.Common.{◌≡◌, ℕ, ◌≤◌, Bool, true, false, not, List, [], length, None, refl, sym, ap, ◌∙◌, subst, arith}
-use Rattle.std.proofs.lemmas.Bool.{and_parts}
+use Rattle.std.proofs.Common.{◌+◌, ◌*◌, ◌≡◌, ℕ, ◌≤◌, Bool, false, not, List, [], length, None, refl, sym, ap, ◌∙◌, subst, arith}
 use Rattle.psb_bytes.specs.declared.ids.Object.TheVariants.{Chunk}
 use Rattle.psb_model.specs.declared.change.Change.{Change}
 use Rattle.psb_model.specs.declared.change.Change.TheVariants.{TookSwap}
 use Rattle.psb_model.specs.Words.{units, has, all_of}
 use Rattle.psb_model.specs.State.{Row, State, row, is_held, tied_in, in_key, out_key, debt_size, held_units}
-use Rattle.psb_model.specs.Grammar.{ascend, chunk_fits, numbers_listed, is_count}
 use Rattle.psb_model.specs.Conditions.{tests, each_slot}
 use Rattle.psb_model.specs.Move.{after_move}
 use Rattle.psb_model.specs.Effects.{took_deal}
@@ -15,11 +13,11 @@ use Rattle.psb_model.proofs.Held.{chunk_stays}
 use Rattle.psb_model.proofs.Built.{allows, row_use, changed}
 use Rattle.psb_model.proofs.Steps.{parts, Step}
 use Rattle.psb_model.proofs.Tidy.{swap_move, none_returned}
-use Rattle.psb_ledger.specs.declared.codec.fields.SwapFields.{SwapFields}
+use Rattle.psb_ledger.specs.declared.fields.SwapFields.{SwapFields}
 use Rattle.psb_ledger.specs.declared.book.Book.TheInside.{Inside}
 use Rattle.psb_ledger.specs.View.{AccountView, LedgerView, swap_row, swap_tests, HasListRoom}
-use Rattle.psb_ledger.proofs.Ordered.{is_false}
-use Rattle.psb_ledger.proofs.Trees.{without_none}
+use Rattle.peer_lists.proofs.Ordered.{is_false}
+use Rattle.peer_lists.proofs.Trees.{without_none}
 use Rattle.psb_ledger.proofs.Places.{found_here, found_peer, found_account}
 use Rattle.psb_ledger.proofs.OwnStays.{names_more}
 use Rattle.psb_ledger.proofs.Sound.{state_of, view_of, good_of}
@@ -35,19 +33,18 @@ pub row_swap : (name : List ℕ) (u : ℕ) (ns : List ℕ) (deal change : ℕ) (
 row_swap name u ns deal change r = λ i. swap_row name u ns deal change (record r { outs = without_none out_key r.outs i; debts = debts_stay r.debts i })
 
 pub record CanSwap (l : Inside) (v : LedgerView) (x : SwapFields) (ns : List ℕ) (i u : ℕ) (r : AccountView) : Type 0 where
-  pub in_room : 1 ≤ r.in_room
-  pub ascends : ascend ns ≡ true
+  pub in_room : 1 + 2 * length ns ≤ r.in_room
   pub absent : has in_key r.row.ins (Chunk x.name) ≡ false
   pub same : held_units (swap_row x.name u ns x.deal l.changes r.row) ≡ held_units r.row
   pub made : (w : AccountView) → w.id ≡ r.id → w.row ≡ swap_row x.name u ns x.deal l.changes r.row → Makes l v (swap_of x ns) i l.issued l.used w
 
-pub can_swap : (l : Inside) (v : LedgerView) (x : SwapFields) (ns : List ℕ) (i u : ℕ) (r : AccountView) → IsAt l v (swap_of x ns) x.peer i r → HasListRoom v x.peer 1 0 → u ≡ units x.len → CanSwap l v x ns i u r
+pub can_swap : (l : Inside) (v : LedgerView) (x : SwapFields) (ns : List ℕ) (i u : ℕ) (r : AccountView) → IsAt l v (swap_of x ns) x.peer i r → HasListRoom v x.peer (1 + 2 * length ns) 0 → u ≡ units x.len → CanSwap l v x ns i u r
 can_swap l v x ns i u r f room same =
     let s = state_of l in
     let c = swap_of x ns in
     let vs = l.accounts.items in
     let at = found_here vs x.peer i r f.place f.here in
-    let room' : HasListRoom (view_of l) x.peer 1 0 = subst (λ (w : LedgerView). HasListRoom w x.peer 1 0) (sym f.view) room in
+    let room' : HasListRoom (view_of l) x.peer (1 + 2 * length ns) 0 = subst (λ (w : LedgerView). HasListRoom w x.peer (1 + 2 * length ns) 0) (sym f.view) room in
     let q = row_at l v c x.peer i r f in
     let tests_hold = (allows s c f.may).tests in
     let ts = parts (tests s c) tests_hold in
@@ -57,8 +54,7 @@ can_swap l v x ns i u r f room same =
     let moved : took_deal x.deal l.changes (after_move m (row s x.peer)) ≡ swap_row x.name u ns x.deal l.changes r.row = row_swap x.name (units x.len) ns x.deal l.changes (row s x.peer) ∙ (λ j. swap_row x.name (sym same j) ns x.deal l.changes (q j)) in
     let held : held_units (swap_row x.name u ns x.deal l.changes r.row) ≡ held_units r.row = omega (arith, ap held_units moved, ap held_units q, step.tidy.balanced, (good.rows x.peer).tidy.balanced, step.weighs.back, step.weighs.debt, none_returned debt_size (row s x.peer).debts) in
     record {
-      in_room = subst (λ (y : AccountView). 1 ≤ y.in_room) (found_account vs x.peer i r at) (room'.in_room (found_peer vs x.peer i r at));
-      ascends = (and_parts (ascend ns) (is_count (length ns)) (and_parts (chunk_fits x.len x.new None) (numbers_listed ns) f.grammar).1).0;
+      in_room = subst (λ (y : AccountView). 1 + 2 * length ns ≤ y.in_room) (found_account vs x.peer i r at) (room'.in_room (found_peer vs x.peer i r at));
       absent = ap (λ y. has in_key y.ins (Chunk x.name)) (sym q) ∙ is_false (has in_key (row s x.peer).ins (Chunk x.name)) ts.1.0;
       same = held;
       made = λ w a b. makes l v c x.peer i l.issued l.used r w refl refl (record { settings = refl; own = refl; kept = refl; snapped = refl; chosen = refl }) f a

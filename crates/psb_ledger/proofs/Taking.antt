@@ -16,12 +16,12 @@ use Rattle.psb_model.proofs.Held.{chunk_stays}
 use Rattle.psb_model.proofs.Built.{allows, row_use, changed}
 use Rattle.psb_model.proofs.Steps.{parts}
 use Rattle.psb_model.proofs.Tidy.{fresh_move}
-use Rattle.psb_ledger.specs.declared.codec.fields.FreshFields.{FreshFields}
-use Rattle.psb_ledger.specs.declared.codec.fields.RefusedFields.{RefusedFields}
+use Rattle.psb_ledger.specs.declared.fields.FreshFields.{FreshFields}
+use Rattle.psb_ledger.specs.declared.fields.RefusedFields.{RefusedFields}
 use Rattle.psb_ledger.specs.declared.book.Book.TheInside.{Inside}
 use Rattle.psb_ledger.specs.View.{AccountView, LedgerView, fresh_row, lacks_all, HasListRoom}
-use Rattle.psb_ledger.proofs.Ordered.{is_false}
-use Rattle.psb_ledger.proofs.Trees.{without_none}
+use Rattle.peer_lists.proofs.Ordered.{is_false}
+use Rattle.peer_lists.proofs.Trees.{without_none}
 use Rattle.psb_ledger.proofs.Places.{found_here, found_peer, found_account}
 use Rattle.psb_ledger.proofs.OwnStays.{names_more, has_with_all}
 use Rattle.psb_ledger.proofs.Sound.{state_of, view_of, good_of}
@@ -57,7 +57,7 @@ lacks_own first (suc u) outs free =
 
 pub record CanTake (l : Inside) (v : LedgerView) (x : FreshFields) (i u : ℕ) (r : AccountView) : Type 0 where
   pub in_room : 1 ≤ r.in_room
-  pub out_room : u ≤ r.out_room
+  pub out_room : 1 ≤ r.out_room
   pub held : held_units r.row + u < 2 ^ 32
   pub back : back_units r.row + u < 2 ^ 32
   pub total : l.used + u < 2 ^ 32
@@ -66,13 +66,13 @@ pub record CanTake (l : Inside) (v : LedgerView) (x : FreshFields) (i u : ℕ) (
   pub free : lacks_all out_key (own_slots x.first u) r.row.outs ≡ true
   pub made : (w : AccountView) → w.id ≡ r.id → w.row ≡ fresh_row x.name u x.first x.deal l.changes r.row → Makes l v (change_of x) i (l.issued + u) (l.used + u) w
 
-pub can_take : (l : Inside) (v : LedgerView) (x : FreshFields) (i u : ℕ) (r : AccountView) → IsAt l v (change_of x) x.peer i r → HasListRoom v x.peer 1 (units x.len) → u ≡ units x.len → CanTake l v x i u r
+pub can_take : (l : Inside) (v : LedgerView) (x : FreshFields) (i u : ℕ) (r : AccountView) → IsAt l v (change_of x) x.peer i r → HasListRoom v x.peer 1 1 → u ≡ units x.len → CanTake l v x i u r
 can_take l v x i u r f room same =
     let s = state_of l in
     let c = change_of x in
     let vs = l.accounts.items in
     let at = found_here vs x.peer i r f.place f.here in
-    let room' : HasListRoom (view_of l) x.peer 1 (units x.len) = subst (λ (w : LedgerView). HasListRoom w x.peer 1 (units x.len)) (sym f.view) room in
+    let room' : HasListRoom (view_of l) x.peer 1 1 = subst (λ (w : LedgerView). HasListRoom w x.peer 1 1) (sym f.view) room in
     let peer = found_peer vs x.peer i r at in
     let account = found_account vs x.peer i r at in
     let q = row_at l v c x.peer i r f in
@@ -84,7 +84,7 @@ can_take l v x i u r f room same =
     let held : held_units r.row + u < 2 ^ 32 = omega (arith, total, within_used l v c x.peer i r f) in
     record {
       in_room = subst (λ (y : AccountView). 1 ≤ y.in_room) account (room'.in_room peer);
-      out_room = omega (arith, same, subst (λ (y : AccountView). units x.len ≤ y.out_room) account (room'.out_room peer));
+      out_room = subst (λ (y : AccountView). 1 ≤ y.out_room) account (room'.out_room peer);
       held = held;
       back = omega (arith, held, tidy.balanced, ap held_units q, ap back_units q);
       total = total;

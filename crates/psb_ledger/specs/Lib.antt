@@ -1,13 +1,7 @@
-pub mod DealHeads
-pub mod Fronts
-pub mod Joined
-pub mod Lists
 pub mod OwnDeals
 pub mod OwnList
 pub mod OwnTree
 pub mod Passed
-pub mod Records
 pub mod Settling
-pub mod SlotHeads
 pub mod Snapping
 pub mod View

@@ -1,8 +1,5 @@
 -- How far the next own deal with each peer was looked for: there it is not looked for again.
-use Rattle.std.specs.Prelude.{◌≡◌, ℕ, nat_le, Bool, true, false, not, ◌&&◌, ◌==◌, if◌then◌else◌, List, [], ◌∷◌, map, filter, length, drop, Option, Some, None}
-use Rattle.std.specs.List.{prefix_len}
-use Rattle.std.specs.Ordering.{is_lt}
-use Rattle.psb_bytes.specs.Objects.{object_cmp}
+use Rattle.std.specs.Prelude.{◌≡◌, ℕ, ◌+◌, nat_le, Bool, true, false, not, ◌&&◌, ◌==◌, if◌then◌else◌, List, [], ◌∷◌, map, filter, length, Option, Some, None}
 use Rattle.psb_bytes.specs.declared.ids.Object.{Object}
 use Rattle.psb_bytes.specs.declared.ids.Object.TheVariants.{Chunk, Slot}
 use Rattle.psb_model.specs.declared.entries.OutEntry.{OutEntry}
@@ -12,10 +9,9 @@ use Rattle.psb_model.specs.declared.deals.DealWhat.TheVariants.{Fresh, Swap, Can
 use Rattle.psb_model.specs.declared.change.Change.{Change}
 use Rattle.psb_model.specs.declared.change.Change.TheVariants.{TookFresh, TookSwap, LetGo, LetGoBack, Refused, Proposed, Settled, Turned, Chose}
 use Rattle.psb_model.specs.Words.{units}
-use Rattle.psb_model.specs.State.{State, row, out_key, own_marked}
+use Rattle.psb_model.specs.State.{State, row, own_marked}
 use Rattle.psb_model.specs.Proposing.{none_marked, none_missing}
 use Rattle.psb_ledger.specs.OwnList.{is_behind}
-use Rattle.psb_ledger.specs.View.{LedgerView}
 use Rattle.psb_ledger.specs.declared.passed.Passed.{Passed}
 use Rattle.psb_ledger.specs.declared.passed.Restarts.{Restarts}
 use Rattle.psb_ledger.specs.declared.passed.Restarts.TheVariants.{Nothing, All, Marked, Missing}
@@ -40,11 +36,6 @@ passed_in (x ∷ xs) p = if x.peer == p then x else passed_in xs p
 pub record IsPassed (s : State) (l : List Passed) : Type 0 where
   pub marked : (q : ℕ) → none_marked (is_past (passed_in l q).marked) s.own (row s q).outs ≡ true
   pub missing : (q : ℕ) → none_missing (is_past_own (passed_in l q).missing (passed_in l q).most) s q ≡ true
-
--- what a ledger keeps: its accounts are in blocks
-pub record IsLedger (v : LedgerView) (l : List Passed) : Type 0 where
-  pub in_blocks : v.in_blocks ≡ true
-  pub passed : IsPassed v.state l
 
 -- What a change starts anew: a deal that is settled may place a marked chunk, or take one away that is wanted again;
 -- and what keeps, makes or forgets a snapshot may mark and want any.
@@ -87,13 +78,14 @@ missing_from x most = if nat_le most x.most then x.missing else None
 abbrev pub with_row : Passed → Passed → Passed
 with_row x y = if y.peer == x.peer then x else y
 
--- the entries of a list from an object on, in object order; and those of out(p) that a place has not passed
-abbrev pub from_object : {E : Type 0} → (E → Object) → Object → List E → List E
-from_object key o l = drop (prefix_len (λ e. is_lt (object_cmp (key e) o)) l) l
+-- the name of a chunk; and the number behind that of a slot
+abbrev pub chunk_name : Object → Option (List ℕ)
+chunk_name (Chunk n) = Some n
+chunk_name (Slot n) = None
 
-abbrev pub outs_past : Option (List ℕ) → List OutEntry → List OutEntry
-outs_past None l = l
-outs_past (Some m) l = from_object out_key (Chunk m) l
+abbrev pub number_behind : Object → ℕ
+number_behind (Chunk n) = 0
+number_behind (Slot n) = n + 1
 
 -- the first chunk of out(p) behind the place, which stands in front of all slots
 abbrev pub next_out : Option (List ℕ) → List OutEntry → Option (List ℕ)

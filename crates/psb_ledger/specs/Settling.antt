@@ -1,5 +1,5 @@
 -- What an account needs to settle its deal: room, sums that fit, and lists without what comes.
-use Rattle.std.specs.Prelude.{◌≡◌, ℕ, ◌+◌, ◌<◌, ◌≤◌, ◌^◌, true, false, List, [], ◌∷◌, length, Option, Some, None}
+use Rattle.std.specs.Prelude.{◌≡◌, ℕ, ◌+◌, ◌*◌, ◌<◌, ◌≤◌, ◌^◌, true, false, List, [], ◌∷◌, length, Option, Some, None}
 use Rattle.psb_bytes.specs.declared.ids.Object.TheVariants.{Chunk}
 use Rattle.psb_model.specs.declared.deals.Deal.{Deal}
 use Rattle.psb_model.specs.declared.deals.DealWhat.{DealWhat}
@@ -20,16 +20,17 @@ pub record SettlesFresh (v : AccountView) (u : ℕ) (numbers name : List ℕ) : 
   pub back : back_units v.row + u < 2 ^ 32
 
 pub record SettlesSwap (v : AccountView) (u : ℕ) (name mine : List ℕ) : Type 0 where
-  pub out_room : 1 ≤ v.out_room
+  pub out_room : 1 + 2 * length mine ≤ v.out_room
   pub absent : has out_key v.row.outs (Chunk name) ≡ false
   pub same : back_units (record v.row { outs = with_one out_key (chunk_out name u) (without out_key (slots mine) v.row.outs) }) ≡ back_units v.row
 
 pub record SettlesCancel (v : AccountView) (name theirs : List ℕ) : Type 0 where
+  pub in_room : 2 * length theirs ≤ v.in_room
   pub held : held_units (record v.row { ins = without in_key (slots theirs) v.row.ins }) + length theirs ≡ held_units v.row
   pub back : back_units (record v.row { outs = without out_key (Chunk name ∷ []) v.row.outs }) + length theirs ≡ back_units v.row
 
 pub record SettlesPutBack (v : AccountView) (name : List ℕ) (first u : ℕ) : Type 0 where
-  pub out_room : u ≤ v.out_room
+  pub out_room : 1 ≤ v.out_room
   pub numbers : first + u < 2 ^ 32
   pub free : lacks_all out_key (own_slots first u) v.row.outs ≡ true
   pub same : back_units (record v.row { outs = with_all out_key (own_slots first u) (without out_key (Chunk name ∷ []) v.row.outs) }) ≡ back_units v.row

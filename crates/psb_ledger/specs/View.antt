@@ -1,8 +1,6 @@
 -- What contracts see of a ledger: the state, and the memory that was taken for a change.
-use Rattle.std.specs.Prelude.{◌≡◌, ℕ, ◌+◌, ◌==◌, if◌then◌else◌, ◌^◌, ◌<◌, ◌≤◌, Bool, true, false, not, ◌&&◌, List, [], ◌∷◌, length, map, sum_by, Option, Some, None}
+use Rattle.std.specs.Prelude.{◌≡◌, ℕ, ◌+◌, ◌*◌, ◌==◌, if◌then◌else◌, ◌^◌, ◌<◌, ◌≤◌, Bool, true, false, not, ◌&&◌, List, [], ◌∷◌, length, map, sum_by, Option, Some, None}
 use Rattle.std.specs.List.{list_all}
-use Rattle.std.specs.Ordering.{is_lt}
-use Rattle.psb_bytes.specs.Objects.{object_cmp}
 use Rattle.psb_bytes.specs.declared.ids.Object.{Object}
 use Rattle.psb_bytes.specs.declared.ids.Object.TheVariants.{Chunk}
 use Rattle.psb_settings.specs.declared.settings.Settings.{Settings}
@@ -17,12 +15,14 @@ use Rattle.psb_model.specs.declared.deals.Deal.{Deal}
 use Rattle.psb_model.specs.declared.deals.DealWhat.{DealWhat}
 use Rattle.psb_model.specs.declared.deals.DealWhat.TheVariants.{Fresh, Swap, Cancel, PutBack}
 use Rattle.psb_model.specs.declared.change.Change.{Change}
-use Rattle.psb_model.specs.declared.change.Change.TheVariants.{Begun, Kept, Snapped, TookFresh, TookSwap, LetGoBack, Settled, Turned, Chose}
-use Rattle.psb_model.specs.Words.{units, slots, has, has_so, units_at, with_one, with_all, without}
+use Rattle.psb_model.specs.declared.change.Change.TheVariants.{Begun, Kept, Snapped, TookFresh, TookSwap, LetGo, LetGoBack, Settled, Turned, Chose}
+use Rattle.psb_model.specs.Words.{slots, has, has_so, units_at, with_one, with_all, without}
 use Rattle.psb_model.specs.State.{Row, State, blank, row, ties_out, is_peer, used, in_key, in_size, out_key, out_size, debt_size, debt_units}
 use Rattle.psb_model.specs.Conditions.{settings_of_body, capacity, names_ascend, each_slot, carries_none, is_pending}
 use Rattle.psb_model.specs.Effects.{chunk_in, chunk_out, own_slots, direct_slots, took_deal, first_rows, chosen_after}
 use Rattle.psb_model.specs.History.{is_lawful, is_built, state}
+use Rattle.peer_lists.specs.ListViews.{ListView}
+pub use Rattle.peer_lists.specs.Entries.{in_order, lacks_all}
 
 -- the node's own deals with a peer: the one that has no reply yet, the number of the last, what the peer
 -- turned down, and how many more names the two lists of these have room for
@@ -35,7 +35,7 @@ pub record OwnDealsView : Type 0 where
   pub cancel_room : ℕ
 
 -- a peer's row, how many more entries its two lists of entries have room for, and how many more names
--- those of what it turned down; and whether each list of entries is one block (else a tree)
+-- those of what it turned down
 pub record AccountView : Type 0 where
   pub id : ℕ
   pub row : Row
@@ -43,7 +43,6 @@ pub record AccountView : Type 0 where
   pub out_room : ℕ
   pub barred_room : ℕ
   pub cancel_room : ℕ
-  pub in_block : Bool
 
 -- what the node keeps of its own: its chunks in byte order, the kept snapshots by number, the latest that
 -- was made, and its buddies
@@ -54,15 +53,13 @@ pub record Mine : Type 0 where
   pub chosen : List ℕ
 
 -- the ledger: its state, its accounts with their room, the settings that a Begun will bring, the buddies
--- that a Chose will bring, whether the accounts keep blocks, and how many more own chunks and snapshots
--- it has room for
+-- that a Chose will bring, and how many more own chunks and snapshots it has room for
 pub record LedgerView : Type 0 where
   pub state : State
   pub accounts : List AccountView
   pub next : Option Settings
   pub next_accounts : List AccountView
   pub next_chosen : List ℕ
-  pub in_blocks : Bool
   pub own_room : ℕ
   pub kept_room : ℕ
 
@@ -158,40 +155,50 @@ put_back_tests r deal name numbers =
     ∷ (length numbers == units_at in_key in_size r.ins (Chunk name))
     ∷ [])
 
--- none of the entries is there
-abbrev pub lacks_all : {E : Type 0} → (E → Object) → List E → List E → Bool
-lacks_all key new l = list_all (λ e. not (has key l (key e))) new
-
 -- the object of an own chunk, which has the order of its name
 abbrev pub own_key : OwnEntry → Object
 own_key e = Chunk e.name
 
--- each object comes before all later ones
-abbrev pub in_order : {E : Type 0} → (E → Object) → List E → Bool
-in_order key [] = true
-in_order key (e ∷ es) = list_all (λ x. is_lt (object_cmp (key e) (key x))) es && in_order key es
-
 -- ROOM: what `make_room` took for a change
+
+-- the lists that a ledger lends, empty for a stranger
+abbrev pub ins_of_lent : Option (ListView InEntry) → List InEntry
+ins_of_lent None = []
+ins_of_lent (Some l) = l.items
+
+abbrev pub outs_of_lent : Option (ListView OutEntry) → List OutEntry
+outs_of_lent None = []
+outs_of_lent (Some l) = l.items
 
 -- the account of a peer; a stranger has no room
 abbrev pub account_in : List AccountView → ℕ → AccountView
-account_in [] p = record { id = p; row = blank; in_room = 0; out_room = 0; barred_room = 0; cancel_room = 0; in_block = true }
+account_in [] p = record { id = p; row = blank; in_room = 0; out_room = 0; barred_room = 0; cancel_room = 0 }
 account_in (v ∷ vs) p = if v.id == p then v else account_in vs p
 
--- room for so many entries in the two lists, if p is a peer
+-- room for so many chunks, and runs of slots, in the two lists, if p is a peer
 pub record HasListRoom (v : LedgerView) (p ins outs : ℕ) : Type 0 where
   pub in_room : is_peer v.state p ≡ true → ins ≤ (account_in v.accounts p).in_room
   pub out_room : is_peer v.state p ≡ true → outs ≤ (account_in v.accounts p).out_room
 
--- the entries that come to what the node has on a peer when the pending deal is settled
-abbrev pub outs_settled : Row → Option Deal → ℕ
-outs_settled r None = 0
-outs_settled r (Some d) = elim d.what [
-  | Fresh name ↦ 1
-  | Swap name numbers ↦ 1
-  | PutBack name first ↦ units_at out_key out_size r.outs (Chunk name)
-  | _ ↦ 0
-]
+-- what comes to the two lists when the pending deal is settled, but for the slots of the reply: a chunk, or a run;
+-- and each slot that goes leaves two runs at most
+abbrev pub ins_of : DealWhat → ℕ
+ins_of (Cancel name numbers) = 2 * length numbers
+ins_of _ = 0
+
+abbrev pub outs_of : DealWhat → ℕ
+outs_of (Fresh name) = 1
+outs_of (Swap name numbers) = 1 + 2 * length numbers
+outs_of (PutBack name first) = 1
+outs_of _ = 0
+
+abbrev pub ins_settled : Option Deal → ℕ
+ins_settled None = 0
+ins_settled (Some d) = ins_of d.what
+
+abbrev pub outs_settled : Option Deal → ℕ
+outs_settled None = 0
+outs_settled (Some d) = outs_of d.what
 
 -- room for one more name that p turns down, if it is a peer
 pub record HasTurnRoom (v : LedgerView) (p : ℕ) : Type 0 where
@@ -207,29 +214,22 @@ abbrev pub HasRoom : LedgerView → Change → Type 0
 HasRoom v (Begun body) = HasBegunRoom v body
 HasRoom v (Kept name len new body) = 1 ≤ v.own_room
 HasRoom v (Snapped number ticket files folders bytes left names) = 1 ≤ v.kept_room
-HasRoom v (TookFresh p deal name first len new body) = HasListRoom v p 1 (units len)
-HasRoom v (TookSwap p deal name numbers len new body) = HasListRoom v p 1 0
+HasRoom v (TookFresh p deal name first len new body) = HasListRoom v p 1 1
+HasRoom v (TookSwap p deal name numbers len new body) = HasListRoom v p (1 + 2 * length numbers) 0
+HasRoom v (LetGo p deal name numbers) = HasListRoom v p 0 (2 * length numbers)
 HasRoom v (LetGoBack p deal name numbers body) = HasListRoom v p (length numbers) 0
-HasRoom v (Settled p deal numbers body) = HasListRoom v p (length numbers) (outs_settled (row v.state p) (row v.state p).pending)
+HasRoom v (Settled p deal numbers body) = HasListRoom v p (length numbers + ins_settled (row v.state p).pending) (outs_settled (row v.state p).pending)
 HasRoom v (Turned p deal why detail) = HasTurnRoom v p
 HasRoom v (Chose candidates) = v.next_chosen ≡ chosen_after v.state (Chose candidates)
 HasRoom v _ = Unit {0}
 
 -- WHAT EACH ACCOUNT, AND EACH LEDGER, KEEPS
 
--- the running sums are those of the lists, and both lists of entries are in object order and in one form
-pub record IsAccount (held back debt : ℕ) (ins : List InEntry) (outs : List OutEntry) (debts : List DebtEntry) (in_block out_block : Bool) : Type 0 where
+-- the running sums are those of the lists
+pub record IsAccount (held back debt : ℕ) (ins : List InEntry) (outs : List OutEntry) (debts : List DebtEntry) : Type 0 where
   pub held_is : held ≡ sum_by in_size ins
   pub back_is : back ≡ sum_by out_size outs
   pub debt_is : debt ≡ sum_by debt_size debts
-  pub ins_ordered : in_order in_key ins ≡ true
-  pub outs_ordered : in_order out_key outs ≡ true
-  pub one_form : out_block ≡ in_block
-
--- each account keeps a block, or each a tree
-abbrev pub AreInForm : Bool → List AccountView → Type 0
-AreInForm in_blocks [] = Unit {0}
-AreInForm in_blocks (v ∷ vs) = (v.in_block ≡ in_blocks) × AreInForm in_blocks vs
 
 -- some lawful history of built kinds gives the state
 pub record IsReached (s : State) : Type 0 where
@@ -249,10 +249,7 @@ pub record IsMine (mine : Mine) : Type 0 where
   pub own_ordered : in_order own_key mine.own ≡ true
   pub names_ordered : list_all (λ (k : Snapshot). names_ascend k.names) mine.kept ≡ true
 
--- the ledger is sound, its accounts, also those that a Begun will bring, are in one form, and what it keeps
--- of its own is in order
-pub record IsBook (total : ℕ) (in_blocks : Bool) (accounts next_accounts : List AccountView) (mine : Mine) (s : State) : Type 0 where
+-- the ledger is sound, and what it keeps of its own is in order
+pub record IsBook (total : ℕ) (mine : Mine) (s : State) : Type 0 where
   pub sound : IsSound total s
   pub own_part : IsMine mine
-  pub forms : AreInForm in_blocks accounts
-  pub next_forms : AreInForm in_blocks next_accounts

@@ -8,21 +8,19 @@ ghost use Rattle.psb_model.specs.Words.{has, has_so, units_at};
 ghost use Rattle.psb_model.specs.State.{blank, in_key, in_size, out_key, out_size, debt_key, held_units, back_units, debt_units, is_barred, ties_in, ties_out};
 ghost use Rattle.psb_model.specs.Conditions.{carries_none, each_slot, is_direct, is_direct_or_home, is_own, is_pending};
 ghost use Rattle.psb_model.specs.Effects.{deal_name, pending_name, is_named};
-ghost use Rattle.psb_ledger.specs.Lists.{in_items, out_items, room, is_block};
 ghost use Rattle.psb_model.specs.Words.{name_listed};
 ghost use Rattle.psb_model.specs.Proposing.{is_absent};
-ghost use Rattle.psb_ledger.specs.Passed.{from_object, outs_past};
 ghost use Rattle.psb_ledger.specs.OwnDeals.{barring, placed_name, coming_name, row_names};
-ghost use Rattle.psb_ledger.specs.View.{in_order, AccountView, named_row, plain_row, outs_settled, IsAccount};
+ghost use Rattle.psb_ledger.specs.View.{AccountView, named_row, plain_row, ins_settled, outs_settled, IsAccount};
 
 mod barred;
 mod moves;
 mod own_deals;
 mod own_moves;
 
-use crate::entries::from_object;
-use crate::entry_list::{EntryList, InList, OutList};
 use own_deals::OwnDeals;
+pub use own_deals::Room;
+use peer_lists::{InList, OutList};
 use psb_bytes::{Digest, Memory, Object, PeerId};
 use psb_model::{Deal, DebtEntry, InEntry, InState, LastDeal, OutEntry, OutState};
 use std::alloc::Global;
@@ -46,9 +44,9 @@ pub struct Account {
 impl Model for Account {
     ghost Value = { AccountView };
 
-    ghost view = { λ a. record { id = a.id; row = plain_row (in_items a.ins) (out_items a.outs) a.debts.items a.last a.deals; in_room = room a.ins; out_room = room a.outs; barred_room = a.deals.barred_room; cancel_room = a.deals.cancel_room; in_block = is_block a.ins } };
+    ghost view = { λ a. record { id = a.id; row = plain_row a.ins.items a.outs.items a.debts.items a.last a.deals; in_room = a.ins.room; out_room = a.outs.room; barred_room = a.deals.barred_room; cancel_room = a.deals.cancel_room } };
 
-    ghost invariant = { λ a. IsAccount a.held a.back a.debt (in_items a.ins) (out_items a.outs) a.debts.items (is_block a.ins) (is_block a.outs) };
+    ghost invariant = { λ a. IsAccount a.held a.back a.debt a.ins.items a.outs.items a.debts.items };
 }
 
 /// Whether the entry is of a claim whose bytes are here.
@@ -80,16 +78,15 @@ fn is_free(entry: &OutEntry) -> bool
 }
 
 impl Account {
-    /// An account with empty lists, whose entries come into blocks or into trees. Takes no memory.
-    pub fn new(alloc: Global, id: PeerId, in_block: bool) -> Account
+    /// An account with empty lists. Takes no memory.
+    pub fn new(alloc: Global, id: PeerId) -> Account
         ensures id { result.id ≡ id }
         ensures row { result.row ≡ blank }
-        ensures form { result.in_block ≡ in_block }
     {
         Account {
             id,
-            ins: EntryList::new(alloc, in_block),
-            outs: EntryList::new(alloc, in_block),
+            ins: InList::new(alloc),
+            outs: OutList::new(alloc),
             debts: Vec::new(alloc),
             last: LastDeal {
                 number: 0,
@@ -132,18 +129,16 @@ impl Account {
         self.last
     }
 
-    pub fn ins(&self) -> &[InEntry]
-        requires { self.now.in_block ≡ true }
-        ensures { result.now ≡ self.now.row.ins }
+    pub fn ins(&self) -> &InList
+        ensures { result.now.items ≡ self.now.row.ins }
     {
-        self.ins.as_slice()
+        &self.ins
     }
 
-    pub fn outs(&self) -> &[OutEntry]
-        requires { self.now.in_block ≡ true }
-        ensures { result.now ≡ self.now.row.outs }
+    pub fn outs(&self) -> &OutList
+        ensures { result.now.items ≡ self.now.row.outs }
     {
-        self.outs.as_slice()
+        &self.outs
     }
 
     pub fn debts(&self) -> &[DebtEntry]
@@ -383,17 +378,14 @@ impl Account {
         self.has_out(&chunk) || self.has_debt(&chunk) || self.named() == Some(*name)
     }
 
-    /// How many entries come to what the node has on the peer when the pending deal is settled.
-    pub fn outs_settled(&self) -> u32
-        ensures { result ≡ outs_settled self.now.row self.now.row.pending }
+    /// How much room the pending deal takes in the two lists when it is settled, but for the slots of
+    /// its reply.
+    pub fn room_to_settle(&self) -> Room
+        ensures ins { result.ins ≡ ins_settled self.now.row.pending }
+        ensures outs { result.outs ≡ outs_settled self.now.row.pending }
     {
-        if self.placed().is_some() {
-            return 1;
-        }
-        match self.deals.put_back() {
-            None => 0,
-            Some(name) => self.units_out(&Object::Chunk(name)),
-        }
+        let _held = self.held;
+        self.deals.room_to_settle()
     }
 
     /// The peer neither has the chunk nor lost it nor turned it down for good.
@@ -412,75 +404,25 @@ impl Account {
         self.deals.is_cancel_turned(name)
     }
 
-    /// What the node has there from the place on.
-    pub fn outs_past(&self, place: &Option<Digest>) -> &[OutEntry]
-        requires { self.now.in_block ≡ true }
-        ensures past { result.now ≡ outs_past place.now self.now.row.outs }
-        ensures ordered { in_order out_key self.now.row.outs ≡ true }
-    {
-        let outs = self.outs.as_slice();
-        match place {
-            None => outs,
-            Some(name) => from_object(outs, &Object::Chunk(*name)),
-        }
-    }
-
-    /// The slots that the node answers for to the peer.
-    pub fn slots_here(&self) -> &[InEntry]
-        requires { self.now.in_block ≡ true }
-        ensures { result.now ≡ from_object in_key (Slot 0) self.now.row.ins }
-    {
-        from_object(self.ins.as_slice(), &Object::Slot(0))
-    }
-
-    /// The slots that the node has on the peer.
-    pub fn slots_there(&self) -> &[OutEntry]
-        requires { self.now.in_block ≡ true }
-        ensures { result.now ≡ from_object out_key (Slot 0) self.now.row.outs }
-    {
-        from_object(self.outs.as_slice(), &Object::Slot(0))
-    }
-
     /// Makes room for a reply that turns the pending deal down.
     pub fn reserve_turn(&mut self) -> Result<(), Memory>
         ensures id { self.new.id ≡ self.old.id }
         ensures row { self.new.row ≡ self.old.row }
-        ensures form { self.new.in_block ≡ self.old.in_block }
         ensures barred_room { OnOk result (1 ≤ self.new.barred_room) }
         ensures cancel_room { OnOk result (1 ≤ self.new.cancel_room) }
     {
         self.deals.reserve()
     }
 
-    /// Makes room for so many entries in the two lists.
+    /// Makes room for so many chunks, and runs of slots, in the two lists.
     pub fn reserve(&mut self, ins: usize, outs: usize) -> Result<(), Memory>
         ensures id { self.new.id ≡ self.old.id }
         ensures row { self.new.row ≡ self.old.row }
-        ensures form { self.new.in_block ≡ self.old.in_block }
         ensures in_room { OnOk result (ins ≤ self.new.in_room) }
         ensures out_room { OnOk result (outs ≤ self.new.out_room) }
     {
         self.ins.reserve(ins)?;
         self.outs.reserve(outs)
-    }
-
-    /// The same account with its entries in blocks.
-    pub fn into_block(self) -> Result<Account, Memory>
-        ensures id { IfOk result (λ a. a.id ≡ self.id) }
-        ensures row { IfOk result (λ a. a.row ≡ self.row) }
-        ensures form { IfOk result (λ a. a.in_block ≡ true) }
-    {
-        Ok(Account {
-            id: self.id,
-            ins: self.ins.into_block()?,
-            outs: self.outs.into_block()?,
-            debts: self.debts,
-            last: self.last,
-            deals: self.deals,
-            held: self.held,
-            back: self.back,
-            debt: self.debt,
-        })
     }
 }
 

@@ -22,10 +22,11 @@ mod swapping;
 mod taking;
 
 use crate::account::Account;
-use crate::codec::{CancelFields, FreshFields, KeptFields, RefusedFields, ReplyFields, SwapFields};
+use crate::fields::{
+    CancelFields, FreshFields, KeptFields, RefusedFields, ReplyFields, SwapFields,
+};
 use crate::own::Own;
-use accounts::accounts_in_blocks;
-use psb_bytes::{Memory, PeerId, units_of};
+use psb_bytes::{Memory, PeerId};
 use psb_model::{Change, Deal, SnapMark, Snapshot};
 use psb_settings::Settings;
 use std::alloc::Global;
@@ -46,8 +47,7 @@ pub struct Balance {
     pub debt: u32,
 }
 
-/// The state that a history of changes gives, with running sums. Its accounts keep what the node
-/// answers for in blocks, which a `Ledger` lends, or in trees, while a history is read.
+/// The state that a history of changes gives, with running sums.
 #[derive(Drop)]
 pub struct Book {
     alloc: Global,
@@ -63,7 +63,6 @@ pub struct Book {
     next: Option<Settings>,
     next_accounts: Vec<Account>,
     next_chosen: Vec<PeerId>,
-    in_blocks: bool,
 }
 
 impl Model for Book {
@@ -73,16 +72,15 @@ impl Model for Book {
 
     ghost Value = { LedgerView };
 
-    ghost view = { λ l. record { state = plain_state l.changes l.settings l.accounts.items l.issued (mine_of l.own l.kept.items l.snapped l.chosen.items); accounts = l.accounts.items; next = l.next; next_accounts = l.next_accounts.items; next_chosen = l.next_chosen.items; in_blocks = l.in_blocks; own_room = own_room l.own; kept_room = vec_capacity l.kept - vec_len l.kept } };
+    ghost view = { λ l. record { state = plain_state l.changes l.settings l.accounts.items l.issued (mine_of l.own l.kept.items l.snapped l.chosen.items); accounts = l.accounts.items; next = l.next; next_accounts = l.next_accounts.items; next_chosen = l.next_chosen.items; own_room = own_room l.own; kept_room = vec_capacity l.kept - vec_len l.kept } };
 
-    ghost invariant = { λ l. IsBook l.used l.in_blocks l.accounts.items l.next_accounts.items (mine_of l.own l.kept.items l.snapped l.chosen.items) (plain_state l.changes l.settings l.accounts.items l.issued (mine_of l.own l.kept.items l.snapped l.chosen.items)) };
+    ghost invariant = { λ l. IsBook l.used (mine_of l.own l.kept.items l.snapped l.chosen.items) (plain_state l.changes l.settings l.accounts.items l.issued (mine_of l.own l.kept.items l.snapped l.chosen.items)) };
 }
 
 impl Book {
     /// The book of the empty history. Takes no memory; what `make_room` takes comes from `alloc`.
-    pub fn new(alloc: Global, in_blocks: bool) -> Book
-        ensures state { result.state ≡ nothing_yet }
-        ensures form { result.in_blocks ≡ in_blocks }
+    pub fn new(alloc: Global) -> Book
+        ensures { result.state ≡ nothing_yet }
     {
         Book {
             alloc,
@@ -98,7 +96,6 @@ impl Book {
             next: None,
             next_accounts: Vec::new(alloc),
             next_chosen: Vec::new(alloc),
-            in_blocks,
         }
     }
 
@@ -107,16 +104,18 @@ impl Book {
     pub fn make_room(&mut self, c: &Change) -> Result<(), Memory>
         ensures state { self.new.state ≡ self.old.state }
         ensures room { OnOk result (HasRoom self.new c.now) }
-        ensures form { self.new.in_blocks ≡ self.old.in_blocks }
     {
         match c {
             Change::Begun { body } => self.make_room_to_begin(body),
             Change::Kept { .. } => self.own.reserve(),
             Change::Snapped { .. } => self.make_room_to_snap(),
-            Change::TookFresh { peer, len, .. } => {
-                self.make_room_for(*peer, 1, units_of(*len) as usize)
+            Change::TookFresh { peer, .. } => self.make_room_for(*peer, 1, 1),
+            Change::TookSwap { peer, slots, .. } => {
+                self.make_room_for(*peer, 1 + 2 * slots.as_slice().len(), 0)
             }
-            Change::TookSwap { peer, .. } => self.make_room_for(*peer, 1, 0),
+            Change::LetGo { peer, slots, .. } => {
+                self.make_room_for(*peer, 0, 2 * slots.as_slice().len())
+            }
             Change::LetGoBack { peer, slots, .. } => {
                 self.make_room_for(*peer, slots.as_slice().len(), 0)
             }
@@ -138,7 +137,6 @@ impl Book {
         ensures when { IsTrue (is_built c && allowed self.old.state c) ↔ IsOk result }
         ensures ok { OnOk result (self.new.state ≡ after self.old.state c) }
         ensures err { OnErr result (self.new ≡ self.old) }
-        ensures form { self.new.in_blocks ≡ self.old.in_blocks }
     {
         match c {
             Change::Begun { body } => self.begin(&body),
@@ -242,28 +240,5 @@ impl Book {
             Change::Chose { candidates } => self.choose(candidates.as_slice()),
             _ => Err(NotNow),
         }
-    }
-
-    /// The same book with its accounts in blocks. What room was made for is forgotten.
-    pub fn into_blocks(self) -> Result<Book, Memory>
-        ensures state { IfOk result (λ l. l.state ≡ self.state) }
-        ensures form { IfOk result (λ l. l.in_blocks ≡ true) }
-    {
-        Ok(Book {
-            alloc: self.alloc,
-            changes: self.changes,
-            settings: self.settings,
-            issued: self.issued,
-            used: self.used,
-            accounts: accounts_in_blocks(self.alloc, self.accounts)?,
-            own: self.own,
-            kept: self.kept,
-            snapped: self.snapped,
-            chosen: self.chosen,
-            next: None,
-            next_accounts: Vec::new(self.alloc),
-            next_chosen: Vec::new(self.alloc),
-            in_blocks: true,
-        })
     }
 }

@@ -11,16 +11,15 @@ ghost use Rattle.psb_model.specs.Conditions.{allowed, carries_none, each_slot, i
 ghost use Rattle.psb_model.specs.Effects.{after};
 ghost use Rattle.psb_model.specs.Proposing.{may_release, is_missing, slots_to_give, slots_to_fill};
 ghost use Rattle.psb_model.specs.History.{is_built};
-ghost use Rattle.psb_ledger.specs.View.{HasRoom, IsReached};
+ghost use Rattle.psb_ledger.specs.View.{HasRoom, IsReached, ins_of_lent, outs_of_lent};
 ghost use Rattle.psb_ledger.specs.OwnDeals.{barring};
 ghost use Rattle.psb_ledger.specs.OwnList.{known_len, next_own};
 
 use crate::book::{Balance, Book, NotNow};
 use crate::passed::{Passed, add_rows, missing_from, passed_in, put_row, restart};
+use peer_lists::{InList, OutList};
 use psb_bytes::{Digest, Memory, Object, PeerId, SlotList};
-use psb_model::{
-    Change, Deal, DebtEntry, InEntry, LastDeal, OutEntry, OwnEntry, SnapMark, Snapshot,
-};
+use psb_model::{Change, Deal, DebtEntry, LastDeal, OutEntry, OwnEntry, SnapMark, Snapshot};
 use psb_settings::Settings;
 use std::alloc::Global;
 use std::marker::Model;
@@ -35,13 +34,13 @@ pub struct Ledger {
 
 impl Model for Ledger {
     ghost use Rattle.psb_ledger.specs.View.{LedgerView};
-    ghost use Rattle.psb_ledger.specs.Passed.{IsLedger};
+    ghost use Rattle.psb_ledger.specs.Passed.{IsPassed};
 
     ghost Value = { LedgerView };
 
     ghost view = { λ l. l.book };
 
-    ghost invariant = { λ l. IsLedger l.book l.passed.items };
+    ghost invariant = { λ l. IsPassed l.book.state l.passed.items };
 }
 
 impl Ledger {
@@ -50,19 +49,9 @@ impl Ledger {
         ensures { result.state ≡ nothing_yet }
     {
         Ledger {
-            book: Book::new(alloc, true),
+            book: Book::new(alloc),
             passed: Vec::new(alloc),
         }
-    }
-
-    /// The ledger of a book whose accounts are in blocks.
-    pub(crate) fn of(book: Book) -> Result<Ledger, Memory>
-        requires { book.in_blocks ≡ true }
-        ensures { IfOk result (λ l. l ≡ book) }
-    {
-        let mut passed = Vec::new(book.alloc());
-        add_rows(&mut passed, book.settings())?;
-        Ok(Ledger { book, passed })
     }
 
     /// Some lawful history gives the state.
@@ -121,23 +110,23 @@ impl Ledger {
         }
     }
 
-    /// What the node answers for to the peer, in object order.
-    pub fn held_of(&self, peer: PeerId) -> &[InEntry]
-        ensures { result.now ≡ (row self.now.state peer).ins }
+    /// What the node answers for to the peer, in object order; None for an id that is no peer.
+    pub fn held_of(&self, peer: PeerId) -> Option<&InList>
+        ensures { ins_of_lent (option_copied result) ≡ (row self.now.state peer).ins }
     {
         match self.book.account(peer) {
-            None => &[],
-            Some(account) => account.ins(),
+            None => None,
+            Some(account) => Some(account.ins()),
         }
     }
 
-    /// What the node has on the peer, in object order.
-    pub fn out_of(&self, peer: PeerId) -> &[OutEntry]
-        ensures { result.now ≡ (row self.now.state peer).outs }
+    /// What the node has on the peer, in object order; None for an id that is no peer.
+    pub fn out_of(&self, peer: PeerId) -> Option<&OutList>
+        ensures { outs_of_lent (option_copied result) ≡ (row self.now.state peer).outs }
     {
         match self.book.account(peer) {
-            None => &[],
-            Some(account) => account.outs(),
+            None => None,
+            Some(account) => Some(account.outs()),
         }
     }
 

@@ -24,10 +24,10 @@ use Rattle.psb_model.proofs.Steps.{parts}
 use Rattle.psb_model.proofs.Tidy.{IsTidy}
 use Rattle.psb_model.proofs.Standing.{StandsFor, occurs_none}
 use Rattle.psb_model.proofs.Built.{IsPlain, has_coming, plain_row, plain_state}
-use Rattle.psb_model.proofs.Fitting.{IsFit, is_small, few_units, len_fits, fit_state}
-use Rattle.psb_model.proofs.Widths.{AreWide, pending_fits, wide_state}
-use Rattle.psb_model.proofs.RowOrder.{sorted_row}
-use Rattle.psb_model.proofs.Proposable.{MayBe, proposable}
+use Rattle.model_laws.proofs.Fitting.{IsFit, is_small, few_units, len_fits, fit_state}
+use Rattle.model_laws.proofs.Widths.{AreWide, pending_fits, wide_state}
+use Rattle.model_laws.proofs.RowOrder.{sorted_row}
+use Rattle.model_laws.proofs.Proposable.{MayBe, proposable}
 use Rattle.wire_codec.specs.Fields.{within, ascends, are_slots}
 use Rattle.wire_codec.specs.declared.limits.TheConstants.{MOST_SLOTS}
 use Rattle.psb_machine.specs.Proposals.{propose_facts, units_there, is_askable}

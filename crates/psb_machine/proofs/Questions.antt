@@ -15,7 +15,7 @@ use Rattle.psb_model.specs.declared.entries.Snapshot.{Snapshot}
 use Rattle.psb_model.specs.declared.entries.SnapMark.{SnapMark}
 use Rattle.psb_settings.specs.declared.settings.Settings.{Settings}
 use Rattle.psb_model.proofs.Built.{IsPlain}
-use Rattle.psb_model.proofs.Leaving.{own_stays}
+use Rattle.model_laws.proofs.Leaving.{own_stays}
 use Rattle.abstracts.specs.Least.{abstract_of}
 use Rattle.psb_machine.specs.Sampling.{wanted_names, salt_of, most_asked, question_at, question_by, question_of, keeps_question}
 

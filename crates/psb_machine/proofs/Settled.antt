@@ -12,7 +12,7 @@ use Rattle.psb_model.specs.Needed.{brings_right, no_slots, IsValid}
 use Rattle.psb_model.specs.declared.change.Change.{Change}
 use Rattle.psb_model.specs.declared.change.Change.TheVariants.{Settled}
 use Rattle.psb_model.proofs.ByObject.{by_cases}
-use Rattle.psb_model.proofs.Bodies.{valid_snoc}
+use Rattle.model_laws.proofs.Bodies.{valid_snoc}
 use Rattle.psb_machine.specs.Deals.{slots_of, claims_joined}
 use Rattle.psb_machine.specs.Settling.{Reply, Accepts, Refuses, answers_deal, settle}
 use Rattle.psb_machine.specs.Machine.{Situation, changes_of, on_reply}

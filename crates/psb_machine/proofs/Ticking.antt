@@ -14,12 +14,12 @@ use Rattle.psb_model.specs.declared.deals.DealWhat.{DealWhat}
 use Rattle.psb_model.specs.declared.change.Change.{Change}
 use Rattle.psb_model.specs.declared.change.Change.TheVariants.{Proposed, Chose}
 use Rattle.psb_model.proofs.ByObject.{by_cases}
-use Rattle.psb_model.proofs.Bodies.{valid_snoc}
+use Rattle.model_laws.proofs.Bodies.{valid_snoc}
 use Rattle.psb_model.proofs.Built.{plain_state}
-use Rattle.psb_model.proofs.Fitting.{fit_state}
-use Rattle.psb_model.proofs.Widths.{wide_state}
-use Rattle.psb_model.proofs.RowOrder.{sorted_row}
-use Rattle.psb_model.proofs.Proposable.{proposable, proposal_allowed}
+use Rattle.model_laws.proofs.Fitting.{fit_state}
+use Rattle.model_laws.proofs.Widths.{wide_state}
+use Rattle.model_laws.proofs.RowOrder.{sorted_row}
+use Rattle.model_laws.proofs.Proposable.{proposable, proposal_allowed}
 use Rattle.wire_codec.specs.Frames.{key_in}
 use Rattle.psb_machine.specs.Settling.{wait_in}
 use Rattle.psb_machine.specs.Proposals.{Asking, next_asking, proposed_at, propose_facts, is_even, is_askable}

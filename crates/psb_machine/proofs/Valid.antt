@@ -19,7 +19,7 @@ use Rattle.psb_model.specs.Needed.{brings_right, last_brought, IsValid}
 use Rattle.psb_model.specs.declared.change.Change.{Change}
 use Rattle.psb_model.specs.declared.change.Change.TheVariants.{Kept, Forgot, Refused}
 use Rattle.psb_model.proofs.Built.{plain_state, plain_row, use_within}
-use Rattle.psb_model.proofs.Bodies.{valid_snoc}
+use Rattle.model_laws.proofs.Bodies.{valid_snoc}
 use Rattle.psb_model.proofs.ByObject.{by_cases}
 use Rattle.wire_codec.specs.Frames.{Incoming, read_frame, key_in}
 use Rattle.wire_codec.specs.declared.frame.Dropped.{Dropped}

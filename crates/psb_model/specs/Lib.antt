@@ -9,6 +9,4 @@ pub mod Proposing
 pub mod Move
 pub mod Effects
 pub mod History
-pub mod Moved
 pub mod Needed
-pub mod Worked

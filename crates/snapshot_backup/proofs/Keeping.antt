@@ -17,7 +17,7 @@ use Rattle.psb_model.proofs.Own.{name_same, name_refl}
 use Rattle.psb_model.proofs.Prefixes.{state_snoc}
 use Rattle.psb_model.proofs.Built.{plain_state}
 use Rattle.psb_model.proofs.Held.{own_with_is}
-use Rattle.psb_model.proofs.Leaving.{own_kept}
+use Rattle.model_laws.proofs.Leaving.{own_kept}
 use Rattle.psb_machine.specs.Deals.{are_others, meets_others}
 use Rattle.psb_machine.specs.Machine.{Situation, Keep, kept_with, quiet, grows, changes_of, settled, next}
 use Rattle.psb_machine.specs.Course.{after_all}

@@ -7,7 +7,7 @@ use Rattle.psb_model.specs.History.{state}
 use Rattle.psb_model.specs.Needed.{last_brought, IsValid}
 use Rattle.psb_model.specs.declared.change.Change.{Change}
 use Rattle.psb_model.proofs.Built.{plain_state}
-use Rattle.psb_model.proofs.Leaving.{snapped_has}
+use Rattle.model_laws.proofs.Leaving.{snapped_has}
 use Rattle.psb_model.proofs.Prefixes.{state_snoc}
 use Rattle.psb_machine.specs.Machine.{snapped_with}
 use Rattle.psb_machine.specs.declared.snap_note.SnapNote.{SnapNote}

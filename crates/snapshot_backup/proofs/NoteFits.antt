@@ -11,7 +11,7 @@ use Rattle.psb_model.specs.Words.{name_eq, name_listed}
 use Rattle.psb_model.specs.State.{State, own_has, snaps_made}
 use Rattle.psb_model.specs.Grammar.{is_digest, is_ticket, is_chunk_len, ticket_fits}
 use Rattle.psb_model.proofs.Own.{name_same, name_refl}
-use Rattle.psb_ledger.proofs.Decoded.{all_bytes}
+use Rattle.change_codec.proofs.RecordLaws.{all_bytes}
 use Rattle.psb_machine.specs.Laws.{SnapFits, most_names}
 use Rattle.psb_machine.specs.declared.snap_note.SnapNote.{SnapNote}
 use Rattle.convergent_seal.specs.Sealing.{sealed, sealed_ref}

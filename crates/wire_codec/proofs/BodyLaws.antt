@@ -12,8 +12,8 @@ use Rattle.wire_codec.specs.declared.frame.Frame.TheVariants.{Store, Cancel, Put
 use Rattle.wire_codec.specs.declared.limits.TheConstants.{DIGEST_BYTES, CLAIM_BYTES}
 use Rattle.wire_codec.specs.Fields.{◌>>=◌, ended, within, text_bytes, slots_bytes, claims_bytes, places_bytes, objects_bytes, names_bytes, is_digest, is_u32, are_slots, are_claims, are_places, are_objects, are_names, is_text, bytes_at, u8_at, u32_at, u64_at, slots_at, claims_at, places_at, names_at, objects_at, text_at}
 use Rattle.wire_codec.specs.Frames.{kind_of, body_of, fits, store_at, cancel_at, put_back_at, release_at, replace_at, accepted_at, refused_at, declined_at, get_at, here_at, probe_at, proof_at, ask_at, sample_at, read_body}
-use Rattle.wire_codec.proofs.Found.{bind_some, then_some, some_is}
-use Rattle.wire_codec.proofs.FieldLaws.{IsField, as_they_are, many_bytes, bytes_field, u8_field, u32_field, u64_field, and_both}
+use Rattle.byte_fields.proofs.Found.{bind_some, then_some, some_is}
+use Rattle.byte_fields.proofs.FieldLaws.{IsField, as_they_are, many_bytes, bytes_field, u8_field, u32_field, u64_field, and_both}
 use Rattle.wire_codec.proofs.ListLaws.{slots_field, claims_field, places_field, names_field, objects_field, text_field}
 
 -- the frame fits, is of this kind and is spelled so

@@ -16,7 +16,7 @@ use Rattle.wire_codec.specs.declared.limits.TheConstants.{MAGIC, HEADER_BYTES, T
 use Rattle.wire_codec.specs.Fields.{within}
 use Rattle.wire_codec.specs.Frames.{Incoming, kind_of, body_of, header, signed, datagram, read_body, read_tagged, read_keyed, read_frame, framed, key_in, has_magic, kind_in, sender_in, receiver_in, number_in, length_in, signed_in, tag_in, body_in, part}
 use Rattle.wire_codec.specs.Laws.{IsFrame}
-use Rattle.wire_codec.proofs.FieldLaws.{u32_number, u64_number, AreBytes-take, AreBytes-drop}
+use Rattle.byte_fields.proofs.FieldLaws.{u32_number, u64_number, AreBytes-take, AreBytes-drop}
 use Rattle.wire_codec.proofs.BodyLaws.{body_takes, body_again}
 use Rattle.wire_codec.proofs.SizeLaws.{body_size}
 

@@ -1,4 +1,3 @@
-pub mod Found
 pub mod Spans
 pub mod Ascending
 pub mod Starts

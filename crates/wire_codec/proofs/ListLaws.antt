@@ -1,17 +1,17 @@
 -- The lists of a body, and its sealed bytes: what is read is spelled so, and what is spelled so is read.
-use Rattle.std.proofs.Common.{◌≡◌, ℕ, zero, suc, ◌+◌, ◌^◌, Bool, true, false, ◌&&◌, cond, eqb, List, [], ◌∷◌, ◌++◌, length, map, take, drop, Some, None, refl, ap, sym, ◌∙◌, subst, append_assoc, length-take, length-drop, arith}
+use Rattle.std.proofs.Common.{◌≡◌, ℕ, zero, suc, ◌+◌, ◌^◌, Bool, true, ◌&&◌, cond, List, [], ◌∷◌, ◌++◌, length, map, take, drop, Some, None, refl, ap, sym, ◌∙◌, subst, append_assoc, length-take, length-drop, arith}
 use Rattle.std.specs.Prelude.{nat_lt, ◌==◌, flat_map}
 use Rattle.std.specs.List.{list_all}
-use Rattle.std.proofs.lemmas.Bool.{and_parts, ltb-true, lt-ltb, eqb-true, eq-eqb, ne_eqb}
+use Rattle.std.proofs.lemmas.Bool.{and_parts, ltb-true, lt-ltb, eqb-true, eq-eqb}
 use Rattle.std.proofs.lemmas.List.{take-append-drop}
 use Rattle.std.proofs.lemmas.List.Concat.{flat_map-cons}
 use Rattle.psb_bytes.specs.Numbers.{AreBytes, u16_bytes, u32_bytes, u16_of, u32_of}
 use Rattle.psb_bytes.specs.declared.ids.Object.{Object}
-use Rattle.psb_bytes.specs.declared.ids.Object.TheVariants.{Chunk, Slot}
 use Rattle.wire_codec.specs.declared.limits.TheConstants.{DIGEST_BYTES, CLAIM_BYTES, MOST_SLOTS, MOST_OBJECTS, MOST_BYTES}
-use Rattle.wire_codec.specs.Fields.{◌>>=◌, text_bytes, claim_bytes, object_bytes, slots_bytes, claims_bytes, places_bytes, objects_bytes, names_bytes, are_bytes, ascends, within, is_digest, is_u32, is_claim, is_object, are_slots, are_claims, are_places, are_objects, are_names, is_text, bytes_at, u8_at, u32_at, claim_of, count_at, slots_at, claims_at, places_at, names_at, object_by, object_at, objects_from, objects_at, text_at}
-use Rattle.wire_codec.proofs.Found.{bind_some, then_some, some_is}
-use Rattle.wire_codec.proofs.FieldLaws.{IsField, same_fit, IsCell, list_field, list_fits, as_they_are, many_bytes, bytes_field, bytes_again, u8_field, u32_field, u16_number, u32_number, AreBytes-take, AreBytes-drop, are_bytes_is, and_both, count_field, within_most}
+use Rattle.wire_codec.specs.Fields.{◌>>=◌, text_bytes, claim_bytes, object_bytes, slots_bytes, claims_bytes, places_bytes, objects_bytes, names_bytes, are_bytes, ascends, within, is_digest, is_u32, is_claim, is_object, are_slots, are_claims, are_places, are_objects, are_names, is_text, bytes_at, u32_at, claim_of, count_at, slots_at, claims_at, places_at, names_at, object_at, objects_from, objects_at, text_at}
+use Rattle.byte_fields.proofs.Found.{bind_some, then_some, some_is}
+use Rattle.byte_fields.proofs.FieldLaws.{object_field, IsField, same_fit, as_they_are, many_bytes, bytes_field, bytes_again, u32_field, u16_number, u32_number, AreBytes-take, AreBytes-drop, are_bytes_is, and_both}
+use Rattle.wire_codec.proofs.FieldLaws.{IsCell, list_field, list_fits, count_field, within_most}
 
 pub slot_cell : IsCell 4 u32_of u32_bytes is_u32
 slot_cell = record {
@@ -122,37 +122,6 @@ text_field least = record {
         (whole ∙ rw (after, len) (sym (append_assoc (u32_bytes n) x rest)), rw (len, counted, p.1) refl, ok)
 
 -- ---- objects
-
-object_step : (kind : ℕ) (bytes : List ℕ) (o : Object) (rest : List ℕ) → AreBytes bytes → object_by kind bytes ≡ Some (o, rest) → (kind ∷ bytes ≡ object_bytes o ++ rest) × (is_object o ≡ true) × AreBytes rest
-unfolding object_by
-object_step zero bytes o rest ok e =
-    let b = bind_some (bytes_at DIGEST_BYTES bytes) (λ name. Some (Chunk name.0, name.1)) (o, rest) e in
-    let t = (bytes_field DIGEST_BYTES).takes bytes b.0.0 b.0.1 ok b.1 in
-    subst (λ (x : Object × List ℕ). (0 ∷ bytes ≡ object_bytes x.0 ++ x.1) × (is_object x.0 ≡ true) × AreBytes x.1) (some_is (Chunk b.0.0, b.0.1) (o, rest) b.2) (ap (λ (l : List ℕ). 0 ∷ l) t.0, t.1, t.2)
-object_step (suc zero) bytes o rest ok e =
-    let b = bind_some (u32_at bytes) (λ slot. Some (Slot slot.0, slot.1)) (o, rest) e in
-    let t = u32_field.takes bytes b.0.0 b.0.1 ok b.1 in
-    subst (λ (x : Object × List ℕ). (1 ∷ bytes ≡ object_bytes x.0 ++ x.1) × (is_object x.0 ≡ true) × AreBytes x.1) (some_is (Slot b.0.0, b.0.1) (o, rest) b.2) (ap (λ (l : List ℕ). 1 ∷ l) t.0, t.1, t.2)
-object_step (suc (suc kind)) bytes o rest ok e =
-    let no_chunk : eqb (suc (suc kind)) 0 ≡ false = ne_eqb (suc (suc kind)) 0 (λ h. absurd (omega arith)) in
-    let no_slot : eqb (suc (suc kind)) 1 ≡ false = ne_eqb (suc (suc kind)) 1 (λ h. absurd (omega arith)) in
-    let none : object_by (suc (suc kind)) bytes ≡ None = rw (no_chunk, no_slot) refl in
-    absurd cc
-
-object_field : IsField object_bytes is_object object_at
-unfolding object_at object_by u8_at
-object_field = record {
-  takes = λ bytes o rest ok e.
-      let b = bind_some (u8_at bytes) (λ kind. object_by kind.0 kind.1) (o, rest) e in
-      let t = u8_field.takes bytes b.0.0 b.0.1 ok b.1 in
-      let s = object_step b.0.0 b.0.1 o rest t.2 b.2 in
-      (t.0 ∙ s.0, s.1, s.2);
-  again = spelled;
-}
-  where
-    spelled : (o : Object) (rest : List ℕ) → is_object o ≡ true → object_at (object_bytes o ++ rest) ≡ Some (o, rest)
-    spelled (Chunk name) rest fit = rw ((bytes_field DIGEST_BYTES).again name rest fit) refl
-    spelled (Slot slot) rest fit = rw (u32_field.again slot rest fit) refl
 
 objects_take : (n : ℕ) (bytes : List ℕ) (os : List Object) (rest : List ℕ) → AreBytes bytes → objects_from n bytes ≡ Some (os, rest)
     → (bytes ≡ flat_map object_bytes os ++ rest) × (length os ≡ n) × (list_all is_object os ≡ true) × AreBytes rest

@@ -14,7 +14,8 @@ use Rattle.wire_codec.specs.declared.frame.Frame.TheVariants.{Store, Cancel, Put
 use Rattle.wire_codec.specs.declared.limits.TheConstants.{DIGEST_BYTES, CLAIM_BYTES, MOST_SLOTS, MOST_OBJECTS, MOST_BYTES, HEADER_BYTES, TAG_BYTES, MOST_FRAME_BYTES}
 use Rattle.wire_codec.specs.Fields.{within, text_bytes, claim_bytes, object_bytes, slots_bytes, claims_bytes, places_bytes, objects_bytes, names_bytes, are_bytes, ascends, claim_of, is_digest, is_u32, is_claim, is_object, are_slots, are_claims, are_places, are_objects, are_names, is_text}
 use Rattle.wire_codec.specs.Frames.{body_of, fits}
-use Rattle.wire_codec.proofs.FieldLaws.{as_they_are, cells_same, within_most}
+use Rattle.byte_fields.proofs.FieldLaws.{as_they_are}
+use Rattle.wire_codec.proofs.FieldLaws.{cells_same, within_most}
 use Rattle.wire_codec.proofs.ListLaws.{slot_cell, claim_cell, place_cell, name_cell, places_small, is_u16, is_place}
 
 digest_size : (d : List ℕ) → is_digest d ≡ true → length d ≡ 32

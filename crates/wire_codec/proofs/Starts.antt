@@ -7,7 +7,7 @@ use Rattle.psb_bytes.specs.declared.ids.Object.{Object}
 use Rattle.psb_bytes.specs.declared.ids.Object.TheVariants.{Chunk, Slot}
 use Rattle.wire_codec.specs.declared.limits.TheConstants.{DIGEST_BYTES, MOST_OBJECTS}
 use Rattle.wire_codec.specs.Fields.{◌>>=◌, Gives, bytes_at, u8_at, u32_at, object_by, object_at, objects_from, objects_in, object_in, objects_at, count_at, AreStarts}
-use Rattle.wire_codec.proofs.Found.{bytes_found, u8_found, u32_found}
+use Rattle.byte_fields.proofs.Found.{bytes_found, u8_found, u32_found}
 
 -- one object
 

@@ -1,11 +1,13 @@
 -- The fields of a body: how each is spelled, what fits, and how it is read from the front of some bytes.
-use Rattle.std.specs.Prelude.{◌≡◌, ℕ, zero, suc, ◌+◌, ◌*◌, ◌^◌, Bool, true, ◌&&◌, ◌==◌, nat_lt, nat_le, if◌then◌else◌, List, [], ◌∷◌, ◌++◌, length, map, take, drop, flat_map, Option, Some, None, option_map, slice_index, slice_get, ◌<◌, ◌≤◌}
+use Rattle.std.specs.Prelude.{◌≡◌, ℕ, zero, suc, ◌+◌, ◌*◌, Bool, true, ◌&&◌, ◌==◌, nat_lt, nat_le, if◌then◌else◌, List, [], ◌∷◌, ◌++◌, length, map, take, drop, flat_map, Option, Some, None, option_map, slice_index, slice_get, ◌<◌, ◌≤◌}
 use Rattle.std.specs.List.{list_all}
-use Rattle.psb_bytes.specs.Numbers.{u16_bytes, u32_bytes, u16_of, u32_of, u64_of}
+use Rattle.psb_bytes.specs.Numbers.{u16_bytes, u32_bytes, u16_of, u32_of}
 use Rattle.psb_bytes.specs.declared.ids.Object.{Object}
 use Rattle.psb_bytes.specs.declared.ids.Object.TheVariants.{Chunk, Slot}
 use Rattle.psb_bytes.specs.declared.lists.SlotClaim.{SlotClaim}
 use Rattle.wire_codec.specs.declared.limits.TheConstants.{DIGEST_BYTES, CLAIM_BYTES, MOST_SLOTS, MOST_OBJECTS, MOST_BYTES}
+pub use Rattle.byte_fields.specs.Fields.{◌>>=◌, Gives, are_bytes, is_digest, is_u32, is_object, ended}
+unfoldable pub use Rattle.byte_fields.specs.Fields.{bytes_at, u8_at, u16_at, u32_at, u64_at, object_by, object_at}
 
 -- ---- how a field is spelled
 
@@ -43,10 +45,6 @@ names_bytes names = list_bytes (λ name. name) names
 
 -- ---- what fits
 
--- each is below 256
-abbrev pub are_bytes : List ℕ → Bool
-are_bytes bytes = list_all (λ b. nat_lt b 256) bytes
-
 -- each is below the next
 abbrev pub ascends : List ℕ → Bool
 ascends [] = true
@@ -57,18 +55,8 @@ ascends (a ∷ b ∷ rest) = nat_lt a b && ascends (b ∷ rest)
 abbrev pub within : ℕ → ℕ → ℕ → Bool
 within least most n = nat_le least n && nat_le n most
 
-abbrev pub is_digest : List ℕ → Bool
-is_digest bytes = (length bytes == DIGEST_BYTES) && are_bytes bytes
-
-abbrev pub is_u32 : ℕ → Bool
-is_u32 n = nat_lt n (2 ^ 32)
-
 abbrev pub is_claim : SlotClaim → Bool
 is_claim claim = is_u32 claim.slot && ((length claim.bytes == CLAIM_BYTES) && are_bytes claim.bytes)
-
-abbrev pub is_object : Object → Bool
-is_object (Chunk name) = is_digest name
-is_object (Slot slot) = is_u32 slot
 
 -- slots, at least so many
 abbrev pub are_slots : ℕ → List ℕ → Bool
@@ -91,39 +79,6 @@ abbrev pub is_text : ℕ → List ℕ → Bool
 is_text least bytes = within least MOST_BYTES (length bytes) && are_bytes bytes
 
 -- ---- how a field is read: its value and the bytes behind it, or None
-
-infixl 10 ◌>>=◌
-abbrev pub ◌>>=◌ : {A B : Type 0} → Option A → (A → Option B) → Option B
-(Some x) >>= f = f x
-None >>= f = None
-
--- what a reader of the code returned, seen by view, is what reading gives
-abbrev pub Gives : {X Y : Type 0} → (X → Y) → Option X → Option Y → Type 0
-Gives view (Some x) read = read ≡ Some (view x)
-Gives view None read = read ≡ None
-
--- so many bytes
-unfoldable pub bytes_at : ℕ → List ℕ → Option (List ℕ × List ℕ)
-bytes_at n bytes = if nat_lt (length bytes) n then None else Some (take n bytes, drop n bytes)
-
-unfoldable pub u8_at : List ℕ → Option (ℕ × List ℕ)
-u8_at [] = None
-u8_at (b ∷ rest) = Some (b, rest)
-
-unfoldable pub u16_at : List ℕ → Option (ℕ × List ℕ)
-u16_at bytes = do
-  front ← bytes_at 2 bytes
-  Some (u16_of front.0, front.1)
-
-unfoldable pub u32_at : List ℕ → Option (ℕ × List ℕ)
-u32_at bytes = do
-  front ← bytes_at 4 bytes
-  Some (u32_of front.0, front.1)
-
-unfoldable pub u64_at : List ℕ → Option (ℕ × List ℕ)
-u64_at bytes = do
-  front ← bytes_at 8 bytes
-  Some (u64_of front.0, front.1)
 
 -- n cells, each of this many bytes
 abbrev pub cells : {A : Type 0} → ℕ → (List ℕ → A) → ℕ → List ℕ → List A
@@ -175,18 +130,6 @@ names_at bytes = do
   span ← bytes_at (DIGEST_BYTES * n.0) n.1
   Some (names_in n.0 span.0, span.1)
 
--- an object by the byte before it
-unfoldable pub object_by : ℕ → List ℕ → Option (Object × List ℕ)
-object_by kind bytes =
-    if kind == 0 then bytes_at DIGEST_BYTES bytes >>= (λ name. Some (Chunk name.0, name.1))
-    else if kind == 1 then u32_at bytes >>= (λ slot. Some (Slot slot.0, slot.1))
-    else None
-
-unfoldable pub object_at : List ℕ → Option (Object × List ℕ)
-object_at bytes = do
-  kind ← u8_at bytes
-  object_by kind.0 kind.1
-
 -- n objects, one after another
 unfoldable pub objects_from : ℕ → List ℕ → Option (List Object × List ℕ)
 objects_from zero bytes = Some ([], bytes)
@@ -223,8 +166,3 @@ unfoldable pub text_at : ℕ → List ℕ → Option (List ℕ × List ℕ)
 text_at least bytes = do
   len ← u32_at bytes
   if within least MOST_BYTES len.0 then bytes_at len.0 len.1 else None
-
--- a value, where nothing stands behind it
-abbrev pub ended : {A : Type 0} → A → List ℕ → Option A
-ended value [] = Some value
-ended value (b ∷ rest) = None

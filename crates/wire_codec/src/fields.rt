@@ -9,7 +9,7 @@ use crate::views::{
 };
 use psb_bytes::Cursor;
 
-#[tactic(auto, unfolding(crate::specs::Fields::bytes_at))]
+#[tactic(auto, unfolding(byte_fields::specs::Fields::bytes_at))]
 pub(crate) fn take_bytes(bytes: &[u8], n: usize) -> Option<(&[u8], &[u8])>
     ensures len { IfSome result (λ x. length x.0.now ≡ n) }
     ensures exact { Gives (λ x. (x.0.now, x.1.now)) result (bytes_at n bytes.now) }
@@ -21,7 +21,7 @@ pub(crate) fn take_bytes(bytes: &[u8], n: usize) -> Option<(&[u8], &[u8])>
     }
 }
 
-#[tactic(auto, unfolding(crate::specs::Fields::u8_at))]
+#[tactic(auto, unfolding(byte_fields::specs::Fields::u8_at))]
 pub(crate) fn take_u8(bytes: &[u8]) -> Option<(u8, &[u8])>
     ensures { Gives (λ x. (x.0, x.1.now)) result (u8_at bytes.now) }
 {
@@ -32,7 +32,7 @@ pub(crate) fn take_u8(bytes: &[u8]) -> Option<(u8, &[u8])>
     }
 }
 
-#[tactic(auto, unfolding(crate::specs::Fields::u16_at, crate::specs::Fields::bytes_at))]
+#[tactic(auto, unfolding(byte_fields::specs::Fields::u16_at, byte_fields::specs::Fields::bytes_at))]
 pub(crate) fn take_u16(bytes: &[u8]) -> Option<(u16, &[u8])>
     ensures { Gives (λ x. (x.0, x.1.now)) result (u16_at bytes.now) }
 {
@@ -43,7 +43,7 @@ pub(crate) fn take_u16(bytes: &[u8]) -> Option<(u16, &[u8])>
     }
 }
 
-#[tactic(auto, unfolding(crate::specs::Fields::u32_at, crate::specs::Fields::bytes_at))]
+#[tactic(auto, unfolding(byte_fields::specs::Fields::u32_at, byte_fields::specs::Fields::bytes_at))]
 pub(crate) fn take_u32(bytes: &[u8]) -> Option<(u32, &[u8])>
     ensures { Gives (λ x. (x.0, x.1.now)) result (u32_at bytes.now) }
 {
@@ -54,7 +54,7 @@ pub(crate) fn take_u32(bytes: &[u8]) -> Option<(u32, &[u8])>
     }
 }
 
-#[tactic(auto, unfolding(crate::specs::Fields::u64_at, crate::specs::Fields::bytes_at))]
+#[tactic(auto, unfolding(byte_fields::specs::Fields::u64_at, byte_fields::specs::Fields::bytes_at))]
 pub(crate) fn take_u64(bytes: &[u8]) -> Option<(u64, &[u8])>
     ensures { Gives (λ x. (x.0, x.1.now)) result (u64_at bytes.now) }
 {

@@ -68,7 +68,7 @@ fn object_from(bytes: &[u8], starts: &[usize], j: usize) -> Object
 }
 
 /// One object, 0 and a name or 1 and a slot, and how many bytes it has.
-#[tactic(auto, unfolding(crate::specs::Fields::object_at, crate::specs::Fields::object_by))]
+#[tactic(auto, unfolding(byte_fields::specs::Fields::object_at, byte_fields::specs::Fields::object_by))]
 fn object_of(bytes: &[u8]) -> Option<(Object, usize)>
     ensures within { IfSome result (λ x. x.1 ≤ length bytes.now) }
     ensures exact { Gives (λ x. (x.0, drop x.1 bytes.now)) result (object_at bytes.now) }

@@ -1,35 +1,22 @@
 //! What a deal of the peer moves in its account.
 
-ghost use Rattle.std.specs.Prelude.{◌≡◌, ◌+◌, ◌<◌, ◌≤◌, ◌^◌, length, true, false};
+ghost use Rattle.std.specs.Prelude.{◌≡◌, ◌+◌, ◌*◌, ◌<◌, ◌≤◌, ◌^◌, length, true, false};
 ghost use Rattle.psb_bytes.specs.declared.ids.Object.TheVariants.{Chunk};
 ghost use Rattle.psb_model.specs.Words.{has};
 ghost use Rattle.psb_model.specs.Grammar.{ascend};
 ghost use Rattle.psb_model.specs.State.{in_key, out_key, held_units, back_units};
-ghost use Rattle.psb_model.specs.Effects.{chunk_in, own_slots, direct_slots, took_deal};
+ghost use Rattle.psb_model.specs.Effects.{own_slots, direct_slots, took_deal};
 ghost use Rattle.psb_ledger.specs.View.{fresh_row, swap_row, let_go_row, put_back_row, lacks_all};
 
 use super::Account;
-use crate::codec::{CancelFields, FreshFields, SwapFields};
-use psb_bytes::{Digest, Object};
-use psb_model::{InEntry, InState, LastDeal};
-
-/// The entry of a chunk whose body is here.
-fn chunk_of(name: Digest, units: u32) -> InEntry
-    ensures { result ≡ chunk_in name units }
-{
-    InEntry {
-        object: Object::Chunk(name),
-        units,
-        state: InState::Body,
-    }
-}
+use crate::fields::{CancelFields, FreshFields, SwapFields};
+use psb_model::LastDeal;
 
 impl Account {
     /// Notes a deal that was taken or refused, with the number of its change.
     pub fn note(&mut self, deal: u64, change: u64)
         ensures id { self.new.id ≡ self.old.id }
         ensures row { self.new.row ≡ took_deal deal change self.old.row }
-        ensures form { self.new.in_block ≡ self.old.in_block }
     {
         self.last = LastDeal {
             number: deal,
@@ -40,7 +27,7 @@ impl Account {
     /// Takes a chunk of `u` units against as many new slots.
     pub fn take_fresh(&mut self, x: &FreshFields, u: u32, change: u64)
         requires in_room { 1 ≤ self.old.in_room }
-        requires out_room { u ≤ self.old.out_room }
+        requires out_room { 1 ≤ self.old.out_room }
         requires slots { x.now.first + u < 2 ^ 32 }
         requires held { held_units self.old.row + u < 2 ^ 32 }
         requires back { back_units self.old.row + u < 2 ^ 32 }
@@ -48,9 +35,8 @@ impl Account {
         requires absent_slots { lacks_all out_key (own_slots x.now.first u) self.old.row.outs ≡ true }
         ensures id { self.new.id ≡ self.old.id }
         ensures row { self.new.row ≡ fresh_row x.now.name u x.now.first x.now.deal change self.old.row }
-        ensures form { self.new.in_block ≡ self.old.in_block }
     {
-        self.ins.insert(chunk_of(x.name, u));
+        self.ins.insert_chunk(x.name, u);
         self.outs.insert_own_slots(x.first, u);
         self.held += u;
         self.back += u;
@@ -62,16 +48,14 @@ impl Account {
 
     /// Takes a chunk of `u` units in the place of slots. As much is answered for as before.
     pub fn take_swap(&mut self, x: &SwapFields, slots: &[u32], u: u32, change: u64)
-        requires in_room { 1 ≤ self.old.in_room }
-        requires ascend { ascend slots.now ≡ true }
+        requires in_room { 1 + 2 * length slots.now ≤ self.old.in_room }
         requires absent { has in_key self.old.row.ins (Chunk x.now.name) ≡ false }
         requires same { held_units (swap_row x.now.name u slots.now x.now.deal change self.old.row) ≡ held_units self.old.row }
         ensures id { self.new.id ≡ self.old.id }
         ensures row { self.new.row ≡ swap_row x.now.name u slots.now x.now.deal change self.old.row }
-        ensures form { self.new.in_block ≡ self.old.in_block }
     {
         self.ins.remove_slots(slots);
-        self.ins.insert(chunk_of(x.name, u));
+        self.ins.insert_chunk(x.name, u);
         self.last = LastDeal {
             number: x.deal,
             change,
@@ -80,14 +64,13 @@ impl Account {
 
     /// Lets a chunk go, and gives up slots of `u` units in all, as many as the chunk has.
     pub fn let_go(&mut self, x: &CancelFields, slots: &[u32], u: u32, change: u64)
-        requires ascend { ascend slots.now ≡ true }
+        requires out_room { 2 * length slots.now ≤ self.old.out_room }
         requires held { held_units (let_go_row x.now.name slots.now x.now.deal change self.old.row) + u ≡ held_units self.old.row }
         requires back { back_units (let_go_row x.now.name slots.now x.now.deal change self.old.row) + u ≡ back_units self.old.row }
         ensures id { self.new.id ≡ self.old.id }
         ensures row { self.new.row ≡ let_go_row x.now.name slots.now x.now.deal change self.old.row }
-        ensures form { self.new.in_block ≡ self.old.in_block }
     {
-        self.ins.remove(&Object::Chunk(x.name));
+        self.ins.remove_chunk(x.name);
         self.outs.remove_slots(slots);
         self.held -= u;
         self.back -= u;
@@ -105,9 +88,8 @@ impl Account {
         requires same { held_units (put_back_row x.now.name slots.now x.now.deal change self.old.row) ≡ held_units self.old.row }
         ensures id { self.new.id ≡ self.old.id }
         ensures row { self.new.row ≡ put_back_row x.now.name slots.now x.now.deal change self.old.row }
-        ensures form { self.new.in_block ≡ self.old.in_block }
     {
-        self.ins.remove(&Object::Chunk(x.name));
+        self.ins.remove_chunk(x.name);
         self.ins.insert_direct_slots(slots);
         self.last = LastDeal {
             number: x.deal,

@@ -3,15 +3,15 @@
 ghost use Rattle.std.specs.Prelude.{◌≡◌, ◌≤◌, ◌++◌, ◌∷◌, [], true, OnOk, IfSome, None, Some, map, option_to_list};
 ghost use Rattle.std.specs.Option.{option_copied};
 ghost use Rattle.psb_bytes.specs.declared.ids.Object.TheVariants.{Chunk, Slot};
-ghost use Rattle.psb_model.specs.Words.{listed, name_listed};
-ghost use Rattle.psb_model.specs.Grammar.{what_in_grammar};
+ghost use Rattle.psb_model.specs.Words.{listed, slots, name_listed};
+ghost use Rattle.psb_model.specs.Grammar.{ascend, what_in_grammar};
+ghost use Rattle.psb_ledger.specs.View.{ins_of, outs_of, ins_settled, outs_settled};
 ghost use Rattle.psb_model.specs.State.{out_ties, in_ties, ties_in, ties_out};
 ghost use Rattle.psb_model.specs.Conditions.{is_pending};
 ghost use Rattle.psb_model.specs.Effects.{deal_name, cancel_name, pending_name};
-ghost use Rattle.psb_ledger.specs.OwnDeals.{number_of, barred_after, placed_name, put_back_name, coming_name};
+ghost use Rattle.psb_ledger.specs.OwnDeals.{number_of, barred_after, placed_name, coming_name};
 
 use super::barred::Barred;
-use crate::entries::is_slot_of;
 use psb_bytes::{Digest, Memory, Object, PeerId};
 use psb_model::{Deal, DealWhat, bars_name};
 use std::alloc::Global;
@@ -59,6 +59,43 @@ fn cancelled(what: &DealWhat) -> Option<Digest>
     match what {
         DealWhat::Cancel { name, .. } => Some(*name),
         _ => None,
+    }
+}
+
+/// How many chunks, and runs of slots, come to the two lists of a peer.
+#[derive(Clone, Copy)]
+pub struct Room {
+    pub ins: usize,
+    pub outs: usize,
+}
+
+/// The room that the deal takes when it is settled, but for the slots of its reply: each slot that goes
+/// leaves two runs at most.
+fn room_of(what: &DealWhat) -> Room
+    ensures ins { result.ins ≡ ins_of what.now }
+    ensures outs { result.outs ≡ outs_of what.now }
+{
+    match what {
+        DealWhat::Fresh { .. } | DealWhat::PutBack { .. } => Room { ins: 0, outs: 1 },
+        DealWhat::Swap { slots, .. } => Room {
+            ins: 0,
+            outs: 1 + 2 * slots.as_slice().len(),
+        },
+        DealWhat::Cancel { slots, .. } => Room {
+            ins: 2 * slots.as_slice().len(),
+            outs: 0,
+        },
+        _ => Room { ins: 0, outs: 0 },
+    }
+}
+
+/// Whether the object is a slot of these numbers.
+fn is_slot_of(numbers: &[u32], object: &Object) -> bool
+    ensures { ascend numbers.now ≡ true → result ≡ listed (slots numbers.now) object.now }
+{
+    match object {
+        Object::Chunk(_) => false,
+        Object::Slot(number) => numbers.binary_search(number).is_ok(),
     }
 }
 
@@ -189,17 +226,15 @@ impl OwnDeals {
         }
     }
 
-    /// The chunk of a pending PutBack.
-    pub fn put_back(&self) -> Option<Digest>
-        ensures { result ≡ put_back_name self.now.pending }
+    /// The room that the pending deal takes when it is settled, but for the slots of its reply.
+    pub fn room_to_settle(&self) -> Room
+        ensures ins { result.ins ≡ ins_settled self.now.pending }
+        ensures outs { result.outs ≡ outs_settled self.now.pending }
     {
         let _mine = self.mine;
         match &self.pending {
-            None => None,
-            Some(d) => match &d.what {
-                DealWhat::PutBack { name, .. } => Some(*name),
-                _ => None,
-            },
+            None => Room { ins: 0, outs: 0 },
+            Some(d) => room_of(&d.what),
         }
     }
 

@@ -11,18 +11,7 @@ ghost use Rattle.psb_ledger.specs.Settling.{SettlesFresh, SettlesSwap, SettlesCa
 
 use super::Account;
 use psb_bytes::{Digest, Object};
-use psb_model::{Deal, DealWhat, OutEntry, OutState};
-
-/// The entry of a chunk whose body a peer has.
-fn placed_of(name: Digest, units: u32) -> OutEntry
-    ensures { result ≡ chunk_out name units }
-{
-    OutEntry {
-        object: Object::Chunk(name),
-        units,
-        state: OutState::Body,
-    }
-}
+use psb_model::{Deal, DealWhat};
 
 impl Account {
     /// Notes a deal that is proposed.
@@ -30,7 +19,6 @@ impl Account {
         requires { what_in_grammar deal.what ≡ true }
         ensures id { self.new.id ≡ self.old.id }
         ensures row { self.new.row ≡ record self.old.row { pending = Some deal; mine = deal.number } }
-        ensures form { self.new.in_block ≡ self.old.in_block }
     {
         self.deals.propose(deal);
     }
@@ -41,7 +29,6 @@ impl Account {
         requires cancel_room { 1 ≤ self.old.cancel_room }
         ensures id { self.new.id ≡ self.old.id }
         ensures row { self.new.row ≡ was_turned change why self.old.row }
-        ensures form { self.new.in_block ≡ self.old.in_block }
     {
         self.deals.turn(why, change);
     }
@@ -52,7 +39,6 @@ impl Account {
         requires { Settles self.old u slots.now self.old.row.pending }
         ensures id { self.new.id ≡ self.old.id }
         ensures row { self.new.row ≡ settled_row u slots.now self.old.row }
-        ensures form { self.new.in_block ≡ self.old.in_block }
     {
         if let Some(deal) = self.deals.take() {
             self.settle_deal(&deal.what, u, slots);
@@ -60,11 +46,9 @@ impl Account {
     }
 
     fn settle_deal(&mut self, what: &DealWhat, u: u32, slots: &[u32])
-        requires listed { what_in_grammar what.now ≡ true }
-        requires needs { SettlesDeal self.old u slots.now what.now }
+        requires { SettlesDeal self.old u slots.now what.now }
         ensures id { self.new.id ≡ self.old.id }
         ensures row { self.new.row ≡ settled_deal u slots.now self.old.row what.now }
-        ensures form { self.new.in_block ≡ self.old.in_block }
     {
         match what {
             DealWhat::Fresh { name } => self.settle_fresh(*name, u, slots),
@@ -83,36 +67,31 @@ impl Account {
         requires { SettlesFresh self.old u slots.now name }
         ensures id { self.new.id ≡ self.old.id }
         ensures row { self.new.row ≡ record self.old.row { ins = with_all in_key (direct_slots slots.now) self.old.row.ins; outs = with_one out_key (chunk_out name u) self.old.row.outs } }
-        ensures form { self.new.in_block ≡ self.old.in_block }
     {
         self.ins.insert_direct_slots(slots);
-        self.outs.insert(placed_of(name, u));
+        self.outs.insert_chunk(name, u);
         self.held += slots.len() as u32;
         self.back += u;
     }
 
     /// A chunk is placed in the place of own slots.
     fn settle_swap(&mut self, name: Digest, u: u32, mine: &[u32])
-        requires ascend { ascend mine.now ≡ true }
-        requires needs { SettlesSwap self.old u name mine.now }
+        requires { SettlesSwap self.old u name mine.now }
         ensures id { self.new.id ≡ self.old.id }
         ensures row { self.new.row ≡ record self.old.row { outs = with_one out_key (chunk_out name u) (without out_key (slots mine.now) self.old.row.outs) } }
-        ensures form { self.new.in_block ≡ self.old.in_block }
     {
         self.outs.remove_slots(mine);
-        self.outs.insert(placed_of(name, u));
+        self.outs.insert_chunk(name, u);
     }
 
     /// A chunk is gone from the peer, and slots of it here are given up.
     fn settle_cancel(&mut self, name: Digest, theirs: &[u32])
-        requires ascend { ascend theirs.now ≡ true }
-        requires needs { SettlesCancel self.old name theirs.now }
+        requires { SettlesCancel self.old name theirs.now }
         ensures id { self.new.id ≡ self.old.id }
         ensures row { self.new.row ≡ record self.old.row { ins = without in_key (slots theirs.now) self.old.row.ins; outs = without out_key (Chunk name ∷ []) self.old.row.outs } }
-        ensures form { self.new.in_block ≡ self.old.in_block }
     {
         self.ins.remove_slots(theirs);
-        self.outs.remove(&Object::Chunk(name));
+        self.outs.remove_chunk(name);
         let u = theirs.len() as u32;
         self.held -= u;
         self.back -= u;
@@ -123,11 +102,9 @@ impl Account {
         requires { SettlesPutBack self.old name first (units_at out_key out_size self.old.row.outs (Chunk name)) }
         ensures id { self.new.id ≡ self.old.id }
         ensures row { self.new.row ≡ record self.old.row { outs = with_all out_key (own_slots first (units_at out_key out_size self.old.row.outs (Chunk name))) (without out_key (Chunk name ∷ []) self.old.row.outs) } }
-        ensures form { self.new.in_block ≡ self.old.in_block }
     {
-        let chunk = Object::Chunk(name);
-        let u = self.units_out(&chunk);
-        self.outs.remove(&chunk);
+        let u = self.units_out(&Object::Chunk(name));
+        self.outs.remove_chunk(name);
         self.outs.insert_own_slots(first, u);
     }
 }

@@ -1,13 +1,13 @@
 //! The accounts of a book: one for each peer of the settings.
 
-ghost use Rattle.std.specs.Prelude.{◌≡◌, ◌==◌, true, map, IfOk, find, position};
+ghost use Rattle.std.specs.Prelude.{◌≡◌, ◌==◌, map, IfOk, find, position};
 ghost use Rattle.std.specs.List.{list_any};
 ghost use Rattle.std.specs.Option.{option_copied};
 ghost use Rattle.psb_bytes.specs.declared.ids.Object.TheVariants.{Chunk};
 ghost use Rattle.psb_model.specs.Words.{has};
 ghost use Rattle.psb_model.specs.State.{in_key, ties_in};
 ghost use Rattle.psb_model.specs.Effects.{blank_rows, first_rows};
-ghost use Rattle.psb_ledger.specs.View.{named_row, AreInForm};
+ghost use Rattle.psb_ledger.specs.View.{named_row};
 
 use crate::account::Account;
 use psb_bytes::{Digest, Memory, Object, PeerId};
@@ -47,39 +47,21 @@ pub(super) fn ties_in(accounts: &[Account], peer: PeerId, object: &Object) -> bo
 pub(super) fn first_accounts(
     alloc: Global,
     settings: &Option<Settings>,
-    in_blocks: bool,
 ) -> Result<Vec<Account>, Memory>
-    ensures rows { IfOk result (λ v. map named_row v.items ≡ first_rows settings.now) }
-    ensures forms { IfOk result (λ v. AreInForm in_blocks v.items) }
+    ensures { IfOk result (λ v. map named_row v.items ≡ first_rows settings.now) }
 {
     match settings {
         None => Ok(Vec::new(alloc)),
-        Some(x) => empty_accounts(alloc, x.peers.as_slice(), in_blocks),
+        Some(x) => empty_accounts(alloc, x.peers.as_slice()),
     }
 }
 
-fn empty_accounts(alloc: Global, peers: &[PeerRow], in_blocks: bool) -> Result<Vec<Account>, Memory>
-    ensures rows { IfOk result (λ v. map named_row v.items ≡ blank_rows peers.now) }
-    ensures forms { IfOk result (λ v. AreInForm in_blocks v.items) }
+fn empty_accounts(alloc: Global, peers: &[PeerRow]) -> Result<Vec<Account>, Memory>
+    ensures { IfOk result (λ v. map named_row v.items ≡ blank_rows peers.now) }
 {
     let mut accounts = Vec::new(alloc);
     for peer in peers {
-        accounts.push(Account::new(alloc, peer.id, in_blocks))?;
+        accounts.push(Account::new(alloc, peer.id))?;
     }
     Ok(accounts)
-}
-
-/// The same accounts, each with its entries in one block.
-pub(super) fn accounts_in_blocks(
-    alloc: Global,
-    accounts: Vec<Account>,
-) -> Result<Vec<Account>, Memory>
-    ensures rows { IfOk result (λ v. map named_row v.items ≡ map named_row accounts.items) }
-    ensures forms { IfOk result (λ v. AreInForm true v.items) }
-{
-    let mut blocks = Vec::new(alloc);
-    for account in accounts {
-        blocks.push(account.into_block()?)?;
-    }
-    Ok(blocks)
 }

@@ -32,10 +32,9 @@ impl Book {
     pub(super) fn make_room_to_begin(&mut self, body: &Option<Bytes>) -> Result<(), Memory>
         ensures state { self.new.state ≡ self.old.state }
         ensures room { OnOk result (HasBegunRoom self.new body.now) }
-        ensures form { self.new.in_blocks ≡ self.old.in_blocks }
     {
         let settings = settings_of(self.alloc, body)?;
-        self.next_accounts = first_accounts(self.alloc, &settings, self.in_blocks)?;
+        self.next_accounts = first_accounts(self.alloc, &settings)?;
         self.next = settings;
         Ok(())
     }
@@ -46,7 +45,6 @@ impl Book {
         ensures when { IsTrue (is_built (Begun body.now) && allowed self.old.state (Begun body.now)) ↔ IsOk result }
         ensures ok { OnOk result (self.new.state ≡ after self.old.state (Begun body.now)) }
         ensures err { OnErr result (self.new ≡ self.old) }
-        ensures form { self.new.in_blocks ≡ self.old.in_blocks }
     {
         if self.changes != 0 || self.next.is_none() {
             return Err(NotNow);

@@ -120,7 +120,6 @@ impl Book {
     pub(super) fn make_room_to_choose(&mut self, candidates: &[Candidate]) -> Result<(), Memory>
         ensures state { self.new.state ≡ self.old.state }
         ensures room { OnOk result (self.new.next_chosen ≡ chosen_after self.new.state (Chose candidates.now)) }
-        ensures form { self.new.in_blocks ≡ self.old.in_blocks }
     {
         let most = buddies_of(&self.settings) as usize;
         let count = candidates.len().min(most);
@@ -146,7 +145,6 @@ impl Book {
         ensures when { IsTrue (allowed self.old.state (Chose candidates.now)) ↔ IsOk result }
         ensures ok { OnOk result (self.new.state ≡ after self.old.state (Chose candidates.now)) }
         ensures err { OnErr result (self.new ≡ self.old) }
-        ensures form { self.new.in_blocks ≡ self.old.in_blocks }
     {
         if !self.may_choose(candidates) {
             return Err(NotNow);

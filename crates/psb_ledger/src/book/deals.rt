@@ -10,7 +10,7 @@ ghost use Rattle.psb_ledger.specs.View.{HasListRoom};
 use super::accounts::place_of;
 use super::{Book, NotNow};
 use crate::account::Account;
-use crate::codec::RefusedFields;
+use crate::fields::RefusedFields;
 use psb_bytes::{LAST_REASON, Memory, PeerId};
 
 /// Whether the deal is the next of the peer.
@@ -27,7 +27,7 @@ fn allows_refusal(account: &Account, x: &RefusedFields) -> bool
 }
 
 impl Book {
-    /// Makes room for so many entries in the two lists of the peer.
+    /// Makes room for so many chunks, and runs of slots, in the two lists of the peer.
     pub(super) fn make_room_for(
         &mut self,
         peer: PeerId,
@@ -36,7 +36,6 @@ impl Book {
     ) -> Result<(), Memory>
         ensures state { self.new.state ≡ self.old.state }
         ensures room { OnOk result (HasListRoom self.new peer ins outs) }
-        ensures form { self.new.in_blocks ≡ self.old.in_blocks }
     {
         match place_of(self.accounts.as_slice(), peer) {
             None => Ok(()),
@@ -64,7 +63,6 @@ impl Book {
         ensures when { IsTrue (allowed self.old.state (Refused x.peer x.deal x.why x.detail)) ↔ IsOk result }
         ensures ok { OnOk result (self.new.state ≡ after self.old.state (Refused x.peer x.deal x.why x.detail)) }
         ensures err { OnErr result (self.new ≡ self.old) }
-        ensures form { self.new.in_blocks ≡ self.old.in_blocks }
     {
         let Some(at) = self.place_to_refuse(&x) else {
             return Err(NotNow);

@@ -12,7 +12,7 @@ ghost use Rattle.psb_ledger.specs.OwnTree.{own_items};
 ghost use Rattle.psb_ledger.specs.Snapping.{change_of, count_of};
 
 use super::{Book, NotNow};
-use crate::codec::KeptFields;
+use crate::fields::KeptFields;
 use crate::own::Own;
 use crate::snapshots::{has_number, names_ascend};
 use psb_bytes::Memory;
@@ -53,7 +53,6 @@ impl Book {
         ensures when { IsTrue (allowed self.old.state (Kept x.name x.len x.new None)) ↔ IsOk result }
         ensures ok { OnOk result (self.new.state ≡ after self.old.state (Kept x.name x.len x.new None)) }
         ensures err { OnErr result (self.new ≡ self.old) }
-        ensures form { self.new.in_blocks ≡ self.old.in_blocks }
     {
         if !self.may_keep(&x) {
             return Err(NotNow);
@@ -70,7 +69,6 @@ impl Book {
     pub(super) fn make_room_to_snap(&mut self) -> Result<(), Memory>
         ensures state { self.new.state ≡ self.old.state }
         ensures room { OnOk result (1 ≤ self.new.kept_room) }
-        ensures form { self.new.in_blocks ≡ self.old.in_blocks }
     {
         self.kept.try_reserve(1)?;
         Ok(())
@@ -89,7 +87,6 @@ impl Book {
         ensures when { IsTrue (allowed self.old.state (change_of snapshot)) ↔ IsOk result }
         ensures ok { OnOk result (self.new.state ≡ after self.old.state (change_of snapshot)) }
         ensures err { OnErr result (self.new ≡ self.old) }
-        ensures form { self.new.in_blocks ≡ self.old.in_blocks }
     {
         if !self.may_snap(&snapshot) {
             return Err(NotNow);
@@ -118,7 +115,6 @@ impl Book {
         ensures when { IsTrue (allowed self.old.state (Forgot number)) ↔ IsOk result }
         ensures ok { OnOk result (self.new.state ≡ after self.old.state (Forgot number)) }
         ensures err { OnErr result (self.new ≡ self.old) }
-        ensures form { self.new.in_blocks ≡ self.old.in_blocks }
     {
         if !self.may_forget(number) {
             return Err(NotNow);

@@ -1,7 +1,7 @@
 //! What a book makes of a chunk that a peer takes back: against slots that the node has there, or
 //! against claims that the peer puts into new slots here.
 
-ghost use Rattle.std.specs.Prelude.{◌≡◌, ◌+◌, ◌<◌, ◌^◌, ◌==◌, ◌↔◌, length, IsTrue, OnOk, OnErr, IsOk, IfSome, IsSome, Some, None, position};
+ghost use Rattle.std.specs.Prelude.{◌≡◌, ◌+◌, ◌*◌, ◌<◌, ◌^◌, ◌==◌, ◌↔◌, length, IsTrue, OnOk, OnErr, IsOk, IfSome, IsSome, Some, None, position};
 ghost use Rattle.psb_model.specs.declared.change.Change.TheVariants.{LetGo, LetGoBack};
 ghost use Rattle.psb_model.specs.Words.{all_of};
 ghost use Rattle.psb_model.specs.Grammar.{in_grammar};
@@ -13,7 +13,7 @@ use super::accounts::place_of;
 use super::deals::is_next;
 use super::{Book, NotNow};
 use crate::account::Account;
-use crate::codec::CancelFields;
+use crate::fields::CancelFields;
 use psb_bytes::Object;
 
 fn allows_let_go(account: &Account, x: &CancelFields, slots: &[u32]) -> bool
@@ -52,11 +52,11 @@ impl Book {
 
     pub(super) fn let_go(&mut self, x: CancelFields, slots: &[u32]) -> Result<(), NotNow>
         requires grammar { IsTrue (in_grammar (LetGo x.peer x.deal x.name slots.now)) }
+        requires room { HasListRoom self.old x.peer 0 (2 * length slots.now) }
         requires few { self.old.state.changes < 2 ^ 62 }
         ensures when { IsTrue (allowed self.old.state (LetGo x.peer x.deal x.name slots.now)) ↔ IsOk result }
         ensures ok { OnOk result (self.new.state ≡ after self.old.state (LetGo x.peer x.deal x.name slots.now)) }
         ensures err { OnErr result (self.new ≡ self.old) }
-        ensures form { self.new.in_blocks ≡ self.old.in_blocks }
     {
         let Some(at) = self.place_to_let_go(&x, slots) else {
             return Err(NotNow);
@@ -89,7 +89,6 @@ impl Book {
         ensures when { IsTrue (allowed self.old.state (LetGoBack x.peer x.deal x.name slots.now None)) ↔ IsOk result }
         ensures ok { OnOk result (self.new.state ≡ after self.old.state (LetGoBack x.peer x.deal x.name slots.now None)) }
         ensures err { OnErr result (self.new ≡ self.old) }
-        ensures form { self.new.in_blocks ≡ self.old.in_blocks }
     {
         let Some(at) = self.place_to_put_back(&x, slots) else {
             return Err(NotNow);

@@ -50,8 +50,7 @@ impl Book {
 
     /// The account of a peer.
     pub fn account(&self, peer: PeerId) -> Option<&Account>
-        ensures row { row_of (option_copied result) ≡ row self.now.state peer }
-        ensures form { IfSome (option_copied result) (λ v. v.in_block ≡ self.now.in_blocks) }
+        ensures { row_of (option_copied result) ≡ row self.now.state peer }
     {
         account_of(self.accounts.as_slice(), peer)
     }

@@ -1,18 +1,18 @@
 //! Where a book finds the next own deal with a peer.
 
-ghost use Rattle.std.specs.Prelude.{◌≡◌, ◌&&◌, ◌++◌, nat_le, true, false, find, take, option_to_list, None, Some, IfOk, IfSome, OnOk};
+ghost use Rattle.std.specs.Prelude.{◌≡◌, ◌≤◌, ◌^◌, ◌&&◌, ◌++◌, nat_le, true, false, find, take, option_to_list, None, Some, IfOk, IfSome, OnOk};
 ghost use Rattle.std.specs.Option.{option_map};
-ghost use Rattle.psb_bytes.specs.declared.ids.Object.TheVariants.{Slot};
 ghost use Rattle.psb_model.specs.Words.{units, listed, name_listed};
 ghost use Rattle.psb_model.specs.State.{row, in_key, out_key, own_marked};
 ghost use Rattle.psb_model.specs.Proposing.{is_free, is_absent, is_missing, may_release, none_marked, none_missing, gives, slots_to_give, fills, slots_to_fill};
-ghost use Rattle.psb_ledger.specs.OwnList.{is_behind, next_own};
+ghost use Rattle.psb_ledger.specs.OwnList.{next_own};
+ghost use Rattle.peer_lists.specs.Walks.{IsSlotFrom, chunk_after};
 ghost use Rattle.psb_ledger.specs.View.{in_order, own_key, IsReached};
-ghost use Rattle.psb_ledger.specs.Passed.{is_past, is_past_own, settled_restarts, restarts_of, from_object, outs_past, next_out};
+ghost use Rattle.psb_ledger.specs.Passed.{is_past, is_past_own, settled_restarts, restarts_of, chunk_name, next_out, number_behind};
 
 use super::Book;
 use crate::passed::Restarts;
-use crate::snapshots::{is_below, is_listed};
+use crate::snapshots::is_listed;
 use psb_bytes::{Digest, Memory, Object, PeerId, SlotList, units_of};
 use psb_model::{Change, DealWhat, InEntry, InState, OutEntry, OutState, OwnEntry};
 use std::alloc::Global;
@@ -101,40 +101,39 @@ impl Book {
         is_listed(self.kept.as_slice(), name) && self.is_absent(peer, name)
     }
 
-    /// The first marked chunk there from the place on that may be released.
+    /// The first marked chunk there that may be released, where none up to the place is marked.
     pub fn to_release(
         &self,
         peer: PeerId,
         probed: &[Object],
         place: &Option<Digest>,
     ) -> Option<OutEntry>
-        requires { self.now.in_blocks ≡ true }
-        ensures { result ≡ find (may_release self.now.state peer probed.now) (outs_past place.now (row self.now.state peer).outs) }
+        requires { none_marked (is_past place.now) self.now.state.own (row self.now.state peer).outs ≡ true }
+        ensures { result ≡ find (may_release self.now.state peer probed.now) (row self.now.state peer).outs }
     {
-        let outs = self.outs_past(peer, place);
-        for i in 0..outs.len() {
-            if self.may_release(peer, probed, &outs[i]) {
-                return Some(outs[i]);
+        let mut passed = *place;
+        while let Some(entry) = self.chunk_there(peer, &passed) {
+            if self.may_release(peer, probed, &entry) {
+                return Some(entry);
             }
+            passed = chunk_name(&entry.object);
         }
         None
     }
 
-    /// What the node has there from the place on.
-    fn outs_past(&self, peer: PeerId, place: &Option<Digest>) -> &[OutEntry]
-        requires { self.now.in_blocks ≡ true }
-        ensures past { result.now ≡ outs_past place.now (row self.now.state peer).outs }
+    /// The first chunk there behind the place.
+    fn chunk_there(&self, peer: PeerId, place: &Option<Digest>) -> Option<OutEntry>
+        ensures chunk { result ≡ chunk_after out_key place.now (row self.now.state peer).outs }
         ensures ordered { in_order out_key (row self.now.state peer).outs ≡ true }
     {
         match self.account(peer) {
-            None => &[],
-            Some(account) => account.outs_past(place),
+            None => None,
+            Some(account) => account.outs().chunk_after(place),
         }
     }
 
     /// The first chunk there behind the place, if it is not marked.
     fn next_unmarked(&self, peer: PeerId, place: &Option<Digest>) -> Option<Digest>
-        requires { self.now.in_blocks ≡ true }
         ensures next { IfSome result (λ n. next_out place.now (row self.now.state peer).outs ≡ Some n) }
         ensures unmarked { IfSome result (λ n. own_marked self.now.state.own n ≡ false) }
         ensures ordered { in_order out_key (row self.now.state peer).outs ≡ true }
@@ -148,17 +147,18 @@ impl Book {
 
     /// The first chunk there behind the place.
     fn next_out(&self, peer: PeerId, place: &Option<Digest>) -> Option<Digest>
-        requires { self.now.in_blocks ≡ true }
         ensures next { result ≡ next_out place.now (row self.now.state peer).outs }
         ensures ordered { in_order out_key (row self.now.state peer).outs ≡ true }
     {
-        first_behind(self.outs_past(peer, place), place)
+        match self.chunk_there(peer, place) {
+            None => None,
+            Some(entry) => chunk_name(&entry.object),
+        }
     }
 
     /// A place behind which the next chunk there is marked, if there is one.
     pub fn seek_marked(&self, peer: PeerId, place: &Option<Digest>) -> Option<Digest>
-        requires form { self.now.in_blocks ≡ true }
-        requires past { none_marked (is_past place.now) self.now.state.own (row self.now.state peer).outs ≡ true }
+        requires { none_marked (is_past place.now) self.now.state.own (row self.now.state peer).outs ≡ true }
         ensures { none_marked (is_past result) self.now.state.own (row self.now.state peer).outs ≡ true }
     {
         let mut reached = *place;
@@ -226,27 +226,27 @@ impl Book {
 
     /// The first slots here that may be given for a chunk there, `most` of them at most.
     pub fn slots_to_give(&self, peer: PeerId, most: usize) -> Result<SlotList, Memory>
-        requires { self.now.in_blocks ≡ true }
         ensures { IfOk result (λ l. l ≡ take most (slots_to_give self.now.state peer)) }
     {
-        let slots = self.slots_here(peer);
         let mut numbers = Vec::new(self.alloc);
-        for i in 0..slots.len() {
+        let mut from = 0;
+        while let Some(entry) = self.slot_here(peer, from) {
             if numbers.len() == most {
                 return Ok(SlotList::from_vec(numbers));
             }
-            push_some(&mut numbers, self.gives(peer, &slots[i]))?;
+            push_some(&mut numbers, self.gives(peer, &entry))?;
+            from = number_behind(&entry.object);
         }
         Ok(SlotList::from_vec(numbers))
     }
 
-    fn slots_here(&self, peer: PeerId) -> &[InEntry]
-        requires { self.now.in_blocks ≡ true }
-        ensures { result.now ≡ from_object in_key (Slot 0) (row self.now.state peer).ins }
+    fn slot_here(&self, peer: PeerId, number: u64) -> Option<InEntry>
+        requires { number ≤ 2 ^ 32 }
+        ensures { IsSlotFrom in_key (row self.now.state peer).ins number result }
     {
         match self.account(peer) {
-            None => &[],
-            Some(account) => account.slots_here(),
+            None => None,
+            Some(account) => account.ins().slot_from(number),
         }
     }
 
@@ -268,27 +268,27 @@ impl Book {
         probed: &[Object],
         most: usize,
     ) -> Result<SlotList, Memory>
-        requires { self.now.in_blocks ≡ true }
         ensures { IfOk result (λ l. l ≡ take most (slots_to_fill self.now.state peer probed.now)) }
     {
-        let slots = self.slots_there(peer);
         let mut numbers = Vec::new(self.alloc);
-        for i in 0..slots.len() {
+        let mut from = 0;
+        while let Some(entry) = self.slot_there(peer, from) {
             if numbers.len() == most {
                 return Ok(SlotList::from_vec(numbers));
             }
-            push_some(&mut numbers, self.fills(peer, probed, &slots[i]))?;
+            push_some(&mut numbers, self.fills(peer, probed, &entry))?;
+            from = number_behind(&entry.object);
         }
         Ok(SlotList::from_vec(numbers))
     }
 
-    fn slots_there(&self, peer: PeerId) -> &[OutEntry]
-        requires { self.now.in_blocks ≡ true }
-        ensures { result.now ≡ from_object out_key (Slot 0) (row self.now.state peer).outs }
+    fn slot_there(&self, peer: PeerId, number: u64) -> Option<OutEntry>
+        requires { number ≤ 2 ^ 32 }
+        ensures { IsSlotFrom out_key (row self.now.state peer).outs number result }
     {
         match self.account(peer) {
-            None => &[],
-            Some(account) => account.slots_there(),
+            None => None,
+            Some(account) => account.outs().slot_from(number),
         }
     }
 
@@ -310,29 +310,25 @@ fn is_listed_object(objects: &[Object], object: &Object) -> bool
     objects.iter().any(|o| o == object)
 }
 
-/// Whether the name stands behind the place.
-fn is_behind(place: &Option<Digest>, name: &Digest) -> bool
-    ensures { result ≡ is_behind place.now name.now }
+/// The name of a chunk.
+fn chunk_name(object: &Object) -> Option<Digest>
+    ensures { result ≡ chunk_name object.now }
 {
-    match place {
-        None => true,
-        Some(m) => is_below(m, name),
+    match object {
+        Object::Chunk(name) => Some(*name),
+        Object::Slot(_) => None,
     }
 }
 
-/// The first chunk behind the place, which stands in front of all slots.
-fn first_behind(outs: &[OutEntry], place: &Option<Digest>) -> Option<Digest>
-    ensures { result ≡ next_out place.now outs.now }
+/// The number behind that of a slot.
+fn number_behind(object: &Object) -> u64
+    ensures number { result ≡ number_behind object.now }
+    ensures few { result ≤ 2 ^ 32 }
 {
-    for i in 0..outs.len() {
-        let Object::Chunk(name) = outs[i].object else {
-            return None;
-        };
-        if is_behind(place, &name) {
-            return Some(name);
-        }
+    match object {
+        Object::Chunk(_) => 0,
+        Object::Slot(number) => u64::from(*number) + 1,
     }
-    None
 }
 
 /// Puts a number behind the others, if there is one.

@@ -150,7 +150,6 @@ impl Book {
         ensures when { IsTrue (is_built_deal deal.what && allowed self.old.state (Proposed peer deal.number deal.what)) ↔ IsOk result }
         ensures ok { OnOk result (self.new.state ≡ after self.old.state (Proposed peer deal.number deal.what)) }
         ensures err { OnErr result (self.new ≡ self.old) }
-        ensures form { self.new.in_blocks ≡ self.old.in_blocks }
     {
         let Some(at) = self.place_to_propose(peer, &deal) else {
             return Err(NotNow);

@@ -7,14 +7,14 @@ ghost use Rattle.psb_model.specs.State.{row};
 ghost use Rattle.psb_model.specs.Grammar.{in_grammar};
 ghost use Rattle.psb_model.specs.Conditions.{allowed};
 ghost use Rattle.psb_model.specs.Effects.{after};
-ghost use Rattle.psb_ledger.specs.View.{in_order, own_key, named_row, outs_settled, settle_tests, HasListRoom, HasTurnRoom};
+ghost use Rattle.psb_ledger.specs.View.{in_order, own_key, named_row, ins_settled, outs_settled, settle_tests, HasListRoom, HasTurnRoom};
 ghost use Rattle.psb_ledger.specs.OwnList.{released};
 ghost use Rattle.psb_ledger.specs.OwnTree.{own_items};
 
 use super::accounts::place_of;
 use super::{Book, NotNow};
-use crate::account::{Account, is_named};
-use crate::codec::{RefusedFields, ReplyFields};
+use crate::account::{Account, Room, is_named};
+use crate::fields::{RefusedFields, ReplyFields};
 use crate::own::Own;
 use psb_bytes::{Digest, Memory, PeerId};
 
@@ -48,21 +48,20 @@ impl Book {
     /// places.
     pub(super) fn make_room_to_settle(&mut self, peer: PeerId, count: usize) -> Result<(), Memory>
         ensures state { self.new.state ≡ self.old.state }
-        ensures room { OnOk result (HasListRoom self.new peer count (outs_settled (row self.new.state peer) (row self.new.state peer).pending)) }
-        ensures form { self.new.in_blocks ≡ self.old.in_blocks }
+        ensures room { OnOk result (HasListRoom self.new peer (count + ins_settled (row self.new.state peer).pending) (outs_settled (row self.new.state peer).pending)) }
     {
-        let outs = match self.account(peer) {
-            None => 0,
-            Some(account) => account.outs_settled(),
+        let room = match self.account(peer) {
+            None => Room { ins: 0, outs: 0 },
+            Some(account) => account.room_to_settle(),
         };
-        self.make_room_for(peer, count, outs as usize)
+        let ins = count.checked_add(room.ins).ok_or(Memory)?;
+        self.make_room_for(peer, ins, room.outs)
     }
 
     /// Makes room for a name that the peer turns down.
     pub(super) fn make_room_to_turn(&mut self, peer: PeerId) -> Result<(), Memory>
         ensures state { self.new.state ≡ self.old.state }
         ensures room { OnOk result (HasTurnRoom self.new peer) }
-        ensures form { self.new.in_blocks ≡ self.old.in_blocks }
     {
         match place_of(self.accounts.as_slice(), peer) {
             None => Ok(()),
@@ -89,12 +88,11 @@ impl Book {
 
     pub(super) fn settle(&mut self, x: ReplyFields, slots: &[u32]) -> Result<(), NotNow>
         requires grammar { IsTrue (in_grammar (Settled x.peer x.deal slots.now None)) }
-        requires room { HasListRoom self.old x.peer (length slots.now) (outs_settled (row self.old.state x.peer) (row self.old.state x.peer).pending) }
+        requires room { HasListRoom self.old x.peer (length slots.now + ins_settled (row self.old.state x.peer).pending) (outs_settled (row self.old.state x.peer).pending) }
         requires few { self.old.state.changes < 2 ^ 62 }
         ensures when { IsTrue (allowed self.old.state (Settled x.peer x.deal slots.now None)) ↔ IsOk result }
         ensures ok { OnOk result (self.new.state ≡ after self.old.state (Settled x.peer x.deal slots.now None)) }
         ensures err { OnErr result (self.new ≡ self.old) }
-        ensures form { self.new.in_blocks ≡ self.old.in_blocks }
     {
         let Some(at) = self.place_to_settle(&x, slots) else {
             return Err(NotNow);
@@ -130,7 +128,6 @@ impl Book {
         ensures when { IsTrue (allowed self.old.state (Turned x.peer x.deal x.why x.detail)) ↔ IsOk result }
         ensures ok { OnOk result (self.new.state ≡ after self.old.state (Turned x.peer x.deal x.why x.detail)) }
         ensures err { OnErr result (self.new ≡ self.old) }
-        ensures form { self.new.in_blocks ≡ self.old.in_blocks }
     {
         let Some(at) = self.place_to_turn(&x) else {
             return Err(NotNow);

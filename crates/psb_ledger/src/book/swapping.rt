@@ -1,6 +1,6 @@
 //! What a book makes of a chunk that a peer stores in the place of slots that it has here.
 
-ghost use Rattle.std.specs.Prelude.{◌≡◌, ◌+◌, ◌<◌, ◌^◌, ◌==◌, ◌↔◌, IsTrue, OnOk, OnErr, IsOk, IfSome, IsSome, Some, None, position};
+ghost use Rattle.std.specs.Prelude.{◌≡◌, ◌+◌, ◌*◌, ◌<◌, ◌^◌, ◌==◌, ◌↔◌, length, IsTrue, OnOk, OnErr, IsOk, IfSome, IsSome, Some, None, position};
 ghost use Rattle.psb_model.specs.declared.change.Change.TheVariants.{TookSwap};
 ghost use Rattle.psb_model.specs.Words.{units, all_of};
 ghost use Rattle.psb_model.specs.Grammar.{in_grammar};
@@ -12,7 +12,7 @@ use super::accounts::place_of;
 use super::deals::is_next;
 use super::{Book, NotNow};
 use crate::account::Account;
-use crate::codec::SwapFields;
+use crate::fields::SwapFields;
 use psb_bytes::{Object, units_of};
 
 fn allows_swap(
@@ -50,12 +50,11 @@ impl Book {
 
     pub(super) fn take_swap(&mut self, x: SwapFields, slots: &[u32]) -> Result<(), NotNow>
         requires grammar { IsTrue (in_grammar (TookSwap x.peer x.deal x.name slots.now x.len x.new None)) }
-        requires room { HasListRoom self.old x.peer 1 0 }
+        requires room { HasListRoom self.old x.peer (1 + 2 * length slots.now) 0 }
         requires few { self.old.state.changes < 2 ^ 62 }
         ensures when { IsTrue (allowed self.old.state (TookSwap x.peer x.deal x.name slots.now x.len x.new None)) ↔ IsOk result }
         ensures ok { OnOk result (self.new.state ≡ after self.old.state (TookSwap x.peer x.deal x.name slots.now x.len x.new None)) }
         ensures err { OnErr result (self.new ≡ self.old) }
-        ensures form { self.new.in_blocks ≡ self.old.in_blocks }
     {
         let Some(at) = self.place_to_swap(&x, slots) else {
             return Err(NotNow);

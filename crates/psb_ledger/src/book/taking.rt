@@ -12,7 +12,7 @@ use super::accounts::place_of;
 use super::deals::is_next;
 use super::{Book, NotNow};
 use crate::account::Account;
-use crate::codec::FreshFields;
+use crate::fields::FreshFields;
 use psb_bytes::{Object, units_of};
 use psb_model::may_issue;
 use psb_settings::Settings;
@@ -70,12 +70,11 @@ impl Book {
 
     pub(super) fn take_fresh(&mut self, x: FreshFields) -> Result<(), NotNow>
         requires grammar { IsTrue (in_grammar (TookFresh x.peer x.deal x.name x.first x.len x.new None)) }
-        requires room { HasListRoom self.old x.peer 1 (units x.len) }
+        requires room { HasListRoom self.old x.peer 1 1 }
         requires few { self.old.state.changes < 2 ^ 62 }
         ensures when { IsTrue (allowed self.old.state (TookFresh x.peer x.deal x.name x.first x.len x.new None)) ↔ IsOk result }
         ensures ok { OnOk result (self.new.state ≡ after self.old.state (TookFresh x.peer x.deal x.name x.first x.len x.new None)) }
         ensures err { OnErr result (self.new ≡ self.old) }
-        ensures form { self.new.in_blocks ≡ self.old.in_blocks }
     {
         let Some(at) = self.place_for_fresh(&x) else {
             return Err(NotNow);

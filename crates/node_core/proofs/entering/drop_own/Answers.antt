@@ -4,8 +4,8 @@ use Rattle.node_core.proofs.Dropping.{drop_start, drop_lost_next}
 use Rattle.node_core.proofs.entering.drop_own.Goals as goal
 
 pub loop-name-init : goal.loop-name-init
-loop-name-init g c = drop_start c.args.names.now Own _ (λ q. refl)
+loop-name-init c = drop_start c.args.names.now Own _ (λ q. refl)
 
 pub loop-name-preserved : goal.loop-name-preserved
-loop-name-preserved g c =
-    drop_lost_next c.args.names.now c.loop-name.names c.drop_lost.new.names (g.P.OwnPart.state c.args.left.now).own c.args.dropped.now c.loop-name.name-index c.name-item.result c.loop-name-test.true c.name-item.is c.loop-name.invariant c.drop_lost.ensures
+loop-name-preserved c =
+    drop_lost_next c.args.names.now c.loop-name.names c.drop_lost.new.names c.args.left.now.state.own c.args.dropped.now c.loop-name.name-index c.name-item.result c.loop-name-test.true c.name-item.is c.loop-name.invariant c.drop_lost.ensures

@@ -6,4 +6,4 @@ use Rattle.node_core.specs.Names.{Drops}
 use Rattle.node_core.proofs.entering.drop_own.Given as goal
 
 abbrev pub invariant-loop-name : goal.invariant-loop-name
-invariant-loop-name g l = Drops l.fn.names l.names Own (λ q. name_listed (take l.name-index l.fn.dropped) q && not (own_has (g.P.OwnPart.state l.left).own q))
+invariant-loop-name l = Drops l.fn.names l.names Own (λ q. name_listed (take l.name-index l.fn.dropped) q && not (own_has l.left.state.own q))

@@ -1,6 +1,6 @@
 use Rattle.std.proofs.Common.{◌∙◌, []}
 use Rattle.psb_bytes.specs.declared.ids.Object.TheVariants.{Chunk}
-use Rattle.psb_ledger.proofs.Ordered.{searched}
+use Rattle.peer_lists.proofs.Ordered.{searched}
 use Rattle.psb_ledger.proofs.Listed.{ascending}
 use Rattle.node_core.proofs.entering.has_name.Goals as goal
 

@@ -1,5 +1,5 @@
 use Rattle.std.proofs.Common.{arith}
-use Rattle.psb_ledger.proofs.Decoded.{all_bytes}
+use Rattle.change_codec.proofs.RecordLaws.{all_bytes}
 use Rattle.node_core.proofs.replies.are_in_range.Goals as goal
 
 pub returns : goal.returns

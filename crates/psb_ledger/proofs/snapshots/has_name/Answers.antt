@@ -1,7 +1,7 @@
 -- Names that ascend are searched by halves.
 use Rattle.std.proofs.Common.{◌∙◌, []}
 use Rattle.psb_bytes.specs.declared.ids.Object.TheVariants.{Chunk}
-use Rattle.psb_ledger.proofs.Ordered.{searched}
+use Rattle.peer_lists.proofs.Ordered.{searched}
 use Rattle.psb_ledger.proofs.Listed.{ascending}
 use Rattle.psb_ledger.proofs.snapshots.has_name.Goals as goal
 

@@ -2,7 +2,7 @@ use Rattle.std.proofs.Common.{List, ℕ, ◌-◌, length, subst, sym, ◌∙◌,
 use Rattle.psb_bytes.specs.Numbers.{AreBytes}
 use Rattle.wire_codec.specs.Views.{frame_of}
 use Rattle.wire_codec.specs.declared.limits.TheConstants.{HEADER_BYTES, TAG_BYTES}
-use Rattle.wire_codec.proofs.FieldLaws.{AreBytes-take, AreBytes-drop}
+use Rattle.byte_fields.proofs.FieldLaws.{AreBytes-take, AreBytes-drop}
 use Rattle.wire_codec.proofs.BodyLaws.{body_takes}
 use Rattle.wire_codec.proofs.reading.tagged.Goals as goal
 

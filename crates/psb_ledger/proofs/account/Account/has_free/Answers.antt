@@ -3,17 +3,16 @@ use Rattle.psb_model.specs.Words.{has_so}
 use Rattle.psb_model.specs.State.{out_key}
 use Rattle.psb_model.specs.Conditions.{carries_none}
 use Rattle.psb_ledger.specs.View.{AccountView}
-use Rattle.psb_ledger.specs.Lists.{out_items}
-use Rattle.psb_ledger.proofs.Found.{found_so, none_so}
+use Rattle.peer_lists.proofs.Found.{found_so, none_so}
 use Rattle.psb_ledger.proofs.account.Account.has_free.Goals as goal
 
 pub returns-in-None : goal.returns-in-None
 returns-in-None c =
-    none_so out_key carries_none (out_items c.self.inside.outs) c.args.object.now c.in-None.ensures
+    none_so out_key carries_none c.self.inside.outs.items c.args.object.now c.in-None.ensures.entry
     ∙ ap (λ (v : AccountView). has_so out_key carries_none v.row.outs c.args.object.now) c.self.view_is
 
 pub returns-in-Some : goal.returns-in-Some
 returns-in-Some c =
     c.is_free.ensures
-    ∙ found_so out_key carries_none (out_items c.self.inside.outs) c.args.object.now c.in-Some.entry c.self.invariant.outs_ordered c.in-Some.ensures
+    ∙ found_so out_key carries_none c.self.inside.outs.items c.args.object.now c.in-Some.entry c.in-Some.ensures.ordered c.in-Some.ensures.entry
     ∙ ap (λ (v : AccountView). has_so out_key carries_none v.row.outs c.args.object.now) c.self.view_is

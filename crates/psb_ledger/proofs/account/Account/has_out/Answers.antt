@@ -3,13 +3,12 @@ use Rattle.std.specs.Prelude.{is_some}
 use Rattle.psb_model.specs.Words.{has}
 use Rattle.psb_model.specs.State.{out_key}
 use Rattle.psb_ledger.specs.View.{AccountView}
-use Rattle.psb_ledger.specs.Lists.{out_items}
-use Rattle.psb_ledger.proofs.Found.{find_has}
+use Rattle.peer_lists.proofs.Found.{find_has}
 use Rattle.psb_ledger.proofs.account.Account.has_out.Goals as goal
 
 pub returns : goal.returns
 returns c =
     c.is_some.ensures
-    ∙ ap is_some c.get.ensures
-    ∙ find_has out_key (out_items c.self.inside.outs) c.args.object.now
+    ∙ ap is_some c.get.ensures.entry
+    ∙ find_has out_key c.self.inside.outs.items c.args.object.now
     ∙ ap (λ (v : AccountView). has out_key v.row.outs c.args.object.now) c.self.view_is

@@ -4,17 +4,16 @@ use Rattle.psb_model.specs.Words.{has_so}
 use Rattle.psb_model.specs.State.{in_key}
 use Rattle.psb_model.specs.Conditions.{is_direct}
 use Rattle.psb_ledger.specs.View.{AccountView}
-use Rattle.psb_ledger.specs.Lists.{in_items}
-use Rattle.psb_ledger.proofs.Found.{found_so, none_so}
+use Rattle.peer_lists.proofs.Found.{found_so, none_so}
 use Rattle.psb_ledger.proofs.account.Account.is_direct.Goals as goal
 
 pub returns-in-None : goal.returns-in-None
 returns-in-None c =
-    none_so in_key is_direct (in_items c.self.inside.ins) (Slot c.args.slot) c.in-None.ensures
+    none_so in_key is_direct c.self.inside.ins.items (Slot c.args.slot) c.in-None.ensures.entry
     ∙ ap (λ (v : AccountView). has_so in_key is_direct v.row.ins (Slot c.args.slot)) c.self.view_is
 
 pub returns-in-Some : goal.returns-in-Some
 returns-in-Some c =
     c.is_here.ensures
-    ∙ found_so in_key is_direct (in_items c.self.inside.ins) (Slot c.args.slot) c.in-Some.entry c.self.invariant.ins_ordered c.in-Some.ensures
+    ∙ found_so in_key is_direct c.self.inside.ins.items (Slot c.args.slot) c.in-Some.entry c.in-Some.ensures.ordered c.in-Some.ensures.entry
     ∙ ap (λ (v : AccountView). has_so in_key is_direct v.row.ins (Slot c.args.slot)) c.self.view_is

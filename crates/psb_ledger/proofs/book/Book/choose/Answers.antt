@@ -7,7 +7,7 @@ pub invariant_of-self : goal.invariant_of-self
 invariant_of-self c =
     let l = c.self.inside in
     let made = chosen_one l c.args.self.now c.args.candidates.now c.swap.new.x.items c.self.view_is c.self.invariant.sound c.self.invariant.own_part c.requires.grammar (sym c.may_choose.ensures ∙ c.if-not-may_choose.false) (ap (λ v. v.items) c.swap.ensures.x_after ∙ ap (λ (v : LedgerView). v.next_chosen) c.self.view_is ∙ c.requires.room) in
-    record { sound = made.sound; own_part = made.own_part; forms = c.self.invariant.forms; next_forms = c.self.invariant.next_forms }
+    record { sound = made.sound; own_part = made.own_part }
 
 pub returns-clause-ok : goal.returns-clause-ok
 returns-clause-ok c =

@@ -21,7 +21,7 @@ invariant_of-self c =
     let less : c.retain.new.self.items ≡ kept_without c.args.number c.self.inside.kept.items = filter_same _ (λ (k : Snapshot). not (k.number == c.args.number)) _ (λ x b f' k. search rules) c.self.inside.kept.items c.retain.new.self.items c.retain.ensures.filtered in
     let left = c.mark_unlisted.ensures ∙ (λ i. given_up (map named_row (c.as_slice-2.ensures.value i)) (set_marks (marks (c.as_slice.ensures.value i)) (own_items c.self.inside.own))) in
     let made = forgot_one c.self.inside c.args.self.now c.args.number c.retain.new.self.items (own_items c.mark_unlisted.new.self) c.self.view_is c.self.invariant.sound c.self.invariant.own_part (sym c.may_forget.ensures ∙ c.if-not-may_forget.false) less left in
-    record { sound = made.sound; own_part = made.own_part; forms = c.self.invariant.forms; next_forms = c.self.invariant.next_forms }
+    record { sound = made.sound; own_part = made.own_part }
 
 pub returns-clause-ok : goal.returns-clause-ok
 returns-clause-ok c =

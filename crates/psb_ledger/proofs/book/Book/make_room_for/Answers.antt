@@ -4,7 +4,6 @@ use Rattle.std.specs.Prelude.{◌==◌, position}
 use Rattle.std.proofs.lemmas.Bool.{false≢true}
 use Rattle.psb_ledger.specs.View.{AccountView, LedgerView, HasListRoom, IsSound}
 use Rattle.psb_ledger.proofs.Places.{on_ok_both, found_here, found_after, found_account, none}
-use Rattle.psb_ledger.proofs.Forms.{form_after}
 use Rattle.psb_ledger.proofs.Sound.{mine, same_rows, same_state}
 use Rattle.psb_ledger.proofs.book.Book.make_room_for.Goals as goal
 
@@ -23,9 +22,7 @@ invariant_of-self c =
     let here = found_here l.accounts.items c.args.peer c.in-Some.at c.index_mut-account.result.now at c.index_mut-account.ensures.value in
     record {
       sound = subst (IsSound l.used) (sym (same_state (mine l) l.changes l.settings l.accounts.items (set l.accounts.items c.in-Some.at c.reserve.new.self) l.issued (same_rows l.accounts.items c.args.peer c.in-Some.at c.index_mut-account.result.now c.reserve.new.self here c.reserve.ensures.id c.reserve.ensures.row))) c.self.invariant.sound;
-      forms = form_after l.in_blocks l.accounts.items c.args.peer c.in-Some.at c.index_mut-account.result.now c.reserve.new.self at c.index_mut-account.ensures.value c.self.invariant.forms c.reserve.ensures.form;
       own_part = c.self.invariant.own_part;
-      next_forms = c.self.invariant.next_forms;
     }
 
 pub returns-in-Some-clause-room : goal.returns-in-Some-clause-room

@@ -1,8 +1,10 @@
 use Rattle.std.proofs.Common.{◌∙◌, ap}
 use Rattle.psb_model.specs.State.{row}
-use Rattle.psb_ledger.specs.Passed.{next_out}
-use Rattle.psb_ledger.proofs.Seeking.{next_past}
+use Rattle.psb_ledger.proofs.Seeking.{name_after, after_next}
 use Rattle.psb_ledger.proofs.book.Book.next_out.Goals as goal
 
-pub returns-clause-next : goal.returns-clause-next
-returns-clause-next c = c.first_behind.ensures ∙ ap (next_out c.args.place.now) c.outs_past.ensures.past ∙ next_past c.args.place.now (row c.args.self.now.state c.args.peer).outs
+pub returns-in-None-clause-next : goal.returns-in-None-clause-next
+returns-in-None-clause-next c = ap name_after c.in-None.ensures.chunk ∙ after_next c.args.place.now (row c.args.self.now.state c.args.peer).outs c.in-None.ensures.ordered
+
+pub returns-in-Some-clause-next : goal.returns-in-Some-clause-next
+returns-in-Some-clause-next c = c.chunk_name.ensures ∙ ap name_after c.in-Some.ensures.chunk ∙ after_next c.args.place.now (row c.args.self.now.state c.args.peer).outs c.in-Some.ensures.ordered

@@ -6,7 +6,6 @@ use Rattle.std.proofs.lemmas.Bool.{and_parts}
 use Rattle.psb_ledger.specs.View.{AccountView, LedgerView, plain_state, IsSound}
 use Rattle.psb_ledger.specs.OwnTree.{own_items}
 use Rattle.psb_ledger.specs.OwnDeals.{own_units, coming_name, drawn}
-use Rattle.psb_ledger.proofs.Forms.{form_after}
 use Rattle.psb_ledger.proofs.Peers.{at_place}
 use Rattle.psb_ledger.proofs.Places.{found_at, found_here}
 use Rattle.psb_ledger.proofs.Sound.{mine}
@@ -44,9 +43,7 @@ invariant_of-self c =
     let sound1 = subst (λ n. IsSound n (plain_state (l.changes + 1) l.settings ws (l.issued + drawn r.row d.what) (mine l))) (ap (λ n. l.used + n) (sym u)) made.sound in
     record {
       sound = subst (λ n. IsSound (l.used + c.units_of.result) (plain_state (l.changes + 1) l.settings ws (l.issued + n) (mine l))) (sym dr) sound1;
-      forms = form_after l.in_blocks l.accounts.items p i r c.propose.new.self at c.index_mut-account.ensures.value c.self.invariant.forms c.propose.ensures.form;
       own_part = c.self.invariant.own_part;
-      next_forms = c.self.invariant.next_forms;
     }
 
 pub returns-clause-ok : goal.returns-clause-ok

@@ -16,7 +16,7 @@ invariant_of-self c =
     let pushed : c.push.new.self.items ≡ c.self.inside.kept.items ++ c.args.snapshot ∷ [] = search rules in
     let lifted = c.lift.ensures ∙ ap (λ ns. set_marks (lifts ns) (own_items c.self.inside.own)) c.as_slice.ensures in
     let made = snapped_one c.self.inside c.args.self.now c.args.snapshot c.push.new.self.items (own_items c.lift.new.self) c.self.view_is c.self.invariant.sound c.self.invariant.own_part c.requires.grammar (sym c.may_snap.ensures ∙ c.if-not-may_snap.false) pushed lifted in
-    record { sound = made.sound; own_part = made.own_part; forms = c.self.invariant.forms; next_forms = c.self.invariant.next_forms }
+    record { sound = made.sound; own_part = made.own_part }
 
 pub returns-clause-ok : goal.returns-clause-ok
 returns-clause-ok c =

@@ -2,7 +2,6 @@
 use Rattle.std.proofs.Common.{refl, sym, ap, ◌∙◌, arith}
 use Rattle.std.specs.Prelude.{◌==◌, position}
 use Rattle.psb_ledger.specs.View.{AccountView, LedgerView}
-use Rattle.psb_ledger.proofs.Forms.{form_after}
 use Rattle.psb_ledger.proofs.Peers.{at_place}
 use Rattle.psb_ledger.proofs.Taking.{change_of, can_take}
 use Rattle.psb_ledger.proofs.book.Book.take_fresh.Goals as goal
@@ -54,9 +53,7 @@ invariant_of-self c =
     let at = c.in-Some.ensures.place ∙ ap (λ (v : LedgerView). position (λ (y : AccountView). y.id == c.args.x.peer) v.accounts) (sym c.self.view_is) in
     record {
       sound = (here.made c.take_fresh.new.self c.take_fresh.ensures.id c.take_fresh.ensures.row).sound;
-      forms = form_after l.in_blocks l.accounts.items c.args.x.peer c.in-Some.at c.index_mut-account.result.now c.take_fresh.new.self at c.index_mut-account.ensures.value c.self.invariant.forms c.take_fresh.ensures.form;
       own_part = c.self.invariant.own_part;
-      next_forms = c.self.invariant.next_forms;
     }
 
 pub returns-clause-ok : goal.returns-clause-ok

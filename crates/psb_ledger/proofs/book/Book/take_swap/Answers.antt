@@ -2,7 +2,6 @@
 use Rattle.std.proofs.Common.{refl, sym, ap, ◌∙◌}
 use Rattle.std.specs.Prelude.{◌==◌, position}
 use Rattle.psb_ledger.specs.View.{AccountView, LedgerView}
-use Rattle.psb_ledger.proofs.Forms.{form_after}
 use Rattle.psb_ledger.proofs.Peers.{at_place}
 use Rattle.psb_ledger.proofs.Swapping.{swap_of, can_swap}
 use Rattle.psb_ledger.proofs.book.Book.take_swap.Goals as goal
@@ -11,11 +10,6 @@ pub take_swap-requires-clause-in_room : goal.take_swap-requires-clause-in_room
 take_swap-requires-clause-in_room c =
     let here = can_swap c.self.inside c.args.self.now c.args.x c.args.slots.now c.in-Some.at c.units_of-u.result c.index_mut-account.result.now (at_place c.self.inside c.args.self.now (swap_of c.args.x c.args.slots.now) c.args.x.peer c.in-Some.at c.index_mut-account.result.now c.self.view_is c.self.invariant.sound c.in-Some.ensures.place c.index_mut-account.ensures.value (c.in-Some.ensures.when.1 refl) c.requires.grammar) c.requires.room c.units_of-u.ensures in
     here.in_room
-
-pub take_swap-requires-clause-ascend : goal.take_swap-requires-clause-ascend
-take_swap-requires-clause-ascend c =
-    let here = can_swap c.self.inside c.args.self.now c.args.x c.args.slots.now c.in-Some.at c.units_of-u.result c.index_mut-account.result.now (at_place c.self.inside c.args.self.now (swap_of c.args.x c.args.slots.now) c.args.x.peer c.in-Some.at c.index_mut-account.result.now c.self.view_is c.self.invariant.sound c.in-Some.ensures.place c.index_mut-account.ensures.value (c.in-Some.ensures.when.1 refl) c.requires.grammar) c.requires.room c.units_of-u.ensures in
-    here.ascends
 
 pub take_swap-requires-clause-absent : goal.take_swap-requires-clause-absent
 take_swap-requires-clause-absent c =
@@ -34,9 +28,7 @@ invariant_of-self c =
     let at = c.in-Some.ensures.place ∙ ap (λ (v : LedgerView). position (λ (y : AccountView). y.id == c.args.x.peer) v.accounts) (sym c.self.view_is) in
     record {
       sound = (here.made c.take_swap.new.self c.take_swap.ensures.id c.take_swap.ensures.row).sound;
-      forms = form_after l.in_blocks l.accounts.items c.args.x.peer c.in-Some.at c.index_mut-account.result.now c.take_swap.new.self at c.index_mut-account.ensures.value c.self.invariant.forms c.take_swap.ensures.form;
       own_part = c.self.invariant.own_part;
-      next_forms = c.self.invariant.next_forms;
     }
 
 pub returns-clause-ok : goal.returns-clause-ok

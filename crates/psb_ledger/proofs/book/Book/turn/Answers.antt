@@ -5,7 +5,6 @@ use Rattle.psb_ledger.specs.View.{AccountView, LedgerView, named_row, plain_stat
 use Rattle.psb_ledger.specs.OwnDeals.{own_units}
 use Rattle.psb_ledger.specs.OwnTree.{own_items}
 use Rattle.psb_ledger.specs.OwnList.{released}
-use Rattle.psb_ledger.proofs.Forms.{form_after}
 use Rattle.psb_ledger.proofs.Peers.{at_place, mine_with}
 use Rattle.psb_ledger.proofs.Replies.{turning, can_turn, ordered_released}
 use Rattle.psb_ledger.proofs.book.Book.turn.Goals as goal
@@ -33,9 +32,7 @@ invariant_of-self c =
     let made = here.made c.turn.new.self c.named-named.result (l.used - c.units_of-coming.result) c.named-named.ensures (omega (arith, here.enough, u)) c.turn.ensures.id c.turn.ensures.row in
     record {
       sound = subst (λ o. IsSound (l.used - c.units_of-coming.result) (plain_state (l.changes + 1) l.settings (set l.accounts.items c.in-Some.at c.turn.new.self) l.issued (mine_with l o))) (sym own) made.sound;
-      forms = form_after l.in_blocks l.accounts.items c.args.x.peer c.in-Some.at c.index_mut-account.result.now c.turn.new.self at c.index_mut-account.ensures.value c.self.invariant.forms c.turn.ensures.form;
       own_part = record { own_ordered = ap (in_order own_key) own ∙ ordered_released rows c.named-named.result (own_items l.own) c.self.invariant.own_part.own_ordered; names_ordered = c.self.invariant.own_part.names_ordered };
-      next_forms = c.self.invariant.next_forms;
     }
 
 pub returns-clause-ok : goal.returns-clause-ok

@@ -1,18 +1,14 @@
-use Rattle.std.proofs.Common.{ap, ◌∙◌, sym, subst, map, take, get_or}
+use Rattle.std.proofs.Common.{ap, ◌∙◌, sym, map, take, get_or}
 use Rattle.std.proofs.lemmas.List.{take_more}
 use Rattle.psb_model.specs.Effects.{blank_rows}
-use Rattle.psb_ledger.specs.View.{named_row, AreInForm}
-use Rattle.psb_ledger.proofs.Forms.{form_more}
+use Rattle.psb_ledger.specs.View.{named_row}
 use Rattle.psb_ledger.proofs.Places.{more_blank}
 use Rattle.psb_ledger.proofs.book.accounts.empty_accounts.Goals as goal
 
 pub loop-peer-preserved : goal.loop-peer-preserved
 loop-peer-preserved c =
     let i = c.loop-peer.peer-index in
-    let here = c.peer-item.result in record {
-      rows =
-          ap (map named_row) c.in_ok-push.ensures.items
-          ∙ more_blank c.loop-peer.accounts.items c.new.result (take i c.args.peers.now) (get_or c.args.peers.now i here) c.loop-peer.invariant.rows (c.new.ensures.id ∙ ap (λ p. p.id) c.peer-item.is) c.new.ensures.row
-          ∙ ap blank_rows (sym (take_more c.args.peers.now i here c.loop-peer-test.true));
-      forms = subst (AreInForm c.args.in_blocks) (sym c.in_ok-push.ensures.items) (form_more c.args.in_blocks c.loop-peer.accounts.items c.new.result c.loop-peer.invariant.forms c.new.ensures.form);
-    }
+    let here = c.peer-item.result in
+    ap (map named_row) c.in_ok-push.ensures.items
+    ∙ more_blank c.loop-peer.accounts.items c.new.result (take i c.args.peers.now) (get_or c.args.peers.now i here) c.loop-peer.invariant (c.new.ensures.id ∙ ap (λ p. p.id) c.peer-item.is) c.new.ensures.row
+    ∙ ap blank_rows (sym (take_more c.args.peers.now i here c.loop-peer-test.true))

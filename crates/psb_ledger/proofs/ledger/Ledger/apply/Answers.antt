@@ -1,5 +1,5 @@
 -- What was passed over stays so, but for what the change starts anew.
-use Rattle.std.proofs.Common.{◌≡◌, ◌&&◌, ◌∙◌, true, length, rules}
+use Rattle.std.proofs.Common.{◌≡◌, ◌&&◌, true, length, rules}
 use Rattle.std.proofs.lemmas.Bool.{and_parts}
 use Rattle.psb_model.specs.Conditions.{allowed}
 use Rattle.psb_model.specs.Effects.{after}
@@ -19,9 +19,6 @@ invariant_of-self-2 c =
     let grown : c.apply.new.self.state ≡ after s c.args.c = search rules in
     let long : length l.items ≡ l.len = search rules in
     let made : c.restart.new.passed ≡ all_restarted (restarts_of s c.args.c) l.items = search rules in
-    record {
-      in_blocks = c.apply.ensures.form ∙ c.self.invariant.in_blocks;
-      passed = carried (after s c.args.c) c.apply.new.self.state (all_restarted (restarts_of s c.args.c) l.items) _ grown
-          (written_back (λ (x : Passed). restarted (restarts_of s c.args.c) x.peer x) l.items c.restart.new.passed l.len long made)
-          (passed_after s c.args.c l.items (plain_of s c.is_reached.ensures) both.0 both.1 c.self.invariant.passed);
-    }
+    carried (after s c.args.c) c.apply.new.self.state (all_restarted (restarts_of s c.args.c) l.items) _ grown
+    (written_back (λ (x : Passed). restarted (restarts_of s c.args.c) x.peer x) l.items c.restart.new.passed l.len long made)
+    (passed_after s c.args.c l.items (plain_of s c.is_reached.ensures) both.0 both.1 c.self.invariant)

@@ -7,12 +7,12 @@ use Rattle.psb_ledger.specs.Passed.{IsPassed, is_past, is_past_own, missing_from
 use Rattle.psb_ledger.proofs.PassedOn.{passed_from, passed_put, written_back}
 use Rattle.psb_ledger.proofs.ledger.Ledger.seek.Goals as goal
 
-pub seek_marked-requires-clause-past : goal.seek_marked-requires-clause-past
-seek_marked-requires-clause-past c =
+pub seek_marked-requires : goal.seek_marked-requires
+seek_marked-requires c =
     let s = c.self.inside.book.state in
     let p = c.args.peer in
     let at = c.passed_in-x.ensures ∙ ap (λ (l : List Passed). passed_in l p) c.as_slice.ensures.value in
-    subst (λ (y : Passed). none_marked (is_past y.marked) s.own (row s p).outs ≡ true) (sym at) (c.self.invariant.passed.marked p)
+    subst (λ (y : Passed). none_marked (is_past y.marked) s.own (row s p).outs ≡ true) (sym at) (c.self.invariant.marked p)
 
 pub seek_missing-requires : goal.seek_missing-requires
 seek_missing-requires c =
@@ -20,7 +20,7 @@ seek_missing-requires c =
     let p = c.args.peer in
     let at = c.passed_in-x.ensures ∙ ap (λ (l : List Passed). passed_in l p) c.as_slice.ensures.value in
     let from = c.missing_from-from.ensures ∙ ap (λ (y : Passed). missing_from y c.args.most) at in
-    subst (λ (place : Option (List ℕ)). none_missing (is_past_own place c.args.most) s p ≡ true) (sym from) (passed_from s c.self.inside.passed.items p c.args.most c.self.invariant.passed)
+    subst (λ (place : Option (List ℕ)). none_missing (is_past_own place c.args.most) s p ≡ true) (sym from) (passed_from s c.self.inside.passed.items p c.args.most c.self.invariant)
 
 pub invariant_of-self : goal.invariant_of-self
 invariant_of-self c =
@@ -29,7 +29,4 @@ invariant_of-self c =
     let x : Passed = record { peer = c.args.peer; marked = c.seek_marked.result; missing = c.seek_missing.result; most = c.args.most } in
     let long : length l.items ≡ l.len = search rules in
     let made : c.put_row.new.passed ≡ map (with_row x) l.items = search rules in
-    record {
-      in_blocks = c.self.invariant.in_blocks;
-      passed = subst (IsPassed s) (sym (written_back (with_row x) l.items c.put_row.new.passed l.len long made)) (passed_put s l.items x c.self.invariant.passed c.seek_marked.ensures c.seek_missing.ensures.past);
-    }
+    subst (IsPassed s) (sym (written_back (with_row x) l.items c.put_row.new.passed l.len long made)) (passed_put s l.items x c.self.invariant c.seek_marked.ensures c.seek_missing.ensures.past)

@@ -12,4 +12,4 @@ to_place-requires c =
     let p = c.args.peer in
     let at = c.passed_in-x.ensures ∙ ap (λ (l : List Passed). passed_in l p) c.as_slice.ensures.value in
     let from = c.missing_from-from.ensures ∙ ap (λ (y : Passed). missing_from y c.args.most) at in
-    subst (λ (place : Option (List ℕ)). none_missing (is_past_own place c.args.most) s p ≡ true) (sym from) (passed_from s c.self.inside.passed.items p c.args.most c.self.invariant.passed)
+    subst (λ (place : Option (List ℕ)). none_missing (is_past_own place c.args.most) s p ≡ true) (sym from) (passed_from s c.self.inside.passed.items p c.args.most c.self.invariant)

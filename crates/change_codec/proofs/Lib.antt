@@ -1,0 +1,10 @@
+pub mod Items
+pub mod Taking
+pub mod Parts
+pub mod DealLaws
+pub mod KindLaws
+pub mod RecordLaws
+pub mod Listed
+pub mod Written
+pub mod Lengths
+pub mod Distinct

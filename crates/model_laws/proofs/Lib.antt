@@ -1,0 +1,10 @@
+pub mod RowOrder
+pub mod Explained
+pub mod Fitting
+pub mod Widths
+pub mod Proposable
+pub mod Leaving
+pub mod Directs
+pub mod Bodies
+pub mod Sums
+pub mod Histories

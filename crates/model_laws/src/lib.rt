@@ -1,0 +1,37 @@
+//! Laws of every lawful history of changes, and histories worked out.
+#![tactic(auto)]
+
+ghost use Rattle.psb_model.specs.History.{AllExplained, Balances, StaysWithin};
+ghost use Rattle.model_laws.specs.Moved.{AllAreSums};
+ghost use Rattle.model_laws.specs.Worked.{WorkedRows};
+
+/// After every lawful history and for every peer: what the node answers for to the peer is what it
+/// is owed back, plus the peer's debt.
+pub fn balance_law()
+    ensures { Balances }
+{}
+
+/// After every lawful history of the kinds that are built: what the node answers for to all peers, with
+/// the units of each chunk that a pending deal stores fresh, is within the capacity of its settings.
+pub fn capacity_law()
+    ensures { StaysWithin }
+{}
+
+/// After every lawful history and for every peer: each row of debt stands for an object that one
+/// Failed or Declined change of that peer listed, and that no later Passed gave back; no object
+/// stands twice.
+pub fn explanation_law()
+    ensures { AllExplained }
+{}
+
+/// After every lawful history and for every peer: each of the three numbers is the sum of what the
+/// changes moved, by a table of its own.
+pub fn sums_law()
+    ensures { AllAreSums }
+{}
+
+/// Worked histories are lawful, with these numbers and states: a chunk that was taken, a slot that
+/// was lost, a slot that was forwarded, and one that came loose.
+pub fn worked_rows()
+    ensures { WorkedRows }
+{}

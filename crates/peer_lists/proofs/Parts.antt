@@ -1,0 +1,314 @@
+-- Slots that are sought, as the runs of a list give them.
+use Rattle.std.proofs.Common.{◌≡◌, ℕ, zero, suc, ◌+◌, ◌-◌, ◌^◌, ◌<◌, ◌≤◌, Bool, true, false, not, List, [], ◌∷◌, ◌++◌, length, take, map, get_or, append-nil, Option, Some, None, refl, sym, ap, ◌∙◌, arith}
+use Rattle.std.specs.Prelude.{find, nat_le, nat_lt, min, ◌==◌, if◌then◌else◌, option_map}
+use Rattle.std.specs.List.{slice_get}
+use Rattle.std.specs.List.Sorted.{IsNonDecreasingBy, IsPartitionPoint}
+use Rattle.std.proofs.lemmas.Bool.{and_parts, true≢false, leb-true, leb-false, le-leb, ltb-true, ltb-false}
+use Rattle.std.proofs.lemmas.Bool.Decides.{nat_tests}
+use Rattle.std.proofs.lemmas.List.{append_assoc, length-append, map-append}
+use Rattle.std.proofs.lemmas.List.Elements.{filter-append}
+use Rattle.psb_bytes.specs.Objects.{object_eq}
+use Rattle.psb_bytes.specs.declared.ids.Object.{Object}
+use Rattle.psb_bytes.specs.declared.ids.Object.TheVariants.{Slot}
+use Rattle.psb_model.specs.Words.{listed, slots}
+use Rattle.psb_model.specs.Grammar.{ascend}
+use Rattle.psb_model.proofs.ByObject.{by_cases}
+use Rattle.peer_lists.specs.Chunks.{is_chunk}
+use Rattle.peer_lists.specs.Entries.{in_order, find_at, from_object}
+use Rattle.peer_lists.specs.declared.run.Run.{Run}
+use Rattle.peer_lists.specs.declared.part.Part.{Part}
+use Rattle.peer_lists.specs.Runs.{rest_in, AreRuns, IsNext}
+use Rattle.peer_lists.specs.Walks.{IsRunFrom}
+use Rattle.peer_lists.specs.Slots.{slots_from, expand, slot_items}
+use Rattle.peer_lists.specs.Sought.{is_sought, sought, found, IsPart, count_up}
+use Rattle.peer_lists.proofs.Runs.{found_passes}
+use Rattle.peer_lists.proofs.Trees.{IsJoin}
+use Rattle.peer_lists.proofs.Tables.{IsTable, table_of}
+use Rattle.peer_lists.proofs.Both.{chunks, are_slots, past_chunks, first_at, none_from, from_start}
+
+-- THE SLOTS OF A RUN
+
+-- slots of which the list says the same come one after another
+stretch : {E R : Type 0} (key : E → Object) (joined : Object → R → E) (l : List E) (x : R) (f u : ℕ) → in_order key l ≡ true → are_slots key l ≡ true → ((i : ℕ) → f ≤ i → i < f + u → find_at key l (Slot i) ≡ Some (joined (Slot i) x)) → from_object key (Slot f) l ≡ slots_from joined x f u ++ from_object key (Slot (f + u)) l
+stretch key joined l x f zero h k all = let same : f ≡ f + 0 = omega arith in ap (λ i. from_object key (Slot i) l) same
+stretch key joined l x f (suc u) h k all =
+    let same : f + 1 + u ≡ f + suc u = omega arith in
+    first_at key l f f (joined (Slot f) x) h k (λ i from to. absurd (omega (arith, from, to))) (omega arith) (all f (omega arith) (omega arith))
+    ∙ ap (λ t. joined (Slot f) x ∷ t) (stretch key joined l x (f + 1) u h k (λ i from to. all i (omega (arith, from)) (omega (arith, to))) ∙ ap (λ i. slots_from joined x (f + 1) u ++ from_object key (Slot i) l) same)
+
+pub run_is : {E R : Type 0} (key : E → Object) (joined : Object → R → E) → IsJoin key joined → (c : List E) (rs : List (Run R)) (n : ℕ) (o : Option (Run R)) → chunks key c ≡ true → AreRuns rs → IsNext rs n o → IsRunFrom key joined (c ++ slot_items key joined rs) n o
+run_is key joined join c rs n None h are next =
+    let table = table_of key joined join rs are in
+    past_chunks key c (slot_items key joined rs) n h ∙ none_from key (slot_items key joined rs) n table.slots (λ k from. table.at k ∙ ap (option_map (joined (Slot k))) (next k from))
+run_is {E = E} {R = R} key joined join c rs n (Some r) h are next = (
+  next.0,
+  next.1,
+  λ u le.
+      past_chunks key c s n h
+      ∙ first_at key s n r.first e table.ordered table.slots (λ k from to. table.at k ∙ ap (option_map (joined (Slot k))) (next.3.none k from to)) next.0 (at r.first (omega arith) next.1)
+      ∙ sym (first_at key s r.first r.first e table.ordered table.slots (λ k from to. absurd (omega (arith, from, to))) (omega arith) (at r.first (omega arith) next.1))
+      ∙ stretch key joined s r.rest r.first u table.ordered table.slots (λ i from to. at i from (omega (arith, to, le)))
+      ∙ ap (λ t. slots_from joined r.rest r.first u ++ t) (sym (past_chunks key c s (r.first + u) h)),
+)
+  where
+    s : List E
+    s = slot_items key joined rs
+
+    e : E
+    e = joined (Slot r.first) r.rest
+
+    table : IsTable key joined s (rest_in rs)
+    table = table_of key joined join rs are
+
+    at : (i : ℕ) → r.first ≤ i → i ≤ r.last → find_at key s (Slot i) ≡ Some (joined (Slot i) r.rest)
+    at i from to = table.at i ∙ ap (option_map (joined (Slot i))) (next.2.all i from to)
+
+-- WHICH OF THEM ARE SOUGHT
+
+no_test : {E R : Type 0} (key : E → Object) (joined : Object → R → E) → IsJoin key joined → (test : E → Bool) (but : List ℕ) (x : R) (n : ℕ) → test (joined (Slot n) x) ≡ false → is_sought key test but (joined (Slot n) x) ≡ false
+no_test key joined join test but x n t = rw (join (Slot n) x, t) refl
+
+with_test : {E R : Type 0} (key : E → Object) (joined : Object → R → E) → IsJoin key joined → (test : E → Bool) (but : List ℕ) (x : R) (n : ℕ) (b : Bool) → test (joined (Slot n) x) ≡ true → listed (slots but) (Slot n) ≡ not b → is_sought key test but (joined (Slot n) x) ≡ b
+with_test key joined join test but x n b t l = rw (join (Slot n) x, t, l) (twice b)
+  where
+    twice : (b : Bool) → not (not b) ≡ b
+    twice true = refl
+    twice false = refl
+
+all_or_none : {E R : Type 0} (key : E → Object) (joined : Object → R → E) (test : E → Bool) (but : List ℕ) (x : R) (f u : ℕ) (b : Bool) → ((i : ℕ) → f ≤ i → i < f + u → is_sought key test but (joined (Slot i) x) ≡ b) → sought key test but (slots_from joined x f u) ≡ (if b then slots_from joined x f u else [])
+all_or_none key joined test but x f zero true h = refl
+all_or_none key joined test but x f zero false h = refl
+all_or_none key joined test but x f (suc u) true h = rw (h f (omega arith) (omega arith)) (ap (λ l. joined (Slot f) x ∷ l) (all_or_none key joined test but x (f + 1) u true (λ i from to. h i (omega (arith, from)) (omega (arith, to)))))
+all_or_none key joined test but x f (suc u) false h = rw (h f (omega arith) (omega arith)) (all_or_none key joined test but x (f + 1) u false (λ i from to. h i (omega (arith, from)) (omega (arith, to))))
+
+piece : {E R : Type 0} (key : E → Object) (joined : Object → R → E) (test : E → Bool) (but : List ℕ) (l from : List E) (x : R) (f last : ℕ) (b : Bool) → f ≤ last → ((u : ℕ) → f + u ≤ last + 1 → from ≡ slots_from joined x f u ++ from_object key (Slot (f + u)) l) → ((i : ℕ) → f ≤ i → i ≤ last → is_sought key test but (joined (Slot i) x) ≡ b) → sought key test but from ≡ (if b then slots_from joined x f (last + 1 - f) else []) ++ sought key test but (from_object key (Slot (last + 1)) l)
+piece key joined test but l from x f last b le run all =
+    let u = last + 1 - f in
+    let end : f + u ≡ last + 1 = omega (arith, le) in
+    ap (sought key test but) (run u (omega (arith, end)))
+    ∙ filter-append (is_sought key test but) (slots_from joined x f u) (from_object key (Slot (f + u)) l)
+    ∙ ap (λ t. t ++ sought key test but (from_object key (Slot (f + u)) l)) (all_or_none key joined test but x f u b (λ i from to. all i from (omega (arith, to, end))))
+    ∙ ap (λ i. (if b then slots_from joined x f u else []) ++ sought key test but (from_object key (Slot i) l)) end
+
+pub part_fails : {E R : Type 0} (key : E → Object) (joined : Object → R → E) → IsJoin key joined → (test : E → Bool) (but : List ℕ) (l : List E) (n : ℕ) (r : Run R) (b : Bool) → IsRunFrom key joined l n (Some r) → ((o : Object) → b ≡ test (joined o r.rest)) → b ≡ false → IsPart key joined test but l n (Some (record { run = r; is_sought = false }))
+part_fails key joined join test but l n r b run says fails =
+    (run.0, run.1, piece key joined test but l (from_object key (Slot n) l) r.rest r.first r.last false run.1 run.2 (λ i from to. no_test key joined join test but r.rest i (sym (says (Slot i)) ∙ fails)))
+
+pub part_passes : {E R : Type 0} (key : E → Object) (joined : Object → R → E) → IsJoin key joined → (test : E → Bool) (but : List ℕ) (l : List E) (n : ℕ) (r : Run R) (p : Part R) (b : Bool) → IsRunFrom key joined l n (Some r) → ((o : Object) → b ≡ test (joined o r.rest)) → b ≡ true → p.run.first ≡ r.first → (r.first ≤ p.run.last) × (p.run.last ≤ r.last) → p.run.rest ≡ r.rest → ((i : ℕ) → r.first ≤ i → i ≤ p.run.last → listed (slots but) (Slot i) ≡ not p.is_sought) → IsPart key joined test but l n (Some p)
+part_passes {E = E} {R = R} key joined join test but l n r p b run says passes first last rest others = (
+  omega (arith, run.0, first),
+  omega (arith, first, last.0),
+  piece key joined test but l (from_object key (Slot n) l) p.run.rest p.run.first p.run.last p.is_sought (omega (arith, first, last.0))
+      (λ u le. run.2 u (omega (arith, le, first, last.1)) ∙ (λ i. slots_from joined (sym rest i) (sym first i) u ++ from_object key (Slot (sym first i + u)) l))
+      (λ i from to. with_test key joined join test but p.run.rest i p.is_sought (ap (λ (x : R). test (joined (Slot i) x)) rest ∙ sym (says (Slot i)) ∙ passes) (others i (omega (arith, from, first)) to)),
+)
+
+-- NUMBERS THAT ASCEND
+
+at_slot : (a n : ℕ) → object_eq (Slot a) (Slot n) ≡ (a == n)
+at_slot a n = refl
+
+above_all : (a : ℕ) (ns : List ℕ) (n : ℕ) → ascend (a ∷ ns) ≡ true → n ≤ a → listed (slots ns) (Slot n) ≡ false
+above_all a [] n up le = refl
+above_all a (x ∷ xs) n up le =
+    let h = and_parts (nat_lt a x) (ascend (x ∷ xs)) up in
+    let lt = ltb-true a x h.0 in
+    rw (apart x n (omega (arith, lt, le))) (above_all x xs n h.1 (omega (arith, lt, le)))
+  where
+    apart : (x n : ℕ) → n < x → (x == n) ≡ false
+    apart x n h = grind (arith, nat_tests)
+
+behind_first : (a : ℕ) (ns : List ℕ) → ascend (a ∷ ns) ≡ true → ascend ns ≡ true
+behind_first a [] up = refl
+behind_first a (x ∷ xs) up = (and_parts (nat_lt a x) (ascend (x ∷ xs)) up).1
+
+not_after : (a : ℕ) (ns : List ℕ) (j d : ℕ) → ascend (a ∷ ns) ≡ true → j < length ns → a ≤ get_or ns j d
+not_after a [] j d up lt = absurd (omega (arith, lt))
+not_after a (x ∷ xs) zero d up lt = omega (arith, ltb-true a x (and_parts (nat_lt a x) (ascend (x ∷ xs)) up).0)
+not_after a (x ∷ xs) (suc j) d up lt = let h = and_parts (nat_lt a x) (ascend (x ∷ xs)) up in omega (arith, ltb-true a x h.0, not_after x xs j d h.1 (omega (arith, lt)))
+
+pub ascending : (ns : List ℕ) → ascend ns ≡ true → IsNonDecreasingBy (λ n. n) ns
+ascending [] up = λ i j d le lt. absurd (omega (arith, lt))
+ascending (x ∷ xs) up = step (ascending xs (behind_first x xs up))
+  where
+    step : IsNonDecreasingBy (λ n. n) xs → (i j : ℕ) (d : ℕ) → i ≤ j → j < length (x ∷ xs) → get_or (x ∷ xs) i d ≤ get_or (x ∷ xs) j d
+    step later zero zero d le lt = omega arith
+    step later zero (suc j) d le lt = not_after x xs j d up (omega (arith, lt))
+    step later (suc i) zero d le lt = absurd (omega (arith, le))
+    step later (suc i) (suc j) d le lt = later i j d (omega (arith, le)) (omega (arith, lt))
+
+-- where the numbers that are below one end, the first of the others stands
+pub found_at : (ns : List ℕ) (f i : ℕ) → IsPartitionPoint (λ n. nat_lt n f ≡ true) (λ n. nat_lt n f ≡ false) ns i → slice_get ns i ≡ find (λ n. nat_le f n) ns
+found_at [] f i point = refl
+found_at (x ∷ xs) f zero point = let here : nat_le f x ≡ true = le-leb f x (ltb-false x f (point.1 0 x (omega arith) (omega arith))) in rw here refl
+found_at (x ∷ xs) f (suc i) point =
+    let below : nat_le f x ≡ false = not_le f x (ltb-true x f (point.0 0 x (omega arith) (omega arith))) in
+    rw below (found_at xs f i (λ k d lo hi. point.0 (suc k) d (omega arith) (omega (arith, hi)), λ k d lo hi. point.1 (suc k) d (omega (arith, lo)) (omega (arith, hi))))
+  where
+    not_le : (f x : ℕ) → x < f → nat_le f x ≡ false
+    not_le f x h = grind (arith, nat_tests)
+
+-- in front of the first that is not below a number, there is none
+pub none_listed : (ns : List ℕ) (f n : ℕ) (o : Option ℕ) → ascend ns ≡ true → o ≡ find (λ m. nat_le f m) ns → f ≤ n → ((m : ℕ) → o ≡ Some m → n < m) → listed (slots ns) (Slot n) ≡ false
+none_listed [] f n o up is le before = refl
+none_listed (x ∷ xs) f n o up is le before =
+    by_cases (nat_le f x)
+    (λ k.
+    let is' : o ≡ Some x = rw k at is in
+    let lt = before x is' in
+    rw (apart x n (omega (arith, lt))) (above_all x xs n up (omega (arith, lt))))
+    (λ k.
+    let is' : o ≡ find (λ m. nat_le f m) xs = rw k at is in
+    rw (apart' x n (omega (arith, leb-false f x k, le))) (none_listed xs f n o (behind_first x xs up) is' le before))
+  where
+    apart : (x n : ℕ) → n < x → (x == n) ≡ false
+    apart x n h = grind (arith, nat_tests)
+
+    apart' : (x n : ℕ) → x < n → (x == n) ≡ false
+    apart' x n h = grind (arith, nat_tests)
+
+one_listed : (ns : List ℕ) (f m : ℕ) → Some m ≡ find (λ m. nat_le f m) ns → listed (slots ns) (Slot m) ≡ true
+one_listed [] f m is = absurd (cc)
+one_listed (x ∷ xs) f m is =
+    by_cases (x == m)
+    (λ j. rw j refl)
+    (λ j.
+    by_cases (nat_le f x)
+    (λ k. let is' : Some m ≡ Some x = rw k at is in let e : x ≡ m = cc in absurd (true≢false (sym (here x m e) ∙ j)))
+    (λ k. let is' = rw k at is in rw j (one_listed xs f m is')))
+  where
+    here : (x m : ℕ) → x ≡ m → (x == m) ≡ true
+    here x m e = grind (arith, nat_tests)
+
+pub found_from : (ns : List ℕ) (f m : ℕ) → Some m ≡ find (λ m. nat_le f m) ns → f ≤ m
+found_from ns f m is = leb-true f m (found_passes (λ m. nat_le f m) ns m (sym is))
+
+pub first_listed : (ns : List ℕ) (f n m : ℕ) → Some m ≡ find (λ m. nat_le f m) ns → n ≡ m → listed (slots ns) (Slot n) ≡ true
+first_listed ns f n m is same = ap (λ i. listed (slots ns) (Slot i)) same ∙ one_listed ns f m is
+
+pub none_up_to : (ns : List ℕ) (f n m : ℕ) → ascend ns ≡ true → Some m ≡ find (λ m. nat_le f m) ns → f ≤ n → n < m → listed (slots ns) (Slot n) ≡ false
+none_up_to ns f n m up is le lt = none_listed ns f n (Some m) up is le (λ k e. let same : m ≡ k = cc in omega (arith, same, lt))
+
+pub none_after : (ns : List ℕ) (f n : ℕ) → ascend ns ≡ true → None ≡ find (λ m. nat_le f m) ns → f ≤ n → listed (slots ns) (Slot n) ≡ false
+none_after ns f n up is le = none_listed ns f n None up is le (λ k e. absurd (cc))
+
+-- THE WHOLE LIST
+
+no_chunk_sought : {E : Type 0} (key : E → Object) (test : E → Bool) (but : List ℕ) (c : List E) → chunks key c ≡ true → sought key test but c ≡ []
+no_chunk_sought key test but [] h = refl
+no_chunk_sought key test but (x ∷ xs) h = let a = and_parts (is_chunk (key x)) (chunks key xs) h in rw a.0 (no_chunk_sought key test but xs a.1)
+
+pub from_first : {E R : Type 0} (key : E → Object) (joined : Object → R → E) → IsJoin key joined → (test : E → Bool) (but : List ℕ) (c : List E) (rs : List (Run R)) → chunks key c ≡ true → AreRuns rs → sought key test but (from_object key (Slot 0) (c ++ slot_items key joined rs)) ≡ sought key test but (c ++ slot_items key joined rs)
+from_first key joined join test but c rs h are =
+    let s = slot_items key joined rs in
+    let table = table_of key joined join rs are in
+    ap (sought key test but) (past_chunks key c s 0 h ∙ from_start key s table.slots)
+    ∙ sym (filter-append (is_sought key test but) c s ∙ ap (λ t. t ++ sought key test but s) (no_chunk_sought key test but c h))
+
+-- where the next part begins
+pub next_is : {E R : Type 0} (key : E → Object) (joined : Object → R → E) (test : E → Bool) (but : List ℕ) (l : List E) (n : ℕ) (p : Part R) (i : ℕ) → IsPart key joined test but l n (Some p) → i ≡ p.run.last → sought key test but (from_object key (Slot n) l) ≡ found joined p ++ sought key test but (from_object key (Slot (i + 1)) l)
+next_is key joined test but l n p i part last = part.2 ∙ ap (λ j. found joined p ++ sought key test but (from_object key (Slot (j + 1)) l)) (sym last)
+
+-- HOW MANY
+
+pub few_more : (b : Bool) (f l n count from : ℕ) → count ≤ from → from ≤ f → f ≤ l → n ≡ (if b then l + 1 - f else 0) → count + n ≤ l + 1
+few_more true f l n count from few le ends size = omega (arith, few, le, ends, size)
+few_more false f l n count from few le ends size = omega (arith, few, le, ends, size)
+
+pub part_fits : (b : Bool) (f l n m room : ℕ) → f ≤ l → l < 2 ^ 32 → n ≡ (if b then l + 1 - f else 0) → m ≡ min n room → f + m ≤ 2 ^ 32
+part_fits true f l n m room ends low size least = omega (arith, ends, low, size, least)
+part_fits false f l n m room ends low size least = omega (arith, ends, low, size, least)
+
+slots_length : {E R : Type 0} (joined : Object → R → E) (x : R) (f u : ℕ) → length (slots_from joined x f u) ≡ u
+slots_length joined x f zero = refl
+slots_length joined x f (suc u) = omega (arith, slots_length joined x (f + 1) u)
+
+pub found_length : {E R : Type 0} (joined : Object → R → E) (p : Part R) → length (found joined p) ≡ (if p.is_sought then p.run.last + 1 - p.run.first else 0)
+found_length joined p = by_cases p.is_sought (λ k. rw k (slots_length joined p.run.rest p.run.first (p.run.last + 1 - p.run.first))) (λ k. rw k refl)
+
+pub counted : {E R : Type 0} (joined : Object → R → E) (p : Part R) (s s' : List E) (n count count' total : ℕ) → s ≡ found joined p ++ s' → n ≡ (if p.is_sought then p.run.last + 1 - p.run.first else 0) → count' ≡ count + n → count + length s ≡ total → count' + length s' ≡ total
+counted joined p s s' n count count' total is size now sum = omega (arith, ap length is, length-append (found joined p) s', found_length joined p, size, now, sum)
+
+-- THE ONE AT A PLACE
+
+skipped : {A : Type 0} (a b : List A) (i : ℕ) → length a ≤ i → slice_get (a ++ b) i ≡ slice_get b (i - length a)
+skipped [] b i le = let same : i ≡ i - 0 = omega arith in ap (slice_get b) same
+skipped (x ∷ xs) b zero le = absurd (omega (arith, le))
+skipped (x ∷ xs) b (suc i) le = let same : i - length xs ≡ suc i - length (x ∷ xs) = omega arith in skipped xs b i (omega (arith, le)) ∙ ap (slice_get b) same
+
+within : {E R : Type 0} (joined : Object → R → E) (x : R) (f u : ℕ) (t : List E) (i : ℕ) → i < u → slice_get (slots_from joined x f u ++ t) i ≡ Some (joined (Slot (f + i)) x)
+within joined x f zero t i lt = absurd (omega (arith, lt))
+within joined x f (suc u) t zero lt = let same : f ≡ f + 0 = omega arith in ap (λ n. Some (joined (Slot n) x)) same
+within joined x f (suc u) t (suc i) lt = let same : f + 1 + i ≡ f + suc i = omega arith in within joined x (f + 1) u t i (omega (arith, lt)) ∙ ap (λ n. Some (joined (Slot n) x)) same
+
+pub is_here : {E R : Type 0} (joined : Object → R → E) (p : Part R) (s s' all : List E) (n left place m : ℕ) (e : E) → s ≡ found joined p ++ s' → n ≡ (if p.is_sought then p.run.last + 1 - p.run.first else 0) → left < n → slice_get s left ≡ slice_get all place → m ≡ p.run.first + left → e ≡ joined (Slot m) p.run.rest → Some e ≡ slice_get all place
+is_here {E = E} joined p s s' all n left place m e is size lt same number made =
+    by_cases p.is_sought
+    (λ k.
+    let size' = rw k at size in
+    let is' : s ≡ expand joined p.run ++ s' = rw k at is in
+    ap (λ (x : E). Some x) made ∙ ap (λ i. Some (joined (Slot i) p.run.rest)) number
+    ∙ sym (within joined p.run.rest p.run.first (p.run.last + 1 - p.run.first) s' left (omega (arith, size', lt)))
+    ∙ ap (λ l. slice_get l left) (sym is') ∙ same)
+    (λ k. let size' = rw k at size in absurd (omega (arith, size', lt)))
+
+pub is_behind : {E R : Type 0} (joined : Object → R → E) (p : Part R) (s s' all : List E) (n left left' place : ℕ) → s ≡ found joined p ++ s' → n ≡ (if p.is_sought then p.run.last + 1 - p.run.first else 0) → n ≤ left → left' ≡ left - n → slice_get s left ≡ slice_get all place → slice_get s' left' ≡ slice_get all place
+is_behind joined p s s' all n left left' place is size le now same =
+    let long : length (found joined p) ≡ n = found_length joined p ∙ sym size in
+    let at : left' ≡ left - length (found joined p) = omega (arith, now, long) in
+    ap (slice_get s') at ∙ sym (skipped (found joined p) s' left (omega (arith, long, le))) ∙ ap (λ l. slice_get l left) (sym is) ∙ same
+
+-- THE LEAST
+
+pub count_more : (f n : ℕ) → count_up f (n + 1) ≡ count_up f n ++ (f + n) ∷ []
+count_more f zero = let same : f ≡ f + 0 = omega arith in ap (λ i. i ∷ []) same
+count_more f (suc n) =
+    let same : f + 1 + n ≡ f + suc n = omega arith in
+    let more : suc n + 1 ≡ suc (n + 1) = omega arith in
+    ap (count_up f) more ∙ ap (λ l. f ∷ l) (count_more (f + 1) n ∙ ap (λ i. count_up (f + 1) n ++ i ∷ []) same)
+
+keys_of : {E R : Type 0} (key : E → Object) (joined : Object → R → E) → IsJoin key joined → (x : R) (f u : ℕ) → map key (slots_from joined x f u) ≡ slots (count_up f u)
+keys_of key joined join x f zero = refl
+keys_of key joined join x f (suc u) = (λ i. join (Slot f) x i ∷ keys_of key joined join x (f + 1) u i)
+
+keys_found : {E R : Type 0} (key : E → Object) (joined : Object → R → E) → IsJoin key joined → (p : Part R) → map key (found joined p) ≡ slots (count_up p.run.first (if p.is_sought then p.run.last + 1 - p.run.first else 0))
+keys_found key joined join p = by_cases p.is_sought (λ k. rw k (keys_of key joined join p.run.rest p.run.first (p.run.last + 1 - p.run.first))) (λ k. rw k refl)
+
+taken : (f u room : ℕ) (t : List Object) → take room (slots (count_up f u) ++ t) ≡ slots (count_up f (min u room)) ++ take (room - u) t
+taken f zero room t = let none : min 0 room ≡ 0 = omega arith in let same : room ≡ room - 0 = omega arith in rw none (ap (λ i. take i t) same)
+taken f (suc u) zero t =
+    let none : min (suc u) 0 ≡ 0 = omega arith in
+    let none' : 0 - suc u ≡ 0 = omega arith in
+    rw (none, none') refl
+taken f (suc u) (suc room) t =
+    let less : suc room - suc u ≡ room - u = omega arith in
+    let more : min (suc u) (suc room) ≡ suc (min u room) = omega arith in
+    rw (less, more) (ap (λ l. Slot f ∷ l) (taken (f + 1) u room t))
+
+count_length : (f u : ℕ) → length (count_up f u) ≡ u
+count_length f zero = refl
+count_length f (suc u) = omega (arith, count_length (f + 1) u)
+
+pub pushed : {E R : Type 0} (key : E → Object) (joined : Object → R → E) → IsJoin key joined → (p : Part R) (s s' : List E) (numbers numbers' : List ℕ) (most : ℕ) (all : List Object) → s ≡ found joined p ++ s' → numbers' ≡ numbers ++ count_up p.run.first (min (if p.is_sought then p.run.last + 1 - p.run.first else 0) (most - length numbers)) → slots numbers ++ take (most - length numbers) (map key s) ≡ all → slots numbers' ++ take (most - length numbers') (map key s') ≡ all
+pushed {E = E} key joined join p s s' numbers numbers' most all is now before =
+    let u = if p.is_sought then p.run.last + 1 - p.run.first else 0 in
+    let room = most - length numbers in
+    let left : most - length numbers' ≡ room - u = omega (arith, ap length now, length-append numbers (count_up p.run.first (min u room)), count_length p.run.first (min u room)) in
+    let keys : map key s ≡ slots (count_up p.run.first u) ++ map key s' = ap (map key) is ∙ map-append key (found joined p) s' ∙ ap (λ l. l ++ map key s') (keys_found key joined join p) in
+    (λ i. slots (now i) ++ take (left i) (map key s'))
+    ∙ ap (λ l. l ++ take (room - u) (map key s')) (map-append Slot numbers (count_up p.run.first (min u room)))
+    ∙ append_assoc (slots numbers) (slots (count_up p.run.first (min u room))) (take (room - u) (map key s'))
+    ∙ ap (λ l. slots numbers ++ l) (sym (ap (take room) keys ∙ taken p.run.first u room (map key s')))
+    ∙ before
+
+pub pushed_one : (a b c : List ℕ) (f n m : ℕ) → b ≡ a ++ count_up f n → c ≡ b ++ m ∷ [] → m ≡ f + n → c ≡ a ++ count_up f (n + 1)
+pushed_one a b c f n m before now is =
+    now ∙ (λ j. before j ++ is j ∷ []) ∙ append_assoc a (count_up f n) ((f + n) ∷ []) ∙ ap (λ l. a ++ l) (sym (count_more f n))
+
+pub none_pushed : {E : Type 0} (key : E → Object) (numbers : List ℕ) (s all : List E) (most : ℕ) → numbers ≡ [] → s ≡ all → slots numbers ++ take (most - length numbers) (map key s) ≡ take most (map key all)
+none_pushed key numbers s all most none same = let whole : most - 0 ≡ most = omega arith in (λ i. slots (none i) ++ take (most - length (none i)) (map key (same i))) ∙ ap (λ n. take n (map key all)) whole
+
+pub all_pushed : (numbers numbers' : List ℕ) (t all : List Object) (most : ℕ) → slots numbers ++ take (most - length numbers) t ≡ all → length numbers ≡ most → numbers' ≡ numbers → slots numbers' ≡ all
+all_pushed numbers numbers' t all most before full same =
+    let none : most - length numbers ≡ 0 = omega (arith, full) in
+    ap slots same ∙ sym (ap (λ n. slots numbers ++ take n t) none ∙ append-nil (slots numbers)) ∙ before

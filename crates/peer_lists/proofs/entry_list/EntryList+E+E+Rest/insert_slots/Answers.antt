@@ -1,0 +1,22 @@
+use Rattle.peer_lists.specs.Trees.{tree_items}
+use Rattle.peer_lists.specs.SlotRuns.{runs}
+use Rattle.peer_lists.proofs.Both.{each_in}
+use Rattle.peer_lists.proofs.entry_list.EntryList+E+E+Rest.insert_slots.Goals as goal
+
+pub returns-clause-list : goal.returns-clause-list
+returns-clause-list g c =
+    let key = g.E.Entry.key in
+    let joined = g.E.Entry.joined in
+    let t = c.args.self.now in
+    record {
+      ordered = c.requires.list.ordered;
+      chunks = c.requires.list.chunks;
+      runs = (each_in key joined g.met.E.Entry.key_joined (tree_items key joined t.chunks) (runs t.slots) (runs c.add_each.new.self) c.args.rest c.args.numbers.now c.requires.list.chunks c.requires.list.runs c.requires.ascend c.add_each.ensures.small c.requires.absent c.add_each.ensures.runs).0;
+    }
+
+pub returns-clause-items : goal.returns-clause-items
+returns-clause-items g c =
+    let key = g.E.Entry.key in
+    let joined = g.E.Entry.joined in
+    let t = c.args.self.now in
+    (each_in key joined g.met.E.Entry.key_joined (tree_items key joined t.chunks) (runs t.slots) (runs c.add_each.new.self) c.args.rest c.args.numbers.now c.requires.list.chunks c.requires.list.runs c.requires.ascend c.add_each.ensures.small c.requires.absent c.add_each.ensures.runs).1

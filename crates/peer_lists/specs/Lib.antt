@@ -1,0 +1,11 @@
+pub mod Entries
+pub mod Chunks
+pub mod Joined
+pub mod ListViews
+pub mod Trees
+pub mod Runs
+pub mod SlotRuns
+pub mod Slots
+pub mod EntryLists
+pub mod Walks
+pub mod Sought

@@ -1,5 +1,0 @@
-use Rattle.psb_model.proofs.Built.{plain_state}
-use Rattle.psb_model.proofs.laws.capacity_law.Goals as goal
-
-pub returns : goal.returns
-returns c = λ h lawful built. (plain_state h lawful built).used
