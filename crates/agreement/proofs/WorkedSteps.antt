@@ -66,11 +66,11 @@ ticks n a has none no_question asking =
     ∙ ap (λ (o : Option Asking). asks_too [] (by_asking (node_settings 1 2) n 2 pair_key o)) asking
 
 -- what node 1 is when it has begun, and the changes after that
-begun_state : (text : List ℕ) → settings_of text ≡ Some (node_settings 1 2) → after nothing_yet (Begun (Some text)) ≡ record nothing_yet { changes = 1; settings = Some (node_settings 1 2); rows = (2, blank) ∷ [] }
+begun_state : (text : List ℕ) → settings_of text ≡ Some (node_settings 1 2) → after nothing_yet (Begun (record { body = Some text })) ≡ record nothing_yet { changes = 1; settings = Some (node_settings 1 2); rows = (2, blank) ∷ [] }
 begun_state text says = rw says refl
 
 abbrev later_changes : List Change
-later_changes = Kept name 3 true (Some chunk) ∷ Snapped 1 plain_ticket 1 0 3 0 (name ∷ []) ∷ Chose (record { peer = 2; got = 0; of = 1; hops = 0 } ∷ []) ∷ []
+later_changes = Kept (record { name = name; len = 3; new = true; body = Some chunk }) ∷ Snapped (record { number = 1; ticket = plain_ticket; files = 1; folders = 0; bytes = 3; left = 0; names = name ∷ [] }) ∷ Chose (record { candidates = record { peer = 2; got = 0; of = 1; hops = 0 } ∷ [] }) ∷ []
 
 -- ---- a deal that was answered
 
@@ -117,7 +117,7 @@ told_worked text other says others =
     record {
       asked_for = refl;
       not_there_yet = refl;
-      came_there = last_end (asked text) 2 name (Settled 2 1 (0 ∷ []) (Some (claims_joined (claims_from (bytes_from 2 32) 0 1)))) ∙ ap (λ (o : Option OwnDeal). first_of_two (placing_by o name) (last_placed (asked text) 2 name)) pending;
+      came_there = last_end (asked text) 2 name (Settled (record { peer = 2; deal = 1; slots = 0 ∷ []; body = Some (claims_joined (claims_from (bytes_from 2 32) 0 1)) })) ∙ ap (λ (o : Option OwnDeal). first_of_two (placing_by o name) (last_placed (asked text) 2 name)) pending;
       not_answered_yet = refl;
       answer_is = refl;
       there = rw says refl;

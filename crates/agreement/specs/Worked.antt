@@ -52,39 +52,39 @@ node_settings own peer = record {
 -- Node 1 keeps a chunk, has a snapshot that lists it, and chose node 2.
 abbrev pub chosen : List ℕ → List Change
 chosen text =
-    Begun (Some text)
-    ∷ Kept name 3 true (Some chunk)
-    ∷ Snapped 1 plain_ticket 1 0 3 0 (name ∷ [])
-    ∷ Chose (record { peer = 2; got = 0; of = 1; hops = 0 } ∷ [])
+    Begun (record { body = Some text })
+    ∷ Kept (record { name = name; len = 3; new = true; body = Some chunk })
+    ∷ Snapped (record { number = 1; ticket = plain_ticket; files = 1; folders = 0; bytes = 3; left = 0; names = name ∷ [] })
+    ∷ Chose (record { candidates = record { peer = 2; got = 0; of = 1; hops = 0 } ∷ [] })
     ∷ []
 
 -- then it proposes to place the chunk there
 abbrev pub asked : List ℕ → List Change
 asked text =
-    Begun (Some text)
-    ∷ Kept name 3 true (Some chunk)
-    ∷ Snapped 1 plain_ticket 1 0 3 0 (name ∷ [])
-    ∷ Chose (record { peer = 2; got = 0; of = 1; hops = 0 } ∷ [])
-    ∷ Proposed 2 1 (Fresh name)
+    Begun (record { body = Some text })
+    ∷ Kept (record { name = name; len = 3; new = true; body = Some chunk })
+    ∷ Snapped (record { number = 1; ticket = plain_ticket; files = 1; folders = 0; bytes = 3; left = 0; names = name ∷ [] })
+    ∷ Chose (record { candidates = record { peer = 2; got = 0; of = 1; hops = 0 } ∷ [] })
+    ∷ Proposed (record { peer = 2; deal = 1; what = Fresh name })
     ∷ []
 
 -- and then it is settled, with the other's claim 0
 abbrev pub placed : List ℕ → List Change
 placed text =
-    Begun (Some text)
-    ∷ Kept name 3 true (Some chunk)
-    ∷ Snapped 1 plain_ticket 1 0 3 0 (name ∷ [])
-    ∷ Chose (record { peer = 2; got = 0; of = 1; hops = 0 } ∷ [])
-    ∷ Proposed 2 1 (Fresh name)
-    ∷ Settled 2 1 (0 ∷ []) (Some (claims_joined (claims_from (bytes_from 2 32) 0 1)))
+    Begun (record { body = Some text })
+    ∷ Kept (record { name = name; len = 3; new = true; body = Some chunk })
+    ∷ Snapped (record { number = 1; ticket = plain_ticket; files = 1; folders = 0; bytes = 3; left = 0; names = name ∷ [] })
+    ∷ Chose (record { candidates = record { peer = 2; got = 0; of = 1; hops = 0 } ∷ [] })
+    ∷ Proposed (record { peer = 2; deal = 1; what = Fresh name })
+    ∷ Settled (record { peer = 2; deal = 1; slots = 0 ∷ []; body = Some (claims_joined (claims_from (bytes_from 2 32) 0 1)) })
     ∷ []
 
 -- Node 2 did nothing yet, and then took the chunk.
 abbrev pub quiet_yet : List ℕ → List Change
-quiet_yet text = Begun (Some text) ∷ []
+quiet_yet text = Begun (record { body = Some text }) ∷ []
 
 abbrev pub took : List ℕ → List Change
-took text = Begun (Some text) ∷ TookFresh 1 1 name 0 3 true (Some chunk) ∷ []
+took text = Begun (record { body = Some text }) ∷ TookFresh (record { peer = 1; deal = 1; name = name; first = 0; len = 3; new = true; body = Some chunk }) ∷ []
 
 -- ---- letters
 
@@ -160,7 +160,7 @@ pub record ToldWorked (text other : List ℕ) : Type 0 where
   pub not_there_yet : last_placed (asked text) 2 name ≡ None
   pub came_there : last_placed (placed text) 2 name ≡ Some 1
   pub not_answered_yet : answer (quiet_yet other) 1 1 ≡ None
-  pub answer_is : answer (took other) 1 1 ≡ Some (record { before = quiet_yet other; what = TookFresh 1 1 name 0 3 true (Some chunk) })
+  pub answer_is : answer (took other) 1 1 ≡ Some (record { before = quiet_yet other; what = TookFresh (record { peer = 1; deal = 1; name = name; first = 0; len = 3; new = true; body = Some chunk }) })
   pub there : has out_key (row (state (placed text)) 2).outs (Chunk name) ≡ true
   pub here : has in_key (row (state (took other)) 1).ins (Chunk name) ≡ true
   pub claimed : has in_key (row (state (placed text)) 2).ins (Slot 0) ≡ true

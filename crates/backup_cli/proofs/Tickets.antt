@@ -1,7 +1,7 @@
 -- The ticket of a kept snapshot is looked up by its number.
 use Rattle.std.proofs.Common.{◌≡◌, ℕ, ◌+◌, ◌<◌, ◌==◌, Bool, true, false, if◌then◌else◌, List, [], ◌∷◌, ◌++◌, length, take, drop, get_or, Option, Some, None, refl, sym, ◌∙◌, ap}
 use Rattle.psb_bytes.specs.declared.ids.Ticket.{Ticket}
-use Rattle.psb_model.specs.declared.entries.Snapshot.{Snapshot}
+use Rattle.psb_model.specs.declared.snapshots.Snapshot.{Snapshot}
 use Rattle.psb_model.proofs.ByObject.{by_cases}
 use Rattle.snapshot_restore.proofs.Lists.{one_further, around}
 use Rattle.backup_cli.specs.RestoredTo.{kept_ticket}

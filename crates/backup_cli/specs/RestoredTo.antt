@@ -9,7 +9,7 @@ use Rattle.psb_station.specs.Span.{Leaves}
 use Rattle.node_journal.specs.Entry.{Entry}
 use Rattle.psb_settings.specs.declared.settings.Settings.{Settings}
 use Rattle.psb_model.specs.History.{state}
-use Rattle.psb_model.specs.declared.entries.Snapshot.{Snapshot}
+use Rattle.psb_model.specs.declared.snapshots.Snapshot.{Snapshot}
 use Rattle.psb_model.specs.declared.change.Change.{Change}
 use Rattle.psb_machine.specs.Machine.{Situation, Input, fresh}
 use Rattle.psb_machine.specs.Course.{Step, Absorb, Tell, Say, after_all}

@@ -8,7 +8,7 @@ use psb_model::Candidate;
 
 /// Whether a comes before b: the greater share of the sample first, by cross products, then the fewer hops,
 /// then the lesser id.
-pub(crate) fn comes_before(a: &Candidate, b: &Candidate) -> bool
+pub fn comes_before(a: &Candidate, b: &Candidate) -> bool
     ensures { result ≡ comes_before a.now b.now }
 {
     let left = u64::from(a.got) * u64::from(b.of);

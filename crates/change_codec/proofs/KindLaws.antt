@@ -33,7 +33,7 @@ taken kind value c fields front rest body whole e spelled widths part =
 
 pub begun_takes : (fields : List ℕ) (body : Option (List ℕ)) (c : Change) → AreBytes fields → are_bytes body ≡ true → begun_at fields body ≡ Some c → IsTaken 1 fields body c
 unfolding begun_at
-begun_takes fields body c ok okb e = taken 1 (Begun body) c fields [] fields body refl e refl okb refl
+begun_takes fields body c ok okb e = taken 1 (Begun (record { body = body })) c fields [] fields body refl e refl okb refl
 
 pub kept_takes : (fields : List ℕ) (body : Option (List ℕ)) (c : Change) → AreBytes fields → are_bytes body ≡ true → kept_at fields body ≡ Some c → IsTaken 2 fields body c
 unfolding kept_at
@@ -41,9 +41,9 @@ kept_takes fields body c ok okb e =
     let name = took digest_field fields [] fields c refl ok e in
     let len = took u32_field fields name.value name.rest c name.whole name.ok name.gives in
     let new = took flag_field fields (name.value ++ u32 len.value) len.rest c len.whole len.ok len.gives in
-    taken 2 (Kept name.value len.value new.value body) c fields (name.value ++ u32 len.value ++ flag new.value) new.rest body new.whole new.gives refl (both (both name.fits len.fits) okb) refl
+    taken 2 (Kept (record { name = name.value; len = len.value; new = new.value; body = body })) c fields (name.value ++ u32 len.value ++ flag new.value) new.rest body new.whole new.gives refl (both (both name.fits len.fits) okb) refl
 
-pub kept_again : (name : List ℕ) (len : ℕ) (new : Bool) (body : Option (List ℕ)) → fits_widths (Kept name len new body) ≡ true → kept_at (name ++ u32 len ++ flag new) body ≡ Some (Kept name len new body)
+pub kept_again : (name : List ℕ) (len : ℕ) (new : Bool) (body : Option (List ℕ)) → fits_widths (Kept (record { name = name; len = len; new = new; body = body })) ≡ true → kept_at (name ++ u32 len ++ flag new) body ≡ Some (Kept (record { name = name; len = len; new = new; body = body }))
 unfolding kept_at
 kept_again name len new body e =
     let w = and_3 _ _ _ e in
@@ -62,9 +62,9 @@ snapped_takes fields body c ok e =
     let bytes = took u64_field fields (u32 number.value ++ ticket t.value ++ u32 files.value ++ u32 folders.value) folders.rest c folders.whole folders.ok folders.gives in
     let left = took u32_field fields (u32 number.value ++ ticket t.value ++ u32 files.value ++ u32 folders.value ++ u64 bytes.value) bytes.rest c bytes.whole bytes.ok bytes.gives in
     let names = took names_field fields (u32 number.value ++ ticket t.value ++ u32 files.value ++ u32 folders.value ++ u64 bytes.value ++ u32 left.value) left.rest c left.whole left.ok left.gives in
-    taken 3 (Snapped number.value t.value files.value folders.value bytes.value left.value names.value) c fields (u32 number.value ++ ticket t.value ++ u32 files.value ++ u32 folders.value ++ u64 bytes.value ++ u32 left.value ++ counted (λ name. name) names.value) names.rest body names.whole names.gives refl (both (both (both (both (both (both number.fits t.fits) files.fits) folders.fits) bytes.fits) left.fits) (each is_digest names.value names.fits)) tt
+    taken 3 (Snapped (record { number = number.value; ticket = t.value; files = files.value; folders = folders.value; bytes = bytes.value; left = left.value; names = names.value })) c fields (u32 number.value ++ ticket t.value ++ u32 files.value ++ u32 folders.value ++ u64 bytes.value ++ u32 left.value ++ counted (λ name. name) names.value) names.rest body names.whole names.gives refl (both (both (both (both (both (both number.fits t.fits) files.fits) folders.fits) bytes.fits) left.fits) (each is_digest names.value names.fits)) tt
 
-pub snapped_again : (number : ℕ) (t : Ticket) (files : ℕ) (folders : ℕ) (bytes : ℕ) (left : ℕ) (names : List (List ℕ)) → fits_widths (Snapped number t files folders bytes left names) ≡ true → is_count (length names) ≡ true → snapped_at (u32 number ++ ticket t ++ u32 files ++ u32 folders ++ u64 bytes ++ u32 left ++ counted (λ name. name) names) ≡ Some (Snapped number t files folders bytes left names)
+pub snapped_again : (number : ℕ) (t : Ticket) (files : ℕ) (folders : ℕ) (bytes : ℕ) (left : ℕ) (names : List (List ℕ)) → fits_widths (Snapped (record { number = number; ticket = t; files = files; folders = folders; bytes = bytes; left = left; names = names })) ≡ true → is_count (length names) ≡ true → snapped_at (u32 number ++ ticket t ++ u32 files ++ u32 folders ++ u64 bytes ++ u32 left ++ counted (λ name. name) names) ≡ Some (Snapped (record { number = number; ticket = t; files = files; folders = folders; bytes = bytes; left = left; names = names }))
 unfolding snapped_at
 snapped_again number t files folders bytes left names e few =
     let w = and_7 _ _ _ _ _ _ _ e in
@@ -81,9 +81,9 @@ pub forgot_takes : (fields : List ℕ) (body : Option (List ℕ)) (c : Change) �
 unfolding forgot_at
 forgot_takes fields body c ok e =
     let number = took u32_field fields [] fields c refl ok e in
-    taken 4 (Forgot number.value) c fields (u32 number.value) number.rest body number.whole number.gives refl number.fits tt
+    taken 4 (Forgot (record { number = number.value })) c fields (u32 number.value) number.rest body number.whole number.gives refl number.fits tt
 
-pub forgot_again : (number : ℕ) → fits_widths (Forgot number) ≡ true → forgot_at (u32 number) ≡ Some (Forgot number)
+pub forgot_again : (number : ℕ) → fits_widths (Forgot (record { number = number })) ≡ true → forgot_at (u32 number) ≡ Some (Forgot (record { number = number }))
 unfolding forgot_at
 forgot_again number e =
     gave_last u32_field _ number e
@@ -97,9 +97,9 @@ took_fresh_takes fields body c ok okb e =
     let first = took u32_field fields (u32 peer.value ++ u64 deal.value ++ name.value) name.rest c name.whole name.ok name.gives in
     let len = took u32_field fields (u32 peer.value ++ u64 deal.value ++ name.value ++ u32 first.value) first.rest c first.whole first.ok first.gives in
     let new = took flag_field fields (u32 peer.value ++ u64 deal.value ++ name.value ++ u32 first.value ++ u32 len.value) len.rest c len.whole len.ok len.gives in
-    taken 5 (TookFresh peer.value deal.value name.value first.value len.value new.value body) c fields (u32 peer.value ++ u64 deal.value ++ name.value ++ u32 first.value ++ u32 len.value ++ flag new.value) new.rest body new.whole new.gives refl (both (both (both (both (both peer.fits deal.fits) name.fits) first.fits) len.fits) okb) refl
+    taken 5 (TookFresh (record { peer = peer.value; deal = deal.value; name = name.value; first = first.value; len = len.value; new = new.value; body = body })) c fields (u32 peer.value ++ u64 deal.value ++ name.value ++ u32 first.value ++ u32 len.value ++ flag new.value) new.rest body new.whole new.gives refl (both (both (both (both (both peer.fits deal.fits) name.fits) first.fits) len.fits) okb) refl
 
-pub took_fresh_again : (peer : ℕ) (deal : ℕ) (name : List ℕ) (first : ℕ) (len : ℕ) (new : Bool) (body : Option (List ℕ)) → fits_widths (TookFresh peer deal name first len new body) ≡ true → took_fresh_at (u32 peer ++ u64 deal ++ name ++ u32 first ++ u32 len ++ flag new) body ≡ Some (TookFresh peer deal name first len new body)
+pub took_fresh_again : (peer : ℕ) (deal : ℕ) (name : List ℕ) (first : ℕ) (len : ℕ) (new : Bool) (body : Option (List ℕ)) → fits_widths (TookFresh (record { peer = peer; deal = deal; name = name; first = first; len = len; new = new; body = body })) ≡ true → took_fresh_at (u32 peer ++ u64 deal ++ name ++ u32 first ++ u32 len ++ flag new) body ≡ Some (TookFresh (record { peer = peer; deal = deal; name = name; first = first; len = len; new = new; body = body }))
 unfolding took_fresh_at
 took_fresh_again peer deal name first len new body e =
     let w = and_6 _ _ _ _ _ _ e in
@@ -120,9 +120,9 @@ took_swap_takes fields body c ok okb e =
     let slots = took slots_field fields (u32 peer.value ++ u64 deal.value ++ name.value) name.rest c name.whole name.ok name.gives in
     let len = took u32_field fields (u32 peer.value ++ u64 deal.value ++ name.value ++ counted u32 slots.value) slots.rest c slots.whole slots.ok slots.gives in
     let new = took flag_field fields (u32 peer.value ++ u64 deal.value ++ name.value ++ counted u32 slots.value ++ u32 len.value) len.rest c len.whole len.ok len.gives in
-    taken 6 (TookSwap peer.value deal.value name.value slots.value len.value new.value body) c fields (u32 peer.value ++ u64 deal.value ++ name.value ++ counted u32 slots.value ++ u32 len.value ++ flag new.value) new.rest body new.whole new.gives refl (both (both (both (both (both peer.fits deal.fits) name.fits) (each is_u32 slots.value slots.fits)) len.fits) okb) refl
+    taken 6 (TookSwap (record { peer = peer.value; deal = deal.value; name = name.value; slots = slots.value; len = len.value; new = new.value; body = body })) c fields (u32 peer.value ++ u64 deal.value ++ name.value ++ counted u32 slots.value ++ u32 len.value ++ flag new.value) new.rest body new.whole new.gives refl (both (both (both (both (both peer.fits deal.fits) name.fits) (each is_u32 slots.value slots.fits)) len.fits) okb) refl
 
-pub took_swap_again : (peer : ℕ) (deal : ℕ) (name : List ℕ) (slots : List ℕ) (len : ℕ) (new : Bool) (body : Option (List ℕ)) → fits_widths (TookSwap peer deal name slots len new body) ≡ true → is_count (length slots) ≡ true → took_swap_at (u32 peer ++ u64 deal ++ name ++ counted u32 slots ++ u32 len ++ flag new) body ≡ Some (TookSwap peer deal name slots len new body)
+pub took_swap_again : (peer : ℕ) (deal : ℕ) (name : List ℕ) (slots : List ℕ) (len : ℕ) (new : Bool) (body : Option (List ℕ)) → fits_widths (TookSwap (record { peer = peer; deal = deal; name = name; slots = slots; len = len; new = new; body = body })) ≡ true → is_count (length slots) ≡ true → took_swap_at (u32 peer ++ u64 deal ++ name ++ counted u32 slots ++ u32 len ++ flag new) body ≡ Some (TookSwap (record { peer = peer; deal = deal; name = name; slots = slots; len = len; new = new; body = body }))
 unfolding took_swap_at
 took_swap_again peer deal name slots len new body e few =
     let w = and_6 _ _ _ _ _ _ e in
@@ -141,9 +141,9 @@ let_go_takes fields body c ok e =
     let deal = took u64_field fields (u32 peer.value) peer.rest c peer.whole peer.ok peer.gives in
     let name = took digest_field fields (u32 peer.value ++ u64 deal.value) deal.rest c deal.whole deal.ok deal.gives in
     let slots = took slots_field fields (u32 peer.value ++ u64 deal.value ++ name.value) name.rest c name.whole name.ok name.gives in
-    taken 7 (LetGo peer.value deal.value name.value slots.value) c fields (u32 peer.value ++ u64 deal.value ++ name.value ++ counted u32 slots.value) slots.rest body slots.whole slots.gives refl (both (both (both peer.fits deal.fits) name.fits) (each is_u32 slots.value slots.fits)) tt
+    taken 7 (LetGo (record { peer = peer.value; deal = deal.value; name = name.value; slots = slots.value })) c fields (u32 peer.value ++ u64 deal.value ++ name.value ++ counted u32 slots.value) slots.rest body slots.whole slots.gives refl (both (both (both peer.fits deal.fits) name.fits) (each is_u32 slots.value slots.fits)) tt
 
-pub let_go_again : (peer : ℕ) (deal : ℕ) (name : List ℕ) (slots : List ℕ) → fits_widths (LetGo peer deal name slots) ≡ true → is_count (length slots) ≡ true → let_go_at (u32 peer ++ u64 deal ++ name ++ counted u32 slots) ≡ Some (LetGo peer deal name slots)
+pub let_go_again : (peer : ℕ) (deal : ℕ) (name : List ℕ) (slots : List ℕ) → fits_widths (LetGo (record { peer = peer; deal = deal; name = name; slots = slots })) ≡ true → is_count (length slots) ≡ true → let_go_at (u32 peer ++ u64 deal ++ name ++ counted u32 slots) ≡ Some (LetGo (record { peer = peer; deal = deal; name = name; slots = slots }))
 unfolding let_go_at
 let_go_again peer deal name slots e few =
     let w = and_4 _ _ _ _ e in
@@ -159,9 +159,9 @@ let_go_back_takes fields body c ok okb e =
     let deal = took u64_field fields (u32 peer.value) peer.rest c peer.whole peer.ok peer.gives in
     let name = took digest_field fields (u32 peer.value ++ u64 deal.value) deal.rest c deal.whole deal.ok deal.gives in
     let slots = took slots_field fields (u32 peer.value ++ u64 deal.value ++ name.value) name.rest c name.whole name.ok name.gives in
-    taken 8 (LetGoBack peer.value deal.value name.value slots.value body) c fields (u32 peer.value ++ u64 deal.value ++ name.value ++ counted u32 slots.value) slots.rest body slots.whole slots.gives refl (both (both (both (both peer.fits deal.fits) name.fits) (each is_u32 slots.value slots.fits)) okb) refl
+    taken 8 (LetGoBack (record { peer = peer.value; deal = deal.value; name = name.value; slots = slots.value; body = body })) c fields (u32 peer.value ++ u64 deal.value ++ name.value ++ counted u32 slots.value) slots.rest body slots.whole slots.gives refl (both (both (both (both peer.fits deal.fits) name.fits) (each is_u32 slots.value slots.fits)) okb) refl
 
-pub let_go_back_again : (peer : ℕ) (deal : ℕ) (name : List ℕ) (slots : List ℕ) (body : Option (List ℕ)) → fits_widths (LetGoBack peer deal name slots body) ≡ true → is_count (length slots) ≡ true → let_go_back_at (u32 peer ++ u64 deal ++ name ++ counted u32 slots) body ≡ Some (LetGoBack peer deal name slots body)
+pub let_go_back_again : (peer : ℕ) (deal : ℕ) (name : List ℕ) (slots : List ℕ) (body : Option (List ℕ)) → fits_widths (LetGoBack (record { peer = peer; deal = deal; name = name; slots = slots; body = body })) ≡ true → is_count (length slots) ≡ true → let_go_back_at (u32 peer ++ u64 deal ++ name ++ counted u32 slots) body ≡ Some (LetGoBack (record { peer = peer; deal = deal; name = name; slots = slots; body = body }))
 unfolding let_go_back_at
 let_go_back_again peer deal name slots body e few =
     let w = and_5 _ _ _ _ _ e in
@@ -178,9 +178,9 @@ replaced_takes fields body c ok okb e =
     let slot = took u32_field fields (u32 peer.value ++ u64 deal.value) deal.rest c deal.whole deal.ok deal.gives in
     let place = took u8_field fields (u32 peer.value ++ u64 deal.value ++ u32 slot.value) slot.rest c slot.whole slot.ok slot.gives in
     let home = took u32_field fields (u32 peer.value ++ u64 deal.value ++ u32 slot.value ++ (place.value ∷ [])) place.rest c place.whole place.ok place.gives in
-    taken 9 (Replaced peer.value deal.value slot.value place.value home.value body) c fields (u32 peer.value ++ u64 deal.value ++ u32 slot.value ++ (place.value ∷ []) ++ u32 home.value) home.rest body home.whole home.gives refl (both (both (both (both (both peer.fits deal.fits) slot.fits) place.fits) home.fits) okb) refl
+    taken 9 (Replaced (record { peer = peer.value; deal = deal.value; slot = slot.value; place = place.value; home = home.value; body = body })) c fields (u32 peer.value ++ u64 deal.value ++ u32 slot.value ++ (place.value ∷ []) ++ u32 home.value) home.rest body home.whole home.gives refl (both (both (both (both (both peer.fits deal.fits) slot.fits) place.fits) home.fits) okb) refl
 
-pub replaced_again : (peer : ℕ) (deal : ℕ) (slot : ℕ) (place : ℕ) (home : ℕ) (body : Option (List ℕ)) → fits_widths (Replaced peer deal slot place home body) ≡ true → replaced_at (u32 peer ++ u64 deal ++ u32 slot ++ place ∷ (u32 home)) body ≡ Some (Replaced peer deal slot place home body)
+pub replaced_again : (peer : ℕ) (deal : ℕ) (slot : ℕ) (place : ℕ) (home : ℕ) (body : Option (List ℕ)) → fits_widths (Replaced (record { peer = peer; deal = deal; slot = slot; place = place; home = home; body = body })) ≡ true → replaced_at (u32 peer ++ u64 deal ++ u32 slot ++ place ∷ (u32 home)) body ≡ Some (Replaced (record { peer = peer; deal = deal; slot = slot; place = place; home = home; body = body }))
 unfolding replaced_at
 replaced_again peer deal slot place home body e =
     let w = and_6 _ _ _ _ _ _ e in
@@ -197,9 +197,9 @@ refused_takes fields body c ok e =
     let deal = took u64_field fields (u32 peer.value) peer.rest c peer.whole peer.ok peer.gives in
     let why = took u8_field fields (u32 peer.value ++ u64 deal.value) deal.rest c deal.whole deal.ok deal.gives in
     let detail = took u64_field fields (u32 peer.value ++ u64 deal.value ++ (why.value ∷ [])) why.rest c why.whole why.ok why.gives in
-    taken 10 (Refused peer.value deal.value why.value detail.value) c fields (u32 peer.value ++ u64 deal.value ++ (why.value ∷ []) ++ u64 detail.value) detail.rest body detail.whole detail.gives refl (both (both (both peer.fits deal.fits) why.fits) detail.fits) tt
+    taken 10 (Refused (record { peer = peer.value; deal = deal.value; why = why.value; detail = detail.value })) c fields (u32 peer.value ++ u64 deal.value ++ (why.value ∷ []) ++ u64 detail.value) detail.rest body detail.whole detail.gives refl (both (both (both peer.fits deal.fits) why.fits) detail.fits) tt
 
-pub refused_again : (peer : ℕ) (deal : ℕ) (why : ℕ) (detail : ℕ) → fits_widths (Refused peer deal why detail) ≡ true → refused_at (u32 peer ++ u64 deal ++ why ∷ (u64 detail)) ≡ Some (Refused peer deal why detail)
+pub refused_again : (peer : ℕ) (deal : ℕ) (why : ℕ) (detail : ℕ) → fits_widths (Refused (record { peer = peer; deal = deal; why = why; detail = detail })) ≡ true → refused_at (u32 peer ++ u64 deal ++ why ∷ (u64 detail)) ≡ Some (Refused (record { peer = peer; deal = deal; why = why; detail = detail }))
 unfolding refused_at
 refused_again peer deal why detail e =
     let w = and_4 _ _ _ _ e in
@@ -214,9 +214,9 @@ settled_takes fields body c ok okb e =
     let peer = took u32_field fields [] fields c refl ok e in
     let deal = took u64_field fields (u32 peer.value) peer.rest c peer.whole peer.ok peer.gives in
     let slots = took slots_field fields (u32 peer.value ++ u64 deal.value) deal.rest c deal.whole deal.ok deal.gives in
-    taken 12 (Settled peer.value deal.value slots.value body) c fields (u32 peer.value ++ u64 deal.value ++ counted u32 slots.value) slots.rest body slots.whole slots.gives refl (both (both (both peer.fits deal.fits) (each is_u32 slots.value slots.fits)) okb) refl
+    taken 12 (Settled (record { peer = peer.value; deal = deal.value; slots = slots.value; body = body })) c fields (u32 peer.value ++ u64 deal.value ++ counted u32 slots.value) slots.rest body slots.whole slots.gives refl (both (both (both peer.fits deal.fits) (each is_u32 slots.value slots.fits)) okb) refl
 
-pub settled_again : (peer : ℕ) (deal : ℕ) (slots : List ℕ) (body : Option (List ℕ)) → fits_widths (Settled peer deal slots body) ≡ true → is_count (length slots) ≡ true → settled_at (u32 peer ++ u64 deal ++ counted u32 slots) body ≡ Some (Settled peer deal slots body)
+pub settled_again : (peer : ℕ) (deal : ℕ) (slots : List ℕ) (body : Option (List ℕ)) → fits_widths (Settled (record { peer = peer; deal = deal; slots = slots; body = body })) ≡ true → is_count (length slots) ≡ true → settled_at (u32 peer ++ u64 deal ++ counted u32 slots) body ≡ Some (Settled (record { peer = peer; deal = deal; slots = slots; body = body }))
 unfolding settled_at
 settled_again peer deal slots body e few =
     let w = and_4 _ _ _ _ e in
@@ -231,9 +231,9 @@ turned_takes fields body c ok e =
     let deal = took u64_field fields (u32 peer.value) peer.rest c peer.whole peer.ok peer.gives in
     let why = took u8_field fields (u32 peer.value ++ u64 deal.value) deal.rest c deal.whole deal.ok deal.gives in
     let detail = took u64_field fields (u32 peer.value ++ u64 deal.value ++ (why.value ∷ [])) why.rest c why.whole why.ok why.gives in
-    taken 13 (Turned peer.value deal.value why.value detail.value) c fields (u32 peer.value ++ u64 deal.value ++ (why.value ∷ []) ++ u64 detail.value) detail.rest body detail.whole detail.gives refl (both (both (both peer.fits deal.fits) why.fits) detail.fits) tt
+    taken 13 (Turned (record { peer = peer.value; deal = deal.value; why = why.value; detail = detail.value })) c fields (u32 peer.value ++ u64 deal.value ++ (why.value ∷ []) ++ u64 detail.value) detail.rest body detail.whole detail.gives refl (both (both (both peer.fits deal.fits) why.fits) detail.fits) tt
 
-pub turned_again : (peer : ℕ) (deal : ℕ) (why : ℕ) (detail : ℕ) → fits_widths (Turned peer deal why detail) ≡ true → turned_at (u32 peer ++ u64 deal ++ why ∷ (u64 detail)) ≡ Some (Turned peer deal why detail)
+pub turned_again : (peer : ℕ) (deal : ℕ) (why : ℕ) (detail : ℕ) → fits_widths (Turned (record { peer = peer; deal = deal; why = why; detail = detail })) ≡ true → turned_at (u32 peer ++ u64 deal ++ why ∷ (u64 detail)) ≡ Some (Turned (record { peer = peer; deal = deal; why = why; detail = detail }))
 unfolding turned_at
 turned_again peer deal why detail e =
     let w = and_4 _ _ _ _ e in
@@ -247,9 +247,9 @@ unfolding asked_at
 asked_takes fields body c ok e =
     let peer = took u32_field fields [] fields c refl ok e in
     let objects = took objects_field fields (u32 peer.value) peer.rest c peer.whole peer.ok peer.gives in
-    taken 14 (Asked peer.value objects.value) c fields (u32 peer.value ++ counted object objects.value) objects.rest body objects.whole objects.gives refl (both peer.fits (each object_fits objects.value objects.fits)) tt
+    taken 14 (Asked (record { peer = peer.value; objects = objects.value })) c fields (u32 peer.value ++ counted object objects.value) objects.rest body objects.whole objects.gives refl (both peer.fits (each object_fits objects.value objects.fits)) tt
 
-pub asked_again : (peer : ℕ) (objects : List Object) → fits_widths (Asked peer objects) ≡ true → is_count (length objects) ≡ true → asked_at (u32 peer ++ counted object objects) ≡ Some (Asked peer objects)
+pub asked_again : (peer : ℕ) (objects : List Object) → fits_widths (Asked (record { peer = peer; objects = objects })) ≡ true → is_count (length objects) ≡ true → asked_at (u32 peer ++ counted object objects) ≡ Some (Asked (record { peer = peer; objects = objects }))
 unfolding asked_at
 asked_again peer objects e few =
     let w = and_parts _ _ e in
@@ -262,9 +262,9 @@ passed_takes fields body c ok e =
     let peer = took u32_field fields [] fields c refl ok e in
     let asked = took u64_field fields (u32 peer.value) peer.rest c peer.whole peer.ok peer.gives in
     let objects = took objects_field fields (u32 peer.value ++ u64 asked.value) asked.rest c asked.whole asked.ok asked.gives in
-    taken 15 (Passed peer.value asked.value objects.value) c fields (u32 peer.value ++ u64 asked.value ++ counted object objects.value) objects.rest body objects.whole objects.gives refl (both (both peer.fits asked.fits) (each object_fits objects.value objects.fits)) tt
+    taken 15 (Passed (record { peer = peer.value; asked = asked.value; objects = objects.value })) c fields (u32 peer.value ++ u64 asked.value ++ counted object objects.value) objects.rest body objects.whole objects.gives refl (both (both peer.fits asked.fits) (each object_fits objects.value objects.fits)) tt
 
-pub passed_again : (peer : ℕ) (asked : ℕ) (objects : List Object) → fits_widths (Passed peer asked objects) ≡ true → is_count (length objects) ≡ true → passed_at (u32 peer ++ u64 asked ++ counted object objects) ≡ Some (Passed peer asked objects)
+pub passed_again : (peer : ℕ) (asked : ℕ) (objects : List Object) → fits_widths (Passed (record { peer = peer; asked = asked; objects = objects })) ≡ true → is_count (length objects) ≡ true → passed_at (u32 peer ++ u64 asked ++ counted object objects) ≡ Some (Passed (record { peer = peer; asked = asked; objects = objects }))
 unfolding passed_at
 passed_again peer asked objects e few =
     let w = and_3 _ _ _ e in
@@ -280,9 +280,9 @@ failed_takes fields body c ok e =
     let how = took u8_field fields (u32 peer.value ++ u64 asked.value) asked.rest c asked.whole asked.ok asked.gives in
     let got = took digest_field fields (u32 peer.value ++ u64 asked.value ++ (how.value ∷ [])) how.rest c how.whole how.ok how.gives in
     let objects = took objects_field fields (u32 peer.value ++ u64 asked.value ++ (how.value ∷ []) ++ got.value) got.rest c got.whole got.ok got.gives in
-    taken 16 (Failed peer.value asked.value how.value got.value objects.value) c fields (u32 peer.value ++ u64 asked.value ++ (how.value ∷ []) ++ got.value ++ counted object objects.value) objects.rest body objects.whole objects.gives refl (both (both (both (both peer.fits asked.fits) how.fits) got.fits) (each object_fits objects.value objects.fits)) tt
+    taken 16 (Failed (record { peer = peer.value; asked = asked.value; how = how.value; got = got.value; objects = objects.value })) c fields (u32 peer.value ++ u64 asked.value ++ (how.value ∷ []) ++ got.value ++ counted object objects.value) objects.rest body objects.whole objects.gives refl (both (both (both (both peer.fits asked.fits) how.fits) got.fits) (each object_fits objects.value objects.fits)) tt
 
-pub failed_again : (peer : ℕ) (asked : ℕ) (how : ℕ) (got : List ℕ) (objects : List Object) → fits_widths (Failed peer asked how got objects) ≡ true → is_count (length objects) ≡ true → failed_at (u32 peer ++ u64 asked ++ how ∷ (got ++ counted object objects)) ≡ Some (Failed peer asked how got objects)
+pub failed_again : (peer : ℕ) (asked : ℕ) (how : ℕ) (got : List ℕ) (objects : List Object) → fits_widths (Failed (record { peer = peer; asked = asked; how = how; got = got; objects = objects })) ≡ true → is_count (length objects) ≡ true → failed_at (u32 peer ++ u64 asked ++ how ∷ (got ++ counted object objects)) ≡ Some (Failed (record { peer = peer; asked = asked; how = how; got = got; objects = objects }))
 unfolding failed_at
 failed_again peer asked how got objects e few =
     let w = and_5 _ _ _ _ _ e in
@@ -298,9 +298,9 @@ declined_takes fields body c ok e =
     let peer = took u32_field fields [] fields c refl ok e in
     let asked = took u64_field fields (u32 peer.value) peer.rest c peer.whole peer.ok peer.gives in
     let places = took places_field fields (u32 peer.value ++ u64 asked.value) asked.rest c asked.whole asked.ok asked.gives in
-    taken 17 (Declined peer.value asked.value places.value) c fields (u32 peer.value ++ u64 asked.value ++ counted u16 places.value) places.rest body places.whole places.gives refl (both (both peer.fits asked.fits) (each is_u16 places.value places.fits)) tt
+    taken 17 (Declined (record { peer = peer.value; asked = asked.value; places = places.value })) c fields (u32 peer.value ++ u64 asked.value ++ counted u16 places.value) places.rest body places.whole places.gives refl (both (both peer.fits asked.fits) (each is_u16 places.value places.fits)) tt
 
-pub declined_again : (peer : ℕ) (asked : ℕ) (places : List ℕ) → fits_widths (Declined peer asked places) ≡ true → is_count (length places) ≡ true → declined_at (u32 peer ++ u64 asked ++ counted u16 places) ≡ Some (Declined peer asked places)
+pub declined_again : (peer : ℕ) (asked : ℕ) (places : List ℕ) → fits_widths (Declined (record { peer = peer; asked = asked; places = places })) ≡ true → is_count (length places) ≡ true → declined_at (u32 peer ++ u64 asked ++ counted u16 places) ≡ Some (Declined (record { peer = peer; asked = asked; places = places }))
 unfolding declined_at
 declined_again peer asked places e few =
     let w = and_3 _ _ _ e in
@@ -313,9 +313,9 @@ unfolding discarded_at
 discarded_takes fields body c ok e =
     let peer = took u32_field fields [] fields c refl ok e in
     let objects = took objects_field fields (u32 peer.value) peer.rest c peer.whole peer.ok peer.gives in
-    taken 18 (Discarded peer.value objects.value) c fields (u32 peer.value ++ counted object objects.value) objects.rest body objects.whole objects.gives refl (both peer.fits (each object_fits objects.value objects.fits)) tt
+    taken 18 (Discarded (record { peer = peer.value; objects = objects.value })) c fields (u32 peer.value ++ counted object objects.value) objects.rest body objects.whole objects.gives refl (both peer.fits (each object_fits objects.value objects.fits)) tt
 
-pub discarded_again : (peer : ℕ) (objects : List Object) → fits_widths (Discarded peer objects) ≡ true → is_count (length objects) ≡ true → discarded_at (u32 peer ++ counted object objects) ≡ Some (Discarded peer objects)
+pub discarded_again : (peer : ℕ) (objects : List Object) → fits_widths (Discarded (record { peer = peer; objects = objects })) ≡ true → is_count (length objects) ≡ true → discarded_at (u32 peer ++ counted object objects) ≡ Some (Discarded (record { peer = peer; objects = objects }))
 unfolding discarded_at
 discarded_again peer objects e few =
     let w = and_parts _ _ e in
@@ -326,9 +326,9 @@ pub chose_takes : (fields : List ℕ) (body : Option (List ℕ)) (c : Change) �
 unfolding chose_at
 chose_takes fields body c ok e =
     let candidates = took candidates_field fields [] fields c refl ok e in
-    taken 19 (Chose candidates.value) c fields (counted candidate candidates.value) candidates.rest body candidates.whole candidates.gives refl (each candidate_fits candidates.value candidates.fits) tt
+    taken 19 (Chose (record { candidates = candidates.value })) c fields (counted candidate candidates.value) candidates.rest body candidates.whole candidates.gives refl (each candidate_fits candidates.value candidates.fits) tt
 
-pub chose_again : (candidates : List Candidate) → fits_widths (Chose candidates) ≡ true → is_count (length candidates) ≡ true → chose_at (counted candidate candidates) ≡ Some (Chose candidates)
+pub chose_again : (candidates : List Candidate) → fits_widths (Chose (record { candidates = candidates })) ≡ true → is_count (length candidates) ≡ true → chose_at (counted candidate candidates) ≡ Some (Chose (record { candidates = candidates }))
 unfolding chose_at
 chose_again candidates e few =
     gave_last candidates_field _ candidates (both few e)
@@ -339,16 +339,16 @@ proposed_takes fields body c ok e =
     let peer = took u32_field fields [] fields c refl ok e in
     let deal = took u64_field fields (u32 peer.value) peer.rest c peer.whole peer.ok peer.gives in
     let kind = took u8_field fields (u32 peer.value ++ u64 deal.value) deal.rest c deal.whole deal.ok deal.gives in
-    let what = bind_some (deal_by kind.value kind.rest) (λ what. Some (Proposed peer.value deal.value what)) c kind.gives in
+    let what = bind_some (deal_by kind.value kind.rest) (λ what. Some (Proposed (record { peer = peer.value; deal = deal.value; what = what }))) c kind.gives in
     let h = deal_takes kind.value kind.rest what.0 kind.ok what.1 in
     let whole : fields ≡ u32 peer.value ++ u64 deal.value ++ deal_fields what.0 = kind.whole ∙ ap (λ (l : List ℕ). u32 peer.value ++ u64 deal.value ++ l) h.spelled in
-    subst (λ (v : Change). IsTaken 11 fields body v) (some_is (Proposed peer.value deal.value what.0) c what.2) (record { spelled = ap (λ (l : List ℕ). 11 ∷ l) whole; widths = both (both peer.fits deal.fits) h.fits; part = tt })
+    subst (λ (v : Change). IsTaken 11 fields body v) (some_is (Proposed (record { peer = peer.value; deal = deal.value; what = what.0 })) c what.2) (record { spelled = ap (λ (l : List ℕ). 11 ∷ l) whole; widths = both (both peer.fits deal.fits) h.fits; part = tt })
 
-pub proposed_again : (peer deal : ℕ) (what : DealWhat) → fits_widths (Proposed peer deal what) ≡ true → what_in_grammar what ≡ true → proposed_at (u32 peer ++ u64 deal ++ deal_fields what) ≡ Some (Proposed peer deal what)
+pub proposed_again : (peer deal : ℕ) (what : DealWhat) → fits_widths (Proposed (record { peer = peer; deal = deal; what = what })) ≡ true → what_in_grammar what ≡ true → proposed_at (u32 peer ++ u64 deal ++ deal_fields what) ≡ Some (Proposed (record { peer = peer; deal = deal; what = what }))
 unfolding proposed_at u8_at
 proposed_again peer deal what e g =
     let w = and_3 _ _ _ e in
     ap (λ (l : List ℕ). proposed_at (u32 peer ++ u64 deal ++ l)) (deal_parts what)
     ∙ gave u32_field _ peer (u64 deal ++ deal_kind what ∷ deal_rest what) w.0
     ∙ gave u64_field _ deal _ w.1
-    ∙ ap (λ (r : Option DealWhat). r >>= λ what. Some (Proposed peer deal what)) (deal_again what w.2 g)
+    ∙ ap (λ (r : Option DealWhat). r >>= λ what. Some (Proposed (record { peer = peer; deal = deal; what = what }))) (deal_again what w.2 g)

@@ -59,14 +59,14 @@ counted_at item bytes = do
 -- ---- kinds, behind the byte that tells which
 
 unfoldable pub begun_at : List ℕ → Option (List ℕ) → Option Change
-begun_at fields body = ended (Begun body) fields
+begun_at fields body = ended (Begun (record { body = body })) fields
 
 unfoldable pub kept_at : List ℕ → Option (List ℕ) → Option Change
 kept_at fields body = do
   name ← digest_at fields
   len ← u32_at name.1
   new ← flag_at len.1
-  ended (Kept name.0 len.0 new.0 body) new.1
+  ended (Kept (record { name = name.0; len = len.0; new = new.0; body = body })) new.1
 
 unfoldable pub snapped_at : List ℕ → Option Change
 snapped_at fields = do
@@ -77,12 +77,12 @@ snapped_at fields = do
   bytes ← u64_at folders.1
   left ← u32_at bytes.1
   names ← counted_at digest_at left.1
-  ended (Snapped number.0 ticket.0 files.0 folders.0 bytes.0 left.0 names.0) names.1
+  ended (Snapped (record { number = number.0; ticket = ticket.0; files = files.0; folders = folders.0; bytes = bytes.0; left = left.0; names = names.0 })) names.1
 
 unfoldable pub forgot_at : List ℕ → Option Change
 forgot_at fields = do
   number ← u32_at fields
-  ended (Forgot number.0) number.1
+  ended (Forgot (record { number = number.0 })) number.1
 
 unfoldable pub took_fresh_at : List ℕ → Option (List ℕ) → Option Change
 took_fresh_at fields body = do
@@ -92,7 +92,7 @@ took_fresh_at fields body = do
   first ← u32_at name.1
   len ← u32_at first.1
   new ← flag_at len.1
-  ended (TookFresh peer.0 deal.0 name.0 first.0 len.0 new.0 body) new.1
+  ended (TookFresh (record { peer = peer.0; deal = deal.0; name = name.0; first = first.0; len = len.0; new = new.0; body = body })) new.1
 
 unfoldable pub took_swap_at : List ℕ → Option (List ℕ) → Option Change
 took_swap_at fields body = do
@@ -102,7 +102,7 @@ took_swap_at fields body = do
   slots ← counted_at u32_at name.1
   len ← u32_at slots.1
   new ← flag_at len.1
-  ended (TookSwap peer.0 deal.0 name.0 slots.0 len.0 new.0 body) new.1
+  ended (TookSwap (record { peer = peer.0; deal = deal.0; name = name.0; slots = slots.0; len = len.0; new = new.0; body = body })) new.1
 
 unfoldable pub let_go_at : List ℕ → Option Change
 let_go_at fields = do
@@ -110,7 +110,7 @@ let_go_at fields = do
   deal ← u64_at peer.1
   name ← digest_at deal.1
   slots ← counted_at u32_at name.1
-  ended (LetGo peer.0 deal.0 name.0 slots.0) slots.1
+  ended (LetGo (record { peer = peer.0; deal = deal.0; name = name.0; slots = slots.0 })) slots.1
 
 unfoldable pub let_go_back_at : List ℕ → Option (List ℕ) → Option Change
 let_go_back_at fields body = do
@@ -118,7 +118,7 @@ let_go_back_at fields body = do
   deal ← u64_at peer.1
   name ← digest_at deal.1
   slots ← counted_at u32_at name.1
-  ended (LetGoBack peer.0 deal.0 name.0 slots.0 body) slots.1
+  ended (LetGoBack (record { peer = peer.0; deal = deal.0; name = name.0; slots = slots.0; body = body })) slots.1
 
 unfoldable pub replaced_at : List ℕ → Option (List ℕ) → Option Change
 replaced_at fields body = do
@@ -127,7 +127,7 @@ replaced_at fields body = do
   slot ← u32_at deal.1
   place ← u8_at slot.1
   home ← u32_at place.1
-  ended (Replaced peer.0 deal.0 slot.0 place.0 home.0 body) home.1
+  ended (Replaced (record { peer = peer.0; deal = deal.0; slot = slot.0; place = place.0; home = home.0; body = body })) home.1
 
 unfoldable pub refused_at : List ℕ → Option Change
 refused_at fields = do
@@ -135,14 +135,14 @@ refused_at fields = do
   deal ← u64_at peer.1
   why ← u8_at deal.1
   detail ← u64_at why.1
-  ended (Refused peer.0 deal.0 why.0 detail.0) detail.1
+  ended (Refused (record { peer = peer.0; deal = deal.0; why = why.0; detail = detail.0 })) detail.1
 
 unfoldable pub settled_at : List ℕ → Option (List ℕ) → Option Change
 settled_at fields body = do
   peer ← u32_at fields
   deal ← u64_at peer.1
   slots ← counted_at u32_at deal.1
-  ended (Settled peer.0 deal.0 slots.0 body) slots.1
+  ended (Settled (record { peer = peer.0; deal = deal.0; slots = slots.0; body = body })) slots.1
 
 unfoldable pub turned_at : List ℕ → Option Change
 turned_at fields = do
@@ -150,20 +150,20 @@ turned_at fields = do
   deal ← u64_at peer.1
   why ← u8_at deal.1
   detail ← u64_at why.1
-  ended (Turned peer.0 deal.0 why.0 detail.0) detail.1
+  ended (Turned (record { peer = peer.0; deal = deal.0; why = why.0; detail = detail.0 })) detail.1
 
 unfoldable pub asked_at : List ℕ → Option Change
 asked_at fields = do
   peer ← u32_at fields
   objects ← counted_at object_at peer.1
-  ended (Asked peer.0 objects.0) objects.1
+  ended (Asked (record { peer = peer.0; objects = objects.0 })) objects.1
 
 unfoldable pub passed_at : List ℕ → Option Change
 passed_at fields = do
   peer ← u32_at fields
   asked ← u64_at peer.1
   objects ← counted_at object_at asked.1
-  ended (Passed peer.0 asked.0 objects.0) objects.1
+  ended (Passed (record { peer = peer.0; asked = asked.0; objects = objects.0 })) objects.1
 
 unfoldable pub failed_at : List ℕ → Option Change
 failed_at fields = do
@@ -172,25 +172,25 @@ failed_at fields = do
   how ← u8_at asked.1
   got ← digest_at how.1
   objects ← counted_at object_at got.1
-  ended (Failed peer.0 asked.0 how.0 got.0 objects.0) objects.1
+  ended (Failed (record { peer = peer.0; asked = asked.0; how = how.0; got = got.0; objects = objects.0 })) objects.1
 
 unfoldable pub declined_at : List ℕ → Option Change
 declined_at fields = do
   peer ← u32_at fields
   asked ← u64_at peer.1
   places ← counted_at u16_at asked.1
-  ended (Declined peer.0 asked.0 places.0) places.1
+  ended (Declined (record { peer = peer.0; asked = asked.0; places = places.0 })) places.1
 
 unfoldable pub discarded_at : List ℕ → Option Change
 discarded_at fields = do
   peer ← u32_at fields
   objects ← counted_at object_at peer.1
-  ended (Discarded peer.0 objects.0) objects.1
+  ended (Discarded (record { peer = peer.0; objects = objects.0 })) objects.1
 
 unfoldable pub chose_at : List ℕ → Option Change
 chose_at fields = do
   candidates ← counted_at candidate_at fields
-  ended (Chose candidates.0) candidates.1
+  ended (Chose (record { candidates = candidates.0 })) candidates.1
 
 -- ---- own deals, behind the byte that tells which
 
@@ -245,7 +245,7 @@ proposed_at fields = do
   deal ← u64_at peer.1
   kind ← u8_at deal.1
   what ← deal_by kind.0 kind.1
-  Some (Proposed peer.0 deal.0 what)
+  Some (Proposed (record { peer = peer.0; deal = deal.0; what = what }))
 
 -- ---- all kinds
 

@@ -7,13 +7,13 @@ use Rattle.psb_model.specs.Grammar.{in_grammar, fits_widths}
 
 -- the kinds that have a body part
 abbrev pub has_body : Change → Bool
-has_body (Begun body) = true
-has_body (Kept name len new body) = true
-has_body (TookFresh p deal name first len new body) = true
-has_body (TookSwap p deal name slots len new body) = true
-has_body (LetGoBack p deal name slots body) = true
-has_body (Replaced p deal slot place home body) = true
-has_body (Settled p deal slots body) = true
+has_body (Begun x) = true
+has_body (Kept x) = true
+has_body (TookFresh x) = true
+has_body (TookSwap x) = true
+has_body (LetGoBack x) = true
+has_body (Replaced x) = true
+has_body (Settled x) = true
 has_body _ = false
 
 -- The record with this head and this body part is the change's. The body part is None where it was

@@ -6,7 +6,7 @@ use crate::fields::whole;
 use crate::lists::take_list;
 use byte_fields::{take_digest, take_u8, take_u32, take_u64};
 use psb_bytes::{Cursor, PeerId, Seat};
-use psb_model::{Change, DealWhat};
+use psb_model::{Change, DealWhat, Proposed};
 use std::alloc::Global;
 
 #[tactic(auto, unfolding(crate::specs::Reading::fresh_at))]
@@ -88,5 +88,5 @@ pub(crate) fn proposed(alloc: Global, fields: &mut Cursor<'_>) -> Result<Change,
     let deal = take_u64(fields)?;
     let kind = take_u8(fields)?;
     let what = deal_of(alloc, kind, fields)?;
-    Ok(Change::Proposed { peer, deal, what })
+    Ok(Change::Proposed(Proposed { peer, deal, what }))
 }

@@ -130,33 +130,23 @@ fn in_grammar(alloc: Global, change: &Change) -> Result<bool, Memory>
     ensures { IfOk result (λ b. b ≡ in_grammar change.now) }
 {
     Ok(match change {
-        Change::Begun { body } => body.is_some(),
-        Change::Kept { len, new, body, .. } | Change::TookFresh { len, new, body, .. } => {
-            is_chunk(*len, *new, body)
-        }
-        Change::Snapped { ticket, names, .. } => {
-            is_ticket(ticket) && is_count(names.as_slice().len())
-        }
-        Change::TookSwap {
-            slots,
-            len,
-            new,
-            body,
-            ..
-        } => is_chunk(*len, *new, body) && slots_listed(slots.as_slice()),
-        Change::LetGo { slots, .. } => slots_listed(slots.as_slice()),
-        Change::LetGoBack { slots, body, .. } | Change::Settled { slots, body, .. } => {
-            are_claims(slots.as_slice(), body)
-        }
-        Change::Replaced { place, body, .. } => has_len(body, if *place == 0 { CLAIM } else { 0 }),
-        Change::Proposed { what, .. } => deal_in_grammar(what),
-        Change::Asked { objects, .. }
-        | Change::Passed { objects, .. }
-        | Change::Failed { objects, .. }
-        | Change::Discarded { objects, .. } => objects_listed(alloc, objects.as_slice())?,
-        Change::Declined { places, .. } => places_listed(places.as_slice()),
-        Change::Chose { candidates } => is_count(candidates.as_slice().len()),
-        Change::Forgot { .. } | Change::Refused { .. } | Change::Turned { .. } => true,
+        Change::Begun(x) => x.body.is_some(),
+        Change::Kept(x) => is_chunk(x.len, x.new, &x.body),
+        Change::Snapped(x) => is_ticket(&x.ticket) && is_count(x.names.as_slice().len()),
+        Change::TookFresh(x) => is_chunk(x.len, x.new, &x.body),
+        Change::TookSwap(x) => is_chunk(x.len, x.new, &x.body) && slots_listed(x.slots.as_slice()),
+        Change::LetGo(x) => slots_listed(x.slots.as_slice()),
+        Change::LetGoBack(x) => are_claims(x.slots.as_slice(), &x.body),
+        Change::Settled(x) => are_claims(x.slots.as_slice(), &x.body),
+        Change::Replaced(x) => has_len(&x.body, if x.place == 0 { CLAIM } else { 0 }),
+        Change::Proposed(x) => deal_in_grammar(&x.what),
+        Change::Asked(x) => objects_listed(alloc, x.objects.as_slice())?,
+        Change::Passed(x) => objects_listed(alloc, x.objects.as_slice())?,
+        Change::Failed(x) => objects_listed(alloc, x.objects.as_slice())?,
+        Change::Discarded(x) => objects_listed(alloc, x.objects.as_slice())?,
+        Change::Declined(x) => places_listed(x.places.as_slice()),
+        Change::Chose(x) => is_count(x.candidates.as_slice().len()),
+        Change::Forgot(_) | Change::Refused(_) | Change::Turned(_) => true,
     })
 }
 
@@ -166,13 +156,13 @@ fn has_body(change: &Change) -> bool
 {
     matches!(
         change,
-        Change::Begun { .. }
-            | Change::Kept { .. }
-            | Change::TookFresh { .. }
-            | Change::TookSwap { .. }
-            | Change::LetGoBack { .. }
-            | Change::Replaced { .. }
-            | Change::Settled { .. }
+        Change::Begun(_)
+            | Change::Kept(_)
+            | Change::TookFresh(_)
+            | Change::TookSwap(_)
+            | Change::LetGoBack(_)
+            | Change::Replaced(_)
+            | Change::Settled(_)
     )
 }
 

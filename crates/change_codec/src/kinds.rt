@@ -7,7 +7,10 @@ use crate::fields::{copied, take_flag, take_ticket, whole};
 use crate::lists::take_list;
 use byte_fields::{take_digest, take_u8, take_u32, take_u64};
 use psb_bytes::{Cursor, PeerId};
-use psb_model::Change;
+use psb_model::{
+    Asked, Begun, Change, Chose, Declined, Discarded, Failed, Forgot, Kept, LetGo, LetGoBack,
+    Passed, Refused, Replaced, Settled, Snapped, TookFresh, TookSwap, Turned,
+};
 use std::alloc::Global;
 
 #[tactic(auto, unfolding(crate::specs::Reading::begun_at))]
@@ -19,7 +22,7 @@ pub(crate) fn begun(
     ensures { Answers result (begun_at fields.old (option_map (λ b. b.now) body.entry)) }
 {
     let body = copied(alloc, body)?;
-    whole(fields, Change::Begun { body })
+    whole(fields, Change::Begun(Begun { body }))
 }
 
 #[tactic(auto, unfolding(crate::specs::Reading::kept_at))]
@@ -34,12 +37,12 @@ pub(crate) fn kept(
     let len = take_u32(fields)?;
     let new = take_flag(fields)?;
     let body = copied(alloc, body)?;
-    let change = Change::Kept {
+    let change = Change::Kept(Kept {
         name,
         len,
         new,
         body,
-    };
+    });
     whole(fields, change)
 }
 
@@ -54,7 +57,7 @@ pub(crate) fn snapped(alloc: Global, fields: &mut Cursor<'_>) -> Result<Change, 
     let bytes = take_u64(fields)?;
     let left = take_u32(fields)?;
     let names = take_list(alloc, fields)?;
-    let change = Change::Snapped {
+    let change = Change::Snapped(Snapped {
         number,
         ticket,
         files,
@@ -62,7 +65,7 @@ pub(crate) fn snapped(alloc: Global, fields: &mut Cursor<'_>) -> Result<Change, 
         bytes,
         left,
         names,
-    };
+    });
     whole(fields, change)
 }
 
@@ -71,7 +74,7 @@ pub(crate) fn forgot(fields: &mut Cursor<'_>) -> Result<Change, ChangeError>
     ensures { Answers result (forgot_at fields.old) }
 {
     let number = take_u32(fields)?;
-    whole(fields, Change::Forgot { number })
+    whole(fields, Change::Forgot(Forgot { number }))
 }
 
 #[tactic(auto, unfolding(crate::specs::Reading::took_fresh_at))]
@@ -89,7 +92,7 @@ pub(crate) fn took_fresh(
     let len = take_u32(fields)?;
     let new = take_flag(fields)?;
     let body = copied(alloc, body)?;
-    let change = Change::TookFresh {
+    let change = Change::TookFresh(TookFresh {
         peer,
         deal,
         name,
@@ -97,7 +100,7 @@ pub(crate) fn took_fresh(
         len,
         new,
         body,
-    };
+    });
     whole(fields, change)
 }
 
@@ -116,7 +119,7 @@ pub(crate) fn took_swap(
     let len = take_u32(fields)?;
     let new = take_flag(fields)?;
     let body = copied(alloc, body)?;
-    let change = Change::TookSwap {
+    let change = Change::TookSwap(TookSwap {
         peer,
         deal,
         name,
@@ -124,7 +127,7 @@ pub(crate) fn took_swap(
         len,
         new,
         body,
-    };
+    });
     whole(fields, change)
 }
 
@@ -136,12 +139,12 @@ pub(crate) fn let_go(alloc: Global, fields: &mut Cursor<'_>) -> Result<Change, C
     let deal = take_u64(fields)?;
     let name = take_digest(fields)?;
     let slots = take_list(alloc, fields)?;
-    let change = Change::LetGo {
+    let change = Change::LetGo(LetGo {
         peer,
         deal,
         name,
         slots,
-    };
+    });
     whole(fields, change)
 }
 
@@ -158,13 +161,13 @@ pub(crate) fn let_go_back(
     let name = take_digest(fields)?;
     let slots = take_list(alloc, fields)?;
     let body = copied(alloc, body)?;
-    let change = Change::LetGoBack {
+    let change = Change::LetGoBack(LetGoBack {
         peer,
         deal,
         name,
         slots,
         body,
-    };
+    });
     whole(fields, change)
 }
 
@@ -182,14 +185,14 @@ pub(crate) fn replaced(
     let place = take_u8(fields)?;
     let home = take_u32(fields)?;
     let body = copied(alloc, body)?;
-    let change = Change::Replaced {
+    let change = Change::Replaced(Replaced {
         peer,
         deal,
         slot,
         place,
         home,
         body,
-    };
+    });
     whole(fields, change)
 }
 
@@ -201,12 +204,12 @@ pub(crate) fn refused(fields: &mut Cursor<'_>) -> Result<Change, ChangeError>
     let deal = take_u64(fields)?;
     let why = take_u8(fields)?;
     let detail = take_u64(fields)?;
-    let change = Change::Refused {
+    let change = Change::Refused(Refused {
         peer,
         deal,
         why,
         detail,
-    };
+    });
     whole(fields, change)
 }
 
@@ -222,12 +225,12 @@ pub(crate) fn settled(
     let deal = take_u64(fields)?;
     let slots = take_list(alloc, fields)?;
     let body = copied(alloc, body)?;
-    let change = Change::Settled {
+    let change = Change::Settled(Settled {
         peer,
         deal,
         slots,
         body,
-    };
+    });
     whole(fields, change)
 }
 
@@ -239,12 +242,12 @@ pub(crate) fn turned(fields: &mut Cursor<'_>) -> Result<Change, ChangeError>
     let deal = take_u64(fields)?;
     let why = take_u8(fields)?;
     let detail = take_u64(fields)?;
-    let change = Change::Turned {
+    let change = Change::Turned(Turned {
         peer,
         deal,
         why,
         detail,
-    };
+    });
     whole(fields, change)
 }
 
@@ -254,7 +257,7 @@ pub(crate) fn asked(alloc: Global, fields: &mut Cursor<'_>) -> Result<Change, Ch
 {
     let peer = PeerId(take_u32(fields)?);
     let objects = take_list(alloc, fields)?;
-    whole(fields, Change::Asked { peer, objects })
+    whole(fields, Change::Asked(Asked { peer, objects }))
 }
 
 #[tactic(auto, unfolding(crate::specs::Reading::passed_at))]
@@ -264,11 +267,11 @@ pub(crate) fn passed(alloc: Global, fields: &mut Cursor<'_>) -> Result<Change, C
     let peer = PeerId(take_u32(fields)?);
     let asked = take_u64(fields)?;
     let objects = take_list(alloc, fields)?;
-    let change = Change::Passed {
+    let change = Change::Passed(Passed {
         peer,
         asked,
         objects,
-    };
+    });
     whole(fields, change)
 }
 
@@ -281,13 +284,13 @@ pub(crate) fn failed(alloc: Global, fields: &mut Cursor<'_>) -> Result<Change, C
     let how = take_u8(fields)?;
     let got = take_digest(fields)?;
     let objects = take_list(alloc, fields)?;
-    let change = Change::Failed {
+    let change = Change::Failed(Failed {
         peer,
         asked,
         how,
         got,
         objects,
-    };
+    });
     whole(fields, change)
 }
 
@@ -298,11 +301,11 @@ pub(crate) fn declined(alloc: Global, fields: &mut Cursor<'_>) -> Result<Change,
     let peer = PeerId(take_u32(fields)?);
     let asked = take_u64(fields)?;
     let places = take_list(alloc, fields)?;
-    let change = Change::Declined {
+    let change = Change::Declined(Declined {
         peer,
         asked,
         places,
-    };
+    });
     whole(fields, change)
 }
 
@@ -312,7 +315,7 @@ pub(crate) fn discarded(alloc: Global, fields: &mut Cursor<'_>) -> Result<Change
 {
     let peer = PeerId(take_u32(fields)?);
     let objects = take_list(alloc, fields)?;
-    whole(fields, Change::Discarded { peer, objects })
+    whole(fields, Change::Discarded(Discarded { peer, objects }))
 }
 
 #[tactic(auto, unfolding(crate::specs::Reading::chose_at))]
@@ -320,5 +323,5 @@ pub(crate) fn chose(alloc: Global, fields: &mut Cursor<'_>) -> Result<Change, Ch
     ensures { Answers result (chose_at fields.old) }
 {
     let candidates = take_list(alloc, fields)?;
-    whole(fields, Change::Chose { candidates })
+    whole(fields, Change::Chose(Chose { candidates }))
 }

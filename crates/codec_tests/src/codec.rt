@@ -1,5 +1,5 @@
 use change_codec::{ChangeError, decode_change, encode_change};
-use psb_bytes::{Digest, Memory, Ticket};
+use psb_bytes::{Digest, Memory};
 use psb_model::Change;
 use std::alloc::Global;
 use std::test::Fail;
@@ -186,21 +186,14 @@ fn records_of_a_first_path_are_read_and_written(rt: HostRuntime) -> Result<(), F
 
 #[test]
 fn the_fields_of_a_stored_chunk_are_those_of_its_head(rt: HostRuntime) -> Result<(), Fail> {
-    match decode_change(rt.alloc(), &FRESH, None)? {
-        Change::TookFresh {
-            peer,
-            deal,
-            name,
-            first,
-            len,
-            new,
-            body,
-        } => {
+    let change = decode_change(rt.alloc(), &FRESH, None)?;
+    match &change {
+        Change::TookFresh(x) => {
             assert_eq!(rt;
-                (peer.0, deal, name.0[0], first, len, new),
+                (x.peer.0, x.deal, x.name.0[0], x.first, x.len, x.new),
                 (2, 1, 0xd8, 0, 512, true)
             );
-            assert!(rt; body.is_none());
+            assert!(rt; x.body.is_none());
         }
         _ => assert!(rt; false, "another kind"),
     }
@@ -210,29 +203,25 @@ fn the_fields_of_a_stored_chunk_are_those_of_its_head(rt: HostRuntime) -> Result
 #[test]
 fn the_fields_of_a_snapshot_are_those_of_its_head(rt: HostRuntime) -> Result<(), Fail> {
     let head = snapped(rt.alloc())?;
-    match decode_change(rt.alloc(), head.as_slice(), None)? {
-        Change::Snapped {
-            number,
-            ticket,
-            files,
-            folders,
-            bytes,
-            left,
-            names,
-        } => {
-            assert_eq!(rt; (number, files, folders, bytes, left), (1, 3, 2, 256, 1));
-            let Ticket { reference, levels } = ticket;
+    let change = decode_change(rt.alloc(), head.as_slice(), None)?;
+    match &change {
+        Change::Snapped(x) => {
+            assert_eq!(rt;
+                (x.number, x.files, x.folders, x.bytes, x.left),
+                (1, 3, 2, 256, 1)
+            );
+            let reference = &x.ticket.reference;
             assert_eq!(rt;
                 (
                     reference.name.0[0],
                     reference.handle.0[0],
                     reference.len,
-                    levels
+                    x.ticket.levels
                 ),
                 (4, 5, 512, 1)
             );
             assert!(rt;
-                names
+                x.names
                     .as_slice()
                     .iter()
                     .eq(&[Digest([6; 32]), Digest([7; 32])])

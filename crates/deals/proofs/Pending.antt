@@ -1,5 +1,5 @@
 -- Whether a pending deal may be settled, as it is looked up.
-use Rattle.std.proofs.Common.{◌≡◌, ℕ, Bool, true, false, not, ◌&&◌, ◌==◌, is_none, unwrap_or, List, [], ◌∷◌, length, Option, Some, None, refl, sym, ap, ◌∙◌, arith}
+use Rattle.std.proofs.Common.{◌≡◌, ℕ, Bool, true, false, not, ◌&&◌, ◌==◌, is_none, unwrap_or, List, [], ◌∷◌, length, Option, Some, refl, sym, ap, ◌∙◌}
 use Rattle.std.proofs.lemmas.Bool.{eq-eqb}
 use Rattle.psb_bytes.specs.declared.ids.Object.{Object}
 use Rattle.psb_bytes.specs.declared.ids.Object.TheVariants.{Slot}
@@ -11,7 +11,7 @@ use Rattle.psb_model.specs.State.{State, row, in_key, own_has, own_len}
 use Rattle.psb_model.specs.Conditions.{each_slot, may_settle}
 use Rattle.psb_model.proofs.ByObject.{by_cases}
 use Rattle.psb_machine.specs.Deals.{first_slot}
-use Rattle.psb_ledger.specs.OwnList.{known_len}
+use Rattle.own_chunks.specs.OwnList.{known_len}
 
 lacks_len : (own : List OwnEntry) (n : List ℕ) → own_has own n ≡ false → own_len own n ≡ 0
 lacks_len [] n h = refl
@@ -30,4 +30,7 @@ none_found test (n ∷ ns) = by_cases (test (Slot n)) (λ k. rw k refl) (λ k. r
 pub fresh_settles : (s : State) (p : ℕ) (o : Option Deal) (d : Deal) (name numbers : List ℕ) → o ≡ Some d → d.what ≡ Fresh name → length numbers ≡ units (own_len s.own name) → is_none (first_slot (has in_key (row s p).ins) numbers) ≡ may_settle s p o numbers
 fresh_settles s p o d name numbers pending is long =
     let same : (length numbers == units (own_len s.own name)) ≡ true = eq-eqb (length numbers) (units (own_len s.own name)) long in
-    rw (pending, is, same) (none_found (has in_key (row s p).ins) numbers)
+    none_found (has in_key (row s p).ins) numbers
+    ∙ sym (ap (λ b. b && each_slot (λ o. not (has in_key (row s p).ins o)) numbers) same)
+    ∙ ap (λ w. may_settle s p (Some (record { number = d.number; what = w })) numbers) (sym is)
+    ∙ ap (λ x. may_settle s p x numbers) (sym pending)

@@ -9,7 +9,7 @@ use crate::taking::taken;
 use crate::{DealView, Facts};
 use psb_bytes::{Memory, PeerId};
 use psb_ledger::Ledger;
-use psb_model::Change;
+use psb_model::{Change, Refused};
 use std::alloc::Global;
 
 /// The change that the next deal of a peer makes: it is taken, or refused for the first reason that holds.
@@ -24,14 +24,14 @@ pub fn judge(
     requires more { (row ledger.now.state peer).last.number + 1 < 2 ^ 64 }
     ensures { IfOk result (λ c. c ≡ judge (facts_in facts.now) ledger.now.state peer ((row ledger.now.state peer).last.number + 1) (deal_in deal.now)) }
 {
-    let number = ledger.last(peer).number + 1;
+    let number = ledger.row(peer).last().number + 1;
     match refusal(ledger, peer, deal, facts) {
         None => taken(alloc, peer, number, deal, facts),
-        Some(refusal) => Ok(Change::Refused {
+        Some(refusal) => Ok(Change::Refused(Refused {
             peer,
             deal: number,
             why: refusal.why.code(),
             detail: refusal.detail,
-        }),
+        })),
     }
 }

@@ -7,9 +7,10 @@ ghost use Rattle.psb_model.specs.Proposing.{cancel, put_back, release_of, releas
 ghost use Rattle.deals.specs.Views.{propose_facts_in};
 ghost use Rattle.deals.specs.Placing.{most_units, placed_with};
 
+use next_deals::Planner;
 use psb_bytes::{Digest, Memory, Object, ObjectList, PeerId, SlotList, units_of};
 use psb_ledger::Ledger;
-use psb_model::{Change, DealWhat, OutEntry, OwnEntry, may_issue};
+use psb_model::{Change, DealWhat, OutEntry, OwnEntry, Proposed, may_issue};
 use std::alloc::Global;
 
 /// What is looked up before a deal is proposed.
@@ -29,17 +30,17 @@ const MOST_UNITS: u32 = 64;
 /// A Cancel of the chunk against slots of the peer here, None where there are too few or the peer turned one
 /// down before.
 fn cancel(
-    ledger: &Ledger,
+    planner: &Planner,
     peer: PeerId,
     name: &Digest,
     units: u32,
 ) -> Result<Option<DealWhat>, Memory>
-    ensures { IfOk result (λ o. o ≡ cancel ledger.now.state peer name.now units) }
+    ensures { IfOk result (λ o. o ≡ cancel planner.now.state peer name.now units) }
 {
-    if ledger.is_cancel_turned(peer, name) {
+    if planner.ledger().row(peer).is_cancel_turned(name) {
         return Ok(None);
     }
-    let slots = ledger.slots_to_give(peer, units as usize)?;
+    let slots = planner.slots_to_give(peer, units as usize)?;
     if slots.as_slice().len() < units as usize {
         return Ok(None);
     }
@@ -60,17 +61,17 @@ fn put_back(issued: u32, name: &Digest, units: u32) -> Option<DealWhat>
 }
 
 fn release_of(
-    ledger: &Ledger,
+    planner: &Planner,
     peer: PeerId,
     issued: u32,
     entry: &OutEntry,
 ) -> Result<Option<DealWhat>, Memory>
-    ensures { IfOk result (λ o. o ≡ release_of ledger.now.state peer issued entry.now) }
+    ensures { IfOk result (λ o. o ≡ release_of planner.now.state peer issued entry.now) }
 {
     let Object::Chunk(name) = &entry.object else {
         return Ok(None);
     };
-    match cancel(ledger, peer, name, entry.units)? {
+    match cancel(planner, peer, name, entry.units)? {
         Some(what) => Ok(Some(what)),
         None => Ok(put_back(issued, name, entry.units)),
     }
@@ -78,16 +79,16 @@ fn release_of(
 
 /// The release of the least marked chunk there, None where there is none, or it can't be released.
 fn release(
-    ledger: &Ledger,
+    planner: &Planner,
     peer: PeerId,
     probed: &[Object],
     issued: u32,
 ) -> Result<Option<DealWhat>, Memory>
-    ensures { IfOk result (λ o. o ≡ release ledger.now.state peer probed.now issued) }
+    ensures { IfOk result (λ o. o ≡ release planner.now.state peer probed.now issued) }
 {
-    match ledger.to_release(peer, probed) {
+    match planner.to_release(peer, probed) {
         None => Ok(None),
-        Some(entry) => release_of(ledger, peer, issued, &entry),
+        Some(entry) => release_of(planner, peer, issued, &entry),
     }
 }
 
@@ -124,33 +125,33 @@ fn is_buddy(ledger: &Ledger, peer: PeerId) -> bool
 /// The least missing chunk that can be placed there, None where there is none, or the peer is no buddy.
 fn place(
     alloc: Global,
-    ledger: &Ledger,
+    planner: &Planner,
     peer: PeerId,
     probed: &[Object],
     capacity: u32,
 ) -> Result<Option<DealWhat>, Memory>
-    ensures { IfOk result (λ o. o ≡ place ledger.now.state peer probed.now capacity) }
+    ensures { IfOk result (λ o. o ≡ place planner.now.state peer probed.now capacity) }
 {
-    if !is_buddy(ledger, peer) {
+    if !is_buddy(planner.ledger(), peer) {
         return Ok(None);
     }
-    first_place(alloc, ledger, peer, probed, capacity)
+    first_place(alloc, planner, peer, probed, capacity)
 }
 
 /// The least missing chunk that can be placed there.
 fn first_place(
     alloc: Global,
-    ledger: &Ledger,
+    planner: &Planner,
     peer: PeerId,
     probed: &[Object],
     capacity: u32,
 ) -> Result<Option<DealWhat>, Memory>
-    ensures { IfOk result (λ o. o ≡ first_place ledger.now.state peer probed.now capacity ledger.now.state.own) }
+    ensures { IfOk result (λ o. o ≡ first_place planner.now.state peer probed.now capacity planner.now.state.own) }
 {
-    ledger.is_reached();
-    let slots = ledger.slots_to_fill(peer, probed, MOST_UNITS as usize)?;
-    let most = most_units(ledger, slots.as_slice(), capacity);
-    match ledger.to_place(peer, most) {
+    planner.ledger().is_reached();
+    let slots = planner.slots_to_fill(peer, probed, MOST_UNITS as usize)?;
+    let most = most_units(planner.ledger(), slots.as_slice(), capacity);
+    match planner.to_place(peer, most) {
         None => Ok(None),
         Some(chunk) => Ok(Some(placed_with(alloc, slots.as_slice(), &chunk)?)),
     }
@@ -159,16 +160,16 @@ fn first_place(
 /// What is proposed to the peer next.
 fn proposal(
     alloc: Global,
-    ledger: &Ledger,
+    planner: &Planner,
     peer: PeerId,
     probed: &[Object],
     facts: &ProposeFacts,
 ) -> Result<Option<DealWhat>, Memory>
-    ensures { IfOk result (λ o. o ≡ proposal ledger.now.state peer probed.now (propose_facts_in facts.now)) }
+    ensures { IfOk result (λ o. o ≡ proposal planner.now.state peer probed.now (propose_facts_in facts.now)) }
 {
-    match release(ledger, peer, probed, facts.issued)? {
+    match release(planner, peer, probed, facts.issued)? {
         Some(what) => Ok(Some(what)),
-        None => place(alloc, ledger, peer, probed, facts.capacity),
+        None => place(alloc, planner, peer, probed, facts.capacity),
     }
 }
 
@@ -177,36 +178,36 @@ fn proposal(
 /// objects that a running probe of the peer lists.
 pub fn propose(
     alloc: Global,
-    ledger: &Ledger,
+    planner: &Planner,
     peer: PeerId,
     listed: &ObjectList,
     facts: &ProposeFacts,
 ) -> Result<Option<Change>, Memory>
-    requires { (row ledger.now.state peer).mine + 1 < 2 ^ 64 }
-    ensures { IfOk result (λ c. c ≡ propose ledger.now.state peer listed.now (propose_facts_in facts.now)) }
+    requires { (row planner.now.state peer).mine + 1 < 2 ^ 64 }
+    ensures { IfOk result (λ c. c ≡ propose planner.now.state peer listed.now (propose_facts_in facts.now)) }
 {
-    let Some(what) = proposal(alloc, ledger, peer, listed.as_slice(), facts)? else {
+    let Some(what) = proposal(alloc, planner, peer, listed.as_slice(), facts)? else {
         return Ok(None);
     };
-    Ok(Some(Change::Proposed {
+    Ok(Some(Change::Proposed(Proposed {
         peer,
-        deal: ledger.mine(peer) + 1,
+        deal: planner.ledger().row(peer).mine() + 1,
         what,
-    }))
+    })))
 }
 
 /// Looks ahead for the next deal with the peer, so that `propose` finds it in few steps. Nothing that the ledger
 /// tells changes.
 pub fn look_ahead(
-    ledger: &mut Ledger,
+    planner: &mut Planner,
     peer: PeerId,
     listed: &ObjectList,
     facts: &ProposeFacts,
 ) -> Result<(), Memory>
-    ensures { ledger.new ≡ ledger.old }
+    ensures { planner.new ≡ planner.old }
 {
-    let slots = ledger.slots_to_fill(peer, listed.as_slice(), MOST_UNITS as usize)?;
-    let most = most_units(ledger, slots.as_slice(), facts.capacity);
-    ledger.seek(peer, most);
+    let slots = planner.slots_to_fill(peer, listed.as_slice(), MOST_UNITS as usize)?;
+    let most = most_units(planner.ledger(), slots.as_slice(), facts.capacity);
+    planner.seek(peer, most);
     Ok(())
 }

@@ -32,7 +32,7 @@ fn name_reason(ledger: &Ledger, peer: PeerId, name: &Digest, facts: &Facts) -> O
 {
     if !facts.name_fits {
         Some(Reason::BadName)
-    } else if ledger.has_held(peer, &Object::Chunk(*name)) {
+    } else if ledger.row(peer).has(&Object::Chunk(*name)) {
         Some(Reason::Already)
     } else if facts.clash {
         Some(Reason::Clash)
@@ -66,7 +66,7 @@ fn fresh_refusal(
         return Some(told(why, 0));
     }
     let units = units_of(bytes.len() as u32);
-    let (used, debt) = (ledger.used(), ledger.debt_units(peer));
+    let (used, debt) = (ledger.used(), ledger.row(peer).debt());
     let (why, detail) = if debt > 0 {
         (Reason::Indebted, debt)
     } else if u64::from(used) + u64::from(units) > u64::from(facts.capacity) {
@@ -102,7 +102,7 @@ fn swap_refusal(
     if let Some(refusal) = unequal(slots.len(), units_of(bytes.len() as u32)) {
         return Some(refusal);
     }
-    let debt = ledger.debt_units(peer);
+    let debt = ledger.row(peer).debt();
     if debt > 0 {
         return Some(told(Reason::Indebted, debt));
     }
@@ -120,6 +120,7 @@ fn cancel_refusal(
     ensures { result ≡ first_that_holds (reasons (facts_in facts.now) ledger.now.state peer (Cancel name.now slots.now)) }
 {
     let chunk = Object::Chunk(*name);
+    let row = ledger.row(peer);
     if let Some(slot) = first_slot(ledger, peer, slots, Sought::Engaged) {
         return Some(told(Reason::Busy, slot));
     }
@@ -127,10 +128,10 @@ fn cancel_refusal(
     if let Some(slot) = first_slot(ledger, peer, slots, Sought::NotOut) {
         return Some(told(Reason::NotThere, slot));
     }
-    if !ledger.has_held(peer, &chunk) {
+    if !row.has(&chunk) {
         return Some(told(Reason::NotThere, 0));
     }
-    unequal(slots.len(), ledger.units_held(peer, &chunk))
+    unequal(slots.len(), row.units_held(&chunk))
 }
 
 // As of a cancel, the facts stand for the clause alone.
@@ -144,13 +145,14 @@ fn put_back_refusal(
     ensures { result ≡ first_that_holds (reasons (facts_in facts.now) ledger.now.state peer (PutBack name.now claims.now)) }
 {
     let chunk = Object::Chunk(*name);
+    let row = ledger.row(peer);
     if let Some(slot) = first_claim(ledger, peer, claims, Sought::In) {
         return Some(told(Reason::Already, slot));
     }
-    if !ledger.has_held(peer, &chunk) {
+    if !row.has(&chunk) {
         return Some(told(Reason::NotThere, 0));
     }
-    unequal(claims.len(), ledger.units_held(peer, &chunk))
+    unequal(claims.len(), row.units_held(&chunk))
 }
 
 /// Why a fresh deal of a peer is refused: the first reason of its kind that holds, with its detail, or

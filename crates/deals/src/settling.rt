@@ -1,10 +1,9 @@
 //! The change that a reply to an own deal makes.
 
 ghost use Rattle.std.specs.Prelude.{◌≡◌, Some, IfOk};
-ghost use Rattle.psb_model.specs.State.{row};
+ghost use Rattle.psb_model.specs.State.{row, own_len};
 ghost use Rattle.psb_model.specs.Words.{units};
-ghost use Rattle.psb_model.specs.State.{own_len};
-ghost use Rattle.psb_model.specs.Conditions.{is_pending, may_settle};
+ghost use Rattle.psb_model.specs.Conditions.{may_settle};
 ghost use Rattle.psb_machine.specs.Deals.{slots_of};
 ghost use Rattle.psb_machine.specs.Settling.{Accepts, Refuses, settle};
 ghost use Rattle.deals.specs.Views.{answer_in};
@@ -14,19 +13,9 @@ use crate::taking::joined;
 use crate::{AnswerView, ReplyView};
 use psb_bytes::{Digest, Memory, PeerId, units_of};
 use psb_ledger::Ledger;
-use psb_model::{Change, DealWhat};
+use psb_model::{Change, DealWhat, Settled, Turned};
 use std::alloc::Global;
 use wire_codec::ClaimsView;
-
-/// Whether the deal of this number is pending with the peer.
-fn is_pending(ledger: &Ledger, peer: PeerId, number: u64) -> bool
-    ensures { result ≡ is_pending (row ledger.now.state peer).pending number }
-{
-    match ledger.pending(peer) {
-        None => false,
-        Some(deal) => deal.number == number,
-    }
-}
 
 /// The units of an own chunk.
 fn own_units(ledger: &Ledger, name: &Digest) -> usize
@@ -40,7 +29,7 @@ fn own_units(ledger: &Ledger, name: &Digest) -> usize
 fn may_settle(ledger: &Ledger, peer: PeerId, claims: &ClaimsView<'_>) -> bool
     ensures { result ≡ may_settle ledger.now.state peer (row ledger.now.state peer).pending (slots_of claims.now) }
 {
-    let Some(deal) = ledger.pending(peer) else {
+    let Some(deal) = ledger.row(peer).pending() else {
         return false;
     };
     match &deal.what {
@@ -61,26 +50,29 @@ fn accepted(
 ) -> Result<Option<Change>, Memory>
     ensures { IfOk result (λ c. c ≡ settle ledger.now.state peer number (Accepts claims.now)) }
 {
-    if !is_pending(ledger, peer, number) || !may_settle(ledger, peer, claims) {
+    if !ledger.row(peer).is_pending(number) || !may_settle(ledger, peer, claims) {
         return Ok(None);
     }
-    Ok(Some(Change::Settled {
+    Ok(Some(Change::Settled(Settled {
         peer,
         deal: number,
         slots: claim_slots(alloc, claims)?,
         body: Some(joined(alloc, claims)?),
-    }))
+    })))
 }
 
 fn refused(ledger: &Ledger, peer: PeerId, number: u64, why: u8, detail: u64) -> Option<Change>
     ensures { result ≡ settle ledger.now.state peer number (Refuses why detail) }
 {
-    is_pending(ledger, peer, number).then_some(Change::Turned {
-        peer,
-        deal: number,
-        why,
-        detail,
-    })
+    ledger
+        .row(peer)
+        .is_pending(number)
+        .then_some(Change::Turned(Turned {
+            peer,
+            deal: number,
+            why,
+            detail,
+        }))
 }
 
 /// The change that a peer's reply makes, None exactly where it does not fit the pending deal.

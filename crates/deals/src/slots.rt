@@ -32,11 +32,14 @@ impl Sought {
     {
         let slot = Object::Slot(slot);
         match self {
-            Sought::In => ledger.has_held(peer, &slot),
-            Sought::NotIn => !ledger.has_held(peer, &slot),
+            Sought::In => ledger.row(peer).has(&slot),
+            Sought::NotIn => !ledger.row(peer).has(&slot),
             Sought::TiedIn => ledger.tied_in(peer, &slot),
-            Sought::NotOut => !ledger.has_out(peer, &slot),
-            Sought::Engaged => ledger.tied_out(peer, &slot) || ledger.carries(peer, &slot),
+            Sought::NotOut => !ledger.row(peer).has_out(&slot),
+            Sought::Engaged => {
+                let row = ledger.row(peer);
+                row.ties_out(&slot) || row.carries(&slot)
+            }
         }
     }
 }

@@ -8,7 +8,7 @@ ghost use Rattle.deals.specs.Views.{deal_in};
 use crate::slots::claim_slots;
 use crate::{DealView, Facts};
 use psb_bytes::{Bytes, Memory, PeerId};
-use psb_model::Change;
+use psb_model::{Change, LetGo, LetGoBack, TookFresh, TookSwap};
 use std::alloc::Global;
 use wire_codec::ClaimsView;
 
@@ -43,7 +43,7 @@ pub(crate) fn taken(
     ensures { IfOk result (λ c. c ≡ takes facts.now.issued facts.now.new_body peer number (deal_in deal.now)) }
 {
     match deal {
-        DealView::StoreFresh { name, bytes } => Ok(Change::TookFresh {
+        DealView::StoreFresh { name, bytes } => Ok(Change::TookFresh(TookFresh {
             peer,
             deal: number,
             name: *name,
@@ -51,8 +51,8 @@ pub(crate) fn taken(
             len: bytes.len() as u32,
             new: facts.new_body,
             body: Some(sealed(alloc, facts.new_body, bytes)?),
-        }),
-        DealView::StoreSwap { name, slots, bytes } => Ok(Change::TookSwap {
+        })),
+        DealView::StoreSwap { name, slots, bytes } => Ok(Change::TookSwap(TookSwap {
             peer,
             deal: number,
             name: *name,
@@ -60,19 +60,19 @@ pub(crate) fn taken(
             len: bytes.len() as u32,
             new: facts.new_body,
             body: Some(sealed(alloc, facts.new_body, bytes)?),
-        }),
-        DealView::Cancel { name, slots } => Ok(Change::LetGo {
+        })),
+        DealView::Cancel { name, slots } => Ok(Change::LetGo(LetGo {
             peer,
             deal: number,
             name: *name,
             slots: slots.to_list(alloc)?,
-        }),
-        DealView::PutBack { name, claims } => Ok(Change::LetGoBack {
+        })),
+        DealView::PutBack { name, claims } => Ok(Change::LetGoBack(LetGoBack {
             peer,
             deal: number,
             name: *name,
             slots: claim_slots(alloc, claims)?,
             body: Some(joined(alloc, claims)?),
-        }),
+        })),
     }
 }

@@ -9,10 +9,11 @@ mod proposals;
 mod replies;
 
 use super::*;
+use next_deals::Planner;
 use psb_bytes::{Bytes, Digest, Memory, PeerId, SlotList};
 use psb_digest::hmac;
 use psb_ledger::Ledger;
-use psb_model::Change;
+use psb_model::{Begun, Change, LetGoBack, Refused, TookFresh};
 use std::alloc::Global;
 use std::process::Abort;
 use std::test::Fail;
@@ -229,12 +230,13 @@ fn sealed(alloc: Global, kind: u8, body: &[u8]) -> Result<Vec<u8>, Fail> {
 }
 
 /// Makes room for a change, and applies it.
-fn make(rt: &impl Abort, ledger: &mut Ledger, c: Change) -> Result<(), Memory>
+fn make(rt: &impl Abort, ledger: &mut Planner, c: Change) -> Result<(), Memory>
     requires { IsTrue (in_grammar c) }
 {
     ledger.make_room(&c)?;
-    assert!(rt; ledger.changes() < 1000);
-    assert!(rt; ledger.apply(c).is_ok());
+    assert!(rt; ledger.ledger().changes() < 1000);
+    assert!(rt; ledger.ledger().allows(&c));
+    ledger.apply(c);
     Ok(())
 }
 
@@ -242,7 +244,7 @@ fn make(rt: &impl Abort, ledger: &mut Ledger, c: Change) -> Result<(), Memory>
 fn fresh(deal: u64, tag: u8, first: u32) -> Change
     ensures { IsTrue (in_grammar result) }
 {
-    Change::TookFresh {
+    Change::TookFresh(TookFresh {
         peer: PEER,
         deal,
         name: Digest([tag; 32]),
@@ -250,33 +252,33 @@ fn fresh(deal: u64, tag: u8, first: u32) -> Change
         len: 600,
         new: true,
         body: None,
-    }
+    })
 }
 
 /// The chunk is let go against the slots 9 and 12.
 fn put_back(alloc: Global, deal: u64, tag: u8) -> Result<Change, Memory>
     ensures { IfOk result (λ c. IsTrue (in_grammar c)) }
 {
-    Ok(Change::LetGoBack {
+    Ok(Change::LetGoBack(LetGoBack {
         peer: PEER,
         deal,
         name: Digest([tag; 32]),
         slots: SlotList::copy(alloc, &[9, 12])?,
         body: None,
-    })
+    }))
 }
 
 fn begun(alloc: Global) -> Result<Change, Memory>
     ensures { IfOk result (λ c. IsTrue (in_grammar c)) }
 {
     let body = Some(Bytes::copy(alloc, SETTINGS)?);
-    Ok(Change::Begun { body })
+    Ok(Change::Begun(Begun { body }))
 }
 
 /// Peer 2 has chunk 7 of two units here, and the slots 9 and 12, where chunk 6 was; the node has the slots
 /// 0 to 3 there.
-fn with_slots(rt: &impl Abort, alloc: Global) -> Result<Ledger, Memory> {
-    let mut ledger = Ledger::new(alloc);
+fn with_slots(rt: &impl Abort, alloc: Global) -> Result<Planner, Memory> {
+    let mut ledger = Planner::new(alloc);
     make(rt, &mut ledger, begun(alloc)?)?;
     make(rt, &mut ledger, fresh(1, 7, 0))?;
     make(rt, &mut ledger, fresh(2, 6, 2))?;
@@ -287,11 +289,11 @@ fn with_slots(rt: &impl Abort, alloc: Global) -> Result<Ledger, Memory> {
 /// What comes of a deal.
 fn told(change: &Change) -> (u8, u64) {
     match change {
-        Change::Refused { why, detail, .. } => (*why, *detail),
-        Change::TookFresh { .. } => (0, 5),
-        Change::TookSwap { .. } => (0, 6),
-        Change::LetGo { .. } => (0, 7),
-        Change::LetGoBack { .. } => (0, 8),
+        Change::Refused(Refused { why, detail, .. }) => (*why, *detail),
+        Change::TookFresh(_) => (0, 5),
+        Change::TookSwap(_) => (0, 6),
+        Change::LetGo(_) => (0, 7),
+        Change::LetGoBack(_) => (0, 8),
         _ => (0, 0),
     }
 }
@@ -321,7 +323,7 @@ fn judged(
     let FrameView { body, .. } = decode(datagram, PeerId(1), &keys)?;
     let deal = DealView::of(body).ok_or("the frame asks for a deal")?;
     assert!(rt; is_short(&deal));
-    assert!(rt; ledger.last(PEER).number < 1000);
+    assert!(rt; ledger.row(PEER).last().number < 1000);
     Ok(told(&judge(alloc, ledger, PEER, &deal, facts)?))
 }
 
@@ -339,7 +341,7 @@ fn run_rows(rt: &impl Abort, alloc: Global, rows: &[Row]) -> Result<(), Fail> {
             capacity: *capacity,
         };
         assert_eq!(rt;
-            judged(rt, alloc, &ledger, &frame, &facts)?,
+            judged(rt, alloc, ledger.ledger(), &frame, &facts)?,
             *want,
             "{what}"
         );

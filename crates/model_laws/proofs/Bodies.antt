@@ -82,25 +82,43 @@ right_more s s' c (d ∷ ds) law last r =
 
 -- a change that brings bytes has them, and the beginning has its text
 right_here : (s : State) (c : Change) (later : List Change) → is_built c ≡ true → in_grammar c ≡ true → brings_right c ≡ true → (not (is_needed_by s c later) || body_is_right c) ≡ true
-right_here s (Begun None) later b g r = absurd (false≢true g)
-right_here s (Begun (Some text)) later b g r = refl
-right_here s (Kept name len true body) later b g r = rw r (or_true (not (is_needed_by s (Kept name len true body) later)))
-right_here s (Kept name len false body) later b g r = refl
-right_here s (Snapped number ticket files folders bytes left names) later b g r = refl
-right_here s (Forgot number) later b g r = refl
-right_here s (TookFresh q deal name first len true body) later b g r = rw r (or_true (not (is_needed_by s (TookFresh q deal name first len true body) later)))
-right_here s (TookFresh q deal name first len false body) later b g r = refl
-right_here s (TookSwap q deal name numbers len true body) later b g r = rw r (or_true (not (is_needed_by s (TookSwap q deal name numbers len true body) later)))
-right_here s (TookSwap q deal name numbers len false body) later b g r = refl
-right_here s (LetGo q deal name numbers) later b g r = refl
-right_here s (LetGoBack q deal name [] body) later b g r = refl
-right_here s (LetGoBack q deal name (n ∷ ns) body) later b g r = rw r (or_true (not (is_needed_by s (LetGoBack q deal name (n ∷ ns) body) later)))
-right_here s (Refused q deal why detail) later b g r = refl
-right_here s (Proposed q deal what) later b g r = refl
-right_here s (Settled q deal [] body) later b g r = refl
-right_here s (Settled q deal (n ∷ ns) body) later b g r = rw r (or_true (not (is_needed_by s (Settled q deal (n ∷ ns) body) later)))
-right_here s (Turned q deal why detail) later b g r = refl
-right_here s (Chose candidates) later b g r = refl
+right_here s (Begun x) later b g r = by_body x.body g
+  where
+    by_body : (body : Option (List ℕ)) → in_grammar (Begun (record { body = body })) ≡ true → (not (is_needed_by s (Begun (record { body = body })) later) || body_is_right (Begun (record { body = body }))) ≡ true
+    by_body None k = absurd (false≢true k)
+    by_body (Some text) k = refl
+right_here s (Kept x) later b g r = by_new x.new r
+  where
+    by_new : (new : Bool) → brings_right (Kept (record x { new = new })) ≡ true → (not (is_needed_by s (Kept (record x { new = new })) later) || body_is_right (Kept (record x { new = new }))) ≡ true
+    by_new true k = rw k (or_true (not (is_needed_by s (Kept (record x { new = true })) later)))
+    by_new false k = refl
+right_here s (Snapped x) later b g r = refl
+right_here s (Forgot x) later b g r = refl
+right_here s (TookFresh x) later b g r = by_new x.new r
+  where
+    by_new : (new : Bool) → brings_right (TookFresh (record x { new = new })) ≡ true → (not (is_needed_by s (TookFresh (record x { new = new })) later) || body_is_right (TookFresh (record x { new = new }))) ≡ true
+    by_new true k = rw k (or_true (not (is_needed_by s (TookFresh (record x { new = true })) later)))
+    by_new false k = refl
+right_here s (TookSwap x) later b g r = by_new x.new r
+  where
+    by_new : (new : Bool) → brings_right (TookSwap (record x { new = new })) ≡ true → (not (is_needed_by s (TookSwap (record x { new = new })) later) || body_is_right (TookSwap (record x { new = new }))) ≡ true
+    by_new true k = rw k (or_true (not (is_needed_by s (TookSwap (record x { new = true })) later)))
+    by_new false k = refl
+right_here s (LetGo x) later b g r = refl
+right_here s (LetGoBack x) later b g r = by_slots x.slots r
+  where
+    by_slots : (numbers : List ℕ) → brings_right (LetGoBack (record x { slots = numbers })) ≡ true → (not (is_needed_by s (LetGoBack (record x { slots = numbers })) later) || body_is_right (LetGoBack (record x { slots = numbers }))) ≡ true
+    by_slots [] k = refl
+    by_slots (n ∷ ns) k = rw k (or_true (not (is_needed_by s (LetGoBack (record x { slots = n ∷ ns })) later)))
+right_here s (Refused x) later b g r = refl
+right_here s (Proposed x) later b g r = refl
+right_here s (Settled x) later b g r = by_slots x.slots r
+  where
+    by_slots : (numbers : List ℕ) → brings_right (Settled (record x { slots = numbers })) ≡ true → (not (is_needed_by s (Settled (record x { slots = numbers })) later) || body_is_right (Settled (record x { slots = numbers }))) ≡ true
+    by_slots [] k = refl
+    by_slots (n ∷ ns) k = rw k (or_true (not (is_needed_by s (Settled (record x { slots = n ∷ ns })) later)))
+right_here s (Turned x) later b g r = refl
+right_here s (Chose x) later b g r = refl
 right_here s _ later b g r = absurd (false≢true b)
 
 -- a history has the bodies that it needs where each change has those that it brings
@@ -136,29 +154,35 @@ if_needed a r k h = rw k at h
 
 -- so a change that gives slots their bytes has them, where it has what is needed
 slots_right : (s : State) (c : Change) → IsPlain s → is_built c ≡ true → allowed s c ≡ true → (not (is_needed_by (after s c) c []) || body_is_right c) ≡ true → (no_slots (slots_given c) || body_is_right c) ≡ true
-slots_right s (Begun body) p b h r = refl
-slots_right s (Kept name len new body) p b h r = refl
-slots_right s (Snapped number ticket files folders bytes left names) p b h r = refl
-slots_right s (Forgot number) p b h r = refl
-slots_right s (TookFresh q deal name first len new body) p b h r = refl
-slots_right s (TookSwap q deal name numbers len new body) p b h r = refl
-slots_right s (LetGo q deal name numbers) p b h r = refl
-slots_right s (LetGoBack q deal name [] body) p b h r = refl
-slots_right s (LetGoBack q deal name (n ∷ ns) body) p b h r =
-    let c : Change = LetGoBack q deal name (n ∷ ns) body in
-    let it : gives_slot q n c ≡ true = rw (eq-eqb q q refl, eq-eqb n n refl) refl in
-    let needed : is_needed_by (after s c) c [] ≡ true = rw (given_is_direct s c q n p refl h it) refl in
-    if_needed (is_needed_by (after s c) c []) (body_is_right c) needed r
-slots_right s (Refused q deal why detail) p b h r = refl
-slots_right s (Proposed q deal what) p b h r = refl
-slots_right s (Settled q deal [] body) p b h r = refl
-slots_right s (Settled q deal (n ∷ ns) body) p b h r =
-    let c : Change = Settled q deal (n ∷ ns) body in
-    let it : gives_slot q n c ≡ true = rw (eq-eqb q q refl, eq-eqb n n refl) refl in
-    let needed : is_needed_by (after s c) c [] ≡ true = rw (given_is_direct s c q n p refl h it) refl in
-    if_needed (is_needed_by (after s c) c []) (body_is_right c) needed r
-slots_right s (Turned q deal why detail) p b h r = refl
-slots_right s (Chose candidates) p b h r = refl
+slots_right s (Begun x) p b h r = refl
+slots_right s (Kept x) p b h r = refl
+slots_right s (Snapped x) p b h r = refl
+slots_right s (Forgot x) p b h r = refl
+slots_right s (TookFresh x) p b h r = refl
+slots_right s (TookSwap x) p b h r = refl
+slots_right s (LetGo x) p b h r = refl
+slots_right s (LetGoBack x) p b h r = by_slots x.slots h r
+  where
+    by_slots : (numbers : List ℕ) → allowed s (LetGoBack (record x { slots = numbers })) ≡ true → (not (is_needed_by (after s (LetGoBack (record x { slots = numbers }))) (LetGoBack (record x { slots = numbers })) []) || body_is_right (LetGoBack (record x { slots = numbers }))) ≡ true → (no_slots numbers || body_is_right (LetGoBack (record x { slots = numbers }))) ≡ true
+    by_slots [] a k = refl
+    by_slots (n ∷ ns) a k =
+        let c : Change = LetGoBack (record x { slots = n ∷ ns }) in
+        let it : gives_slot x.peer n c ≡ true = rw (eq-eqb x.peer x.peer refl, eq-eqb n n refl) refl in
+        let needed : is_needed_by (after s c) c [] ≡ true = rw (given_is_direct s c x.peer n p refl a it) refl in
+        if_needed (is_needed_by (after s c) c []) (body_is_right c) needed k
+slots_right s (Refused x) p b h r = refl
+slots_right s (Proposed x) p b h r = refl
+slots_right s (Settled x) p b h r = by_slots x.slots h r
+  where
+    by_slots : (numbers : List ℕ) → allowed s (Settled (record x { slots = numbers })) ≡ true → (not (is_needed_by (after s (Settled (record x { slots = numbers }))) (Settled (record x { slots = numbers })) []) || body_is_right (Settled (record x { slots = numbers }))) ≡ true → (no_slots numbers || body_is_right (Settled (record x { slots = numbers }))) ≡ true
+    by_slots [] a k = refl
+    by_slots (n ∷ ns) a k =
+        let c : Change = Settled (record x { slots = n ∷ ns }) in
+        let it : gives_slot x.peer n c ≡ true = rw (eq-eqb x.peer x.peer refl, eq-eqb n n refl) refl in
+        let needed : is_needed_by (after s c) c [] ≡ true = rw (given_is_direct s c x.peer n p refl a it) refl in
+        if_needed (is_needed_by (after s c) c []) (body_is_right c) needed k
+slots_right s (Turned x) p b h r = refl
+slots_right s (Chose x) p b h r = refl
 slots_right s _ p b h r = absurd (false≢true b)
 
 -- the last change of a valid history has the bytes that it brings
@@ -185,10 +209,10 @@ last_brings h c lawful built a b right = by_name (brings c) refl
         ap right_by e ∙ if_needed (is_needed_by (after (state h) c) c []) (body_is_right c) needed here
 
 -- the history of a beginning alone
-pub valid_begun : (text : List ℕ) (x : Settings) → settings_of text ≡ Some x → list_all is_u8 text ≡ true → IsValid (Begun (Some text) ∷ [])
+pub valid_begun : (text : List ℕ) (x : Settings) → settings_of text ≡ Some x → list_all is_u8 text ≡ true → IsValid (Begun (record { body = Some text }) ∷ [])
 valid_begun text x h bytes =
-    let lawful : is_lawful (Begun (Some text) ∷ []) ≡ true = rw h refl in
-    let built : list_all is_built (Begun (Some text) ∷ []) ≡ true = refl in
+    let lawful : is_lawful (Begun (record { body = Some text }) ∷ []) ≡ true = rw h refl in
+    let built : list_all is_built (Begun (record { body = Some text }) ∷ []) ≡ true = refl in
     record {
       lawful = lawful;
       fit = rw bytes refl;

@@ -100,38 +100,38 @@ settled_given s q (Some d) numbers r n may is = by_what d.what may
 
 -- a slot that is Direct was so before, or the change gives its bytes
 pub was_direct : (s : State) (c : Change) (p n : ℕ) → 1 ≤ s.changes → IsPlain s → is_built c ≡ true → allowed s c ≡ true → has_direct (row (after s c) p).ins n ≡ true → gives_slot p n c ≡ false → has_direct (row s p).ins n ≡ true
-was_direct s (Begun body) p n some plain b h is none = let ts = parts (tests s (Begun body)) (allows s (Begun body) h).tests in absurd (omega (arith, some, eqb-true s.changes 0 ts.0))
-was_direct s (Kept name len new body) p n some plain b h is none = is
-was_direct s (Snapped number ticket files folders bytes left names) p n some plain b h is none = is
-was_direct s (Forgot number) p n some plain b h is none = is
-was_direct s (Chose candidates) p n some plain b h is none = is
-was_direct s (TookFresh q deal name first len new body) p n some plain b h is none =
-    let c : Change = TookFresh q deal name first len new body in
-    direct_row s c q p n plain refl refl (allows s c h).peer (λ k. direct_beside name (units len) [] (row s p).ins n) is
-was_direct s (TookSwap q deal name numbers len new body) p n some plain b h is none =
-    let c : Change = TookSwap q deal name numbers len new body in
-    direct_row s c q p n plain refl refl (allows s c h).peer (λ k. direct_beside name (units len) (slots numbers) (row s p).ins n) is
-was_direct s (LetGo q deal name numbers) p n some plain b h is none =
-    let c : Change = LetGo q deal name numbers in
-    direct_row s c q p n plain refl refl (allows s c h).peer (λ k. direct_left (Chunk name ∷ []) (row s p).ins n) is
-was_direct s (LetGoBack q deal name numbers body) p n some plain b h is none =
-    let c : Change = LetGoBack q deal name numbers body in
-    direct_row s c q p n plain refl refl (allows s c h).peer
-    (λ k a. let other : list_any (λ m. m == n) numbers ≡ false = rw k at none in
-    direct_left (Chunk name ∷ []) (row s p).ins n (sym (direct_other numbers (without in_key (Chunk name ∷ []) (row s p).ins) n other) ∙ a))
+was_direct s (Begun x) p n some plain b h is none = let ts = parts (tests s (Begun x)) (allows s (Begun x) h).tests in absurd (omega (arith, some, eqb-true s.changes 0 ts.0))
+was_direct s (Kept x) p n some plain b h is none = is
+was_direct s (Snapped x) p n some plain b h is none = is
+was_direct s (Forgot x) p n some plain b h is none = is
+was_direct s (Chose x) p n some plain b h is none = is
+was_direct s (TookFresh x) p n some plain b h is none =
+    let c : Change = TookFresh x in
+    direct_row s c x.peer p n plain refl refl (allows s c h).peer (λ k. direct_beside x.name (units x.len) [] (row s p).ins n) is
+was_direct s (TookSwap x) p n some plain b h is none =
+    let c : Change = TookSwap x in
+    direct_row s c x.peer p n plain refl refl (allows s c h).peer (λ k. direct_beside x.name (units x.len) (slots x.slots) (row s p).ins n) is
+was_direct s (LetGo x) p n some plain b h is none =
+    let c : Change = LetGo x in
+    direct_row s c x.peer p n plain refl refl (allows s c h).peer (λ k. direct_left (Chunk x.name ∷ []) (row s p).ins n) is
+was_direct s (LetGoBack x) p n some plain b h is none =
+    let c : Change = LetGoBack x in
+    direct_row s c x.peer p n plain refl refl (allows s c h).peer
+    (λ k a. let other : list_any (λ m. m == n) x.slots ≡ false = rw k at none in
+    direct_left (Chunk x.name ∷ []) (row s p).ins n (sym (direct_other x.slots (without in_key (Chunk x.name ∷ []) (row s p).ins) n other) ∙ a))
     is
-was_direct s (Refused q deal why detail) p n some plain b h is none =
-    let c : Change = Refused q deal why detail in
-    direct_row s c q p n plain refl refl (allows s c h).peer (λ k. direct_left [] (row s p).ins n) is
-was_direct s (Proposed q deal what) p n some plain b h is none =
-    let c : Change = Proposed q deal what in
-    direct_row s c q p n plain b refl (allows s c h).peer (λ k. direct_left [] (row s p).ins n) is
-was_direct s (Settled q deal numbers body) p n some plain b h is none =
-    let c : Change = Settled q deal numbers body in
-    direct_row s c q p n plain refl refl (allows s c h).peer (λ k. settled_direct s q (row s q).pending numbers (row s p) n (rw k at none)) is
-was_direct s (Turned q deal why detail) p n some plain b h is none =
-    let c : Change = Turned q deal why detail in
-    direct_row s c q p n plain refl refl (allows s c h).peer (λ k. direct_left [] (row s p).ins n) is
+was_direct s (Refused x) p n some plain b h is none =
+    let c : Change = Refused x in
+    direct_row s c x.peer p n plain refl refl (allows s c h).peer (λ k. direct_left [] (row s p).ins n) is
+was_direct s (Proposed x) p n some plain b h is none =
+    let c : Change = Proposed x in
+    direct_row s c x.peer p n plain b refl (allows s c h).peer (λ k. direct_left [] (row s p).ins n) is
+was_direct s (Settled x) p n some plain b h is none =
+    let c : Change = Settled x in
+    direct_row s c x.peer p n plain refl refl (allows s c h).peer (λ k. settled_direct s x.peer (row s x.peer).pending x.slots (row s p) n (rw k at none)) is
+was_direct s (Turned x) p n some plain b h is none =
+    let c : Change = Turned x in
+    direct_row s c x.peer p n plain refl refl (allows s c h).peer (λ k. direct_left [] (row s p).ins n) is
 was_direct s _ p n some plain b h is none = absurd (false≢true b)
 
 -- no other change gives a slot its bytes
@@ -144,26 +144,26 @@ no_slot c p n none = by_peer (peer_of c)
 
 -- a slot whose bytes a change gives is Direct after it
 pub given_is_direct : (s : State) (c : Change) (p n : ℕ) → IsPlain s → is_built c ≡ true → allowed s c ≡ true → gives_slot p n c ≡ true → has_direct (row (after s c) p).ins n ≡ true
-given_is_direct s (LetGoBack q deal name numbers body) p n plain b h is =
-    let c : Change = LetGoBack q deal name numbers body in
-    let two = and_parts (q == p) (list_any (λ m. m == n) numbers) is in
-    let now : row (after s c) p ≡ changed s c (row s p) = row_then s c q p plain.rows refl refl (allows s c h).peer ∙ rw two.0 refl in
-    ap (λ (r : Row). has_direct r.ins n) now ∙ direct_given numbers (without in_key (Chunk name ∷ []) (row s p).ins) n two.1
-given_is_direct s (Settled q deal numbers body) p n plain b h is =
-    let c : Change = Settled q deal numbers body in
+given_is_direct s (LetGoBack x) p n plain b h is =
+    let c : Change = LetGoBack x in
+    let two = and_parts (x.peer == p) (list_any (λ m. m == n) x.slots) is in
+    let now : row (after s c) p ≡ changed s c (row s p) = row_then s c x.peer p plain.rows refl refl (allows s c h).peer ∙ rw two.0 refl in
+    ap (λ (r : Row). has_direct r.ins n) now ∙ direct_given x.slots (without in_key (Chunk x.name ∷ []) (row s p).ins) n two.1
+given_is_direct s (Settled x) p n plain b h is =
+    let c : Change = Settled x in
     let ts = parts (tests s c) (allows s c h).tests in
-    let two = and_parts (q == p) (list_any (λ m. m == n) numbers) is in
-    let now : row (after s c) p ≡ changed s c (row s p) = row_then s c q p plain.rows refl refl (allows s c h).peer ∙ rw two.0 refl in
-    ap (λ (r : Row). has_direct r.ins n) now ∙ settled_given s q (row s q).pending numbers (row s p) n ts.1.0 two.1
-given_is_direct s (Begun body) p n plain b h is = absurd (false≢true (sym (no_slot (Begun body) p n refl) ∙ is))
-given_is_direct s (Kept name len new body) p n plain b h is = absurd (false≢true (sym (no_slot (Kept name len new body) p n refl) ∙ is))
-given_is_direct s (Snapped number ticket files folders bytes left names) p n plain b h is = absurd (false≢true (sym (no_slot (Snapped number ticket files folders bytes left names) p n refl) ∙ is))
-given_is_direct s (Forgot number) p n plain b h is = absurd (false≢true (sym (no_slot (Forgot number) p n refl) ∙ is))
-given_is_direct s (TookFresh q deal name first len new body) p n plain b h is = absurd (false≢true (sym (no_slot (TookFresh q deal name first len new body) p n refl) ∙ is))
-given_is_direct s (TookSwap q deal name numbers len new body) p n plain b h is = absurd (false≢true (sym (no_slot (TookSwap q deal name numbers len new body) p n refl) ∙ is))
-given_is_direct s (LetGo q deal name numbers) p n plain b h is = absurd (false≢true (sym (no_slot (LetGo q deal name numbers) p n refl) ∙ is))
-given_is_direct s (Refused q deal why detail) p n plain b h is = absurd (false≢true (sym (no_slot (Refused q deal why detail) p n refl) ∙ is))
-given_is_direct s (Proposed q deal what) p n plain b h is = absurd (false≢true (sym (no_slot (Proposed q deal what) p n refl) ∙ is))
-given_is_direct s (Turned q deal why detail) p n plain b h is = absurd (false≢true (sym (no_slot (Turned q deal why detail) p n refl) ∙ is))
-given_is_direct s (Chose candidates) p n plain b h is = absurd (false≢true (sym (no_slot (Chose candidates) p n refl) ∙ is))
+    let two = and_parts (x.peer == p) (list_any (λ m. m == n) x.slots) is in
+    let now : row (after s c) p ≡ changed s c (row s p) = row_then s c x.peer p plain.rows refl refl (allows s c h).peer ∙ rw two.0 refl in
+    ap (λ (r : Row). has_direct r.ins n) now ∙ settled_given s x.peer (row s x.peer).pending x.slots (row s p) n ts.1.0 two.1
+given_is_direct s (Begun x) p n plain b h is = absurd (false≢true (sym (no_slot (Begun x) p n refl) ∙ is))
+given_is_direct s (Kept x) p n plain b h is = absurd (false≢true (sym (no_slot (Kept x) p n refl) ∙ is))
+given_is_direct s (Snapped x) p n plain b h is = absurd (false≢true (sym (no_slot (Snapped x) p n refl) ∙ is))
+given_is_direct s (Forgot x) p n plain b h is = absurd (false≢true (sym (no_slot (Forgot x) p n refl) ∙ is))
+given_is_direct s (TookFresh x) p n plain b h is = absurd (false≢true (sym (no_slot (TookFresh x) p n refl) ∙ is))
+given_is_direct s (TookSwap x) p n plain b h is = absurd (false≢true (sym (no_slot (TookSwap x) p n refl) ∙ is))
+given_is_direct s (LetGo x) p n plain b h is = absurd (false≢true (sym (no_slot (LetGo x) p n refl) ∙ is))
+given_is_direct s (Refused x) p n plain b h is = absurd (false≢true (sym (no_slot (Refused x) p n refl) ∙ is))
+given_is_direct s (Proposed x) p n plain b h is = absurd (false≢true (sym (no_slot (Proposed x) p n refl) ∙ is))
+given_is_direct s (Turned x) p n plain b h is = absurd (false≢true (sym (no_slot (Turned x) p n refl) ∙ is))
+given_is_direct s (Chose x) p n plain b h is = absurd (false≢true (sym (no_slot (Chose x) p n refl) ∙ is))
 given_is_direct s _ p n plain b h is = absurd (false≢true b)

@@ -101,8 +101,8 @@ from_settled p None rows = from_rows_self rows
 from_settled p (Some d) rows = from_settle p d.what d.number rows
 
 from_states : (s : State) (c : Change) (rows : List (ℕ × Row)) → FromRows rows (states_of s c rows)
-from_states s (Replaced p deal slot place home body) rows = from_at_row p (relabel_in (Slot slot) (cond (place == 0) at.Direct (at.Home home))) (λ r. from_self r.debts) rows
-from_states s (Settled p deal numbers body) rows = from_settled p (row s p).pending rows
+from_states s (Replaced x) rows = from_at_row x.peer (relabel_in (Slot x.slot) (cond (x.place == 0) at.Direct (at.Home x.home))) (λ r. from_self r.debts) rows
+from_states s (Settled x) rows = from_settled x.peer (row s x.peer).pending rows
 from_states s _ rows = from_rows_self rows
 
 loose : Object → Row → Row
@@ -207,8 +207,8 @@ loss_of s q declined objects d d' i l = record {
 }
 
 books_of : (s : State) (c : Change) (q : ℕ) (d d' : DebtEntry) → IsOf d d' → Books s c q d → Books s c q d'
-books_of s (Failed p asked how got objects) q d d' i b = (b.0, loss_of s q false objects d d' i b.1)
-books_of s (Declined p asked places) q d d' i b = (b.0, loss_of s q true (declined_objects s p asked places) d d' i b.1)
+books_of s (Failed x) q d d' i b = (b.0, loss_of s q false x.objects d d' i b.1)
+books_of s (Declined x) q d d' i b = (b.0, loss_of s q true (declined_objects s x.peer x.asked x.places) d d' i b.1)
 books_of s _ q d d' i b = absurd b
 
 booking_of : (s : State) (c : Change) (q : ℕ) (d d' : DebtEntry) → IsOf d d' → Booking s c q d → Booking s c q d'
@@ -287,19 +287,19 @@ lacks_so test d (x ∷ xs) (inr there) once fails =
     (λ k. let once' = rw k at once in rw k (lacks_so test d xs there (omega (arith, once')) fails))
 
 pub origin : (s : State) (c : Change) → Good s → of_a_peer s (peer_of c) ≡ true → (q : ℕ) (d : DebtEntry) → In d (row (after s c) q).debts → Origin s c q d
-origin s (Begun body) g pe q d h = absurd (subst (λ (r : Row). In d r.debts) (Rattle.psb_model.proofs.Rows.row_in-first_rows (settings_of_body body) q) h)
-origin s (Kept name len new body) g pe q d h = inr (record { old = d; there = h; same = of_self d; stays = refl })
-origin s (Snapped number ticket files folders bytes left names) g pe q d h = inr (record { old = d; there = h; same = of_self d; stays = refl })
-origin s (Forgot number) g pe q d h = inr (record { old = d; there = h; same = of_self d; stays = refl })
-origin s (Chose candidates) g pe q d h = inr (record { old = d; there = h; same = of_self d; stays = refl })
-origin s (TookFresh p deal name first len new body) g pe q d h = origin_of_peer s (TookFresh p deal name first len new body) p pe (λ x k. absurd k) (λ x k r. refl) (λ y o k. refl) q d h
-origin s (TookSwap p deal name numbers len new body) g pe q d h = origin_of_peer s (TookSwap p deal name numbers len new body) p pe (λ x k. absurd k) (λ x k r. refl) (λ y o k. refl) q d h
-origin s (LetGo p deal name numbers) g pe q d h = origin_of_peer s (LetGo p deal name numbers) p pe (λ x k. absurd k) (λ x k r. refl) (λ y o k. refl) q d h
-origin s (LetGoBack p deal name numbers body) g pe q d h = origin_of_peer s (LetGoBack p deal name numbers body) p pe (λ x k. absurd k) (λ x k r. refl) (λ y o k. refl) q d h
-origin s (Replaced p deal slot place home body) g pe q d h = origin_of_peer s (Replaced p deal slot place home body) p pe (λ x k. absurd k) (λ x k r. refl) (λ y o k. refl) q d h
-origin s (Refused p deal why detail) g pe q d h = origin_of_peer s (Refused p deal why detail) p pe (λ x k. absurd k) (λ x k r. refl) (λ y o k. refl) q d h
-origin s (Proposed p deal what) g pe q d h = origin_of_peer s (Proposed p deal what) p pe (λ x k. absurd k) (λ x k r. refl) (λ y o k. refl) q d h
-origin s (Settled p deal numbers body) g pe q d h = origin_of_peer s (Settled p deal numbers body) p pe (λ x k. absurd (none_booked s (row s p) (row s p).pending numbers x k)) (λ x k r. refl) (λ y o k. refl) q d h
+origin s (Begun x) g pe q d h = absurd (subst (λ (r : Row). In d r.debts) (Rattle.psb_model.proofs.Rows.row_in-first_rows (settings_of_body x.body) q) h)
+origin s (Kept x) g pe q d h = inr (record { old = d; there = h; same = of_self d; stays = refl })
+origin s (Snapped x) g pe q d h = inr (record { old = d; there = h; same = of_self d; stays = refl })
+origin s (Forgot x) g pe q d h = inr (record { old = d; there = h; same = of_self d; stays = refl })
+origin s (Chose x) g pe q d h = inr (record { old = d; there = h; same = of_self d; stays = refl })
+origin s (TookFresh z) g pe q d h = origin_of_peer s (TookFresh z) z.peer pe (λ x k. absurd k) (λ x k r. refl) (λ y o k. refl) q d h
+origin s (TookSwap z) g pe q d h = origin_of_peer s (TookSwap z) z.peer pe (λ x k. absurd k) (λ x k r. refl) (λ y o k. refl) q d h
+origin s (LetGo z) g pe q d h = origin_of_peer s (LetGo z) z.peer pe (λ x k. absurd k) (λ x k r. refl) (λ y o k. refl) q d h
+origin s (LetGoBack z) g pe q d h = origin_of_peer s (LetGoBack z) z.peer pe (λ x k. absurd k) (λ x k r. refl) (λ y o k. refl) q d h
+origin s (Replaced z) g pe q d h = origin_of_peer s (Replaced z) z.peer pe (λ x k. absurd k) (λ x k r. refl) (λ y o k. refl) q d h
+origin s (Refused z) g pe q d h = origin_of_peer s (Refused z) z.peer pe (λ x k. absurd k) (λ x k r. refl) (λ y o k. refl) q d h
+origin s (Proposed z) g pe q d h = origin_of_peer s (Proposed z) z.peer pe (λ x k. absurd k) (λ x k r. refl) (λ y o k. refl) q d h
+origin s (Settled z) g pe q d h = origin_of_peer s (Settled z) z.peer pe (λ x k. absurd (none_booked s (row s z.peer) (row s z.peer).pending z.slots x k)) (λ x k r. refl) (λ y o k. refl) q d h
   where
     by_what : (s : State) (r : Row) (what : DealWhat) (number : ℕ) (numbers : List ℕ) (x : DebtEntry) → In x (settle_move s r (Some (record { number = number; what = what })) numbers).booked → ⊥
     by_what s r (Fresh name) number numbers x k = k
@@ -312,24 +312,24 @@ origin s (Settled p deal numbers body) g pe q d h = origin_of_peer s (Settled p 
     none_booked : (s : State) (r : Row) (o : Option Deal) (numbers : List ℕ) (x : DebtEntry) → In x (settle_move s r o numbers).booked → ⊥
     none_booked s r None numbers x k = k
     none_booked s r (Some d) numbers x k = by_what s r d.what d.number numbers x k
-origin s (Turned p deal why detail) g pe q d h = origin_of_peer s (Turned p deal why detail) p pe (λ x k. absurd k) (λ x k r. refl) (λ y o k. refl) q d h
-origin s (Asked p objects) g pe q d h = origin_of_peer s (Asked p objects) p pe (λ x k. absurd k) (λ x k r. refl) (λ y o k. refl) q d h
-origin s (Passed p asked objects) g pe q d h =
-    origin_of_peer s (Passed p asked objects) p pe
+origin s (Turned z) g pe q d h = origin_of_peer s (Turned z) z.peer pe (λ x k. absurd k) (λ x k r. refl) (λ y o k. refl) q d h
+origin s (Asked z) g pe q d h = origin_of_peer s (Asked z) z.peer pe (λ x k. absurd k) (λ x k r. refl) (λ y o k. refl) q d h
+origin s (Passed z) g pe q d h =
+    origin_of_peer s (Passed z) z.peer pe
     (λ x k. absurd k)
-    (λ x k r. rw (eq-eqb p p refl) (lacks_so (is_whole_listed objects) x (row s p).debts k (let t = (g.rows p).tidy.outs_once x.object in omega (arith, t)) r))
+    (λ x k r. rw (eq-eqb z.peer z.peer refl) (lacks_so (is_whole_listed z.objects) x (row s z.peer).debts k (let t = (g.rows z.peer).tidy.outs_once x.object in omega (arith, t)) r))
     (λ y o k. rw k refl)
     q d h
-origin s (Failed p asked how got objects) g pe q d h =
-    origin_of_peer s (Failed p asked how got objects) p pe
-    (λ x k. let b = booking_from s p false objects x g (booked_by s.changes false objects (row s p).outs x k) in record { books = (refl, b.0); number = b.1; least = b.2; most = b.3 })
+origin s (Failed z) g pe q d h =
+    origin_of_peer s (Failed z) z.peer pe
+    (λ x k. let b = booking_from s z.peer false z.objects x g (booked_by s.changes false z.objects (row s z.peer).outs x k) in record { books = (refl, b.0); number = b.1; least = b.2; most = b.3 })
     (λ x k r. refl) (λ y o k. refl) q d h
-origin s (Declined p asked places) g pe q d h =
-    let objects = declined_objects s p asked places in
-    origin_of_peer s (Declined p asked places) p pe
-    (λ x k. let b = booking_from s p true objects x g (booked_by s.changes true objects (row s p).outs x k) in record { books = (refl, b.0); number = b.1; least = b.2; most = b.3 })
+origin s (Declined z) g pe q d h =
+    let objects = declined_objects s z.peer z.asked z.places in
+    origin_of_peer s (Declined z) z.peer pe
+    (λ x k. let b = booking_from s z.peer true objects x g (booked_by s.changes true objects (row s z.peer).outs x k) in record { books = (refl, b.0); number = b.1; least = b.2; most = b.3 })
     (λ x k r. refl) (λ y o k. refl) q d h
-origin s (Discarded p objects) g pe q d h = origin_of_peer s (Discarded p objects) p pe (λ x k. absurd k) (λ x k r. refl) (λ y o k. refl) q d h
+origin s (Discarded z) g pe q d h = origin_of_peer s (Discarded z) z.peer pe (λ x k. absurd k) (λ x k r. refl) (λ y o k. refl) q d h
 
 -- OVER WHOLE HISTORIES
 none_more : (s : State) (cs : List Change) (c : Change) (q : ℕ) (o : Object) → gives_none s cs q o ≡ true → gives_back (state_from s cs) c q o ≡ false → gives_none s (cs ++ c ∷ []) q o ≡ true

@@ -90,34 +90,34 @@ settles s r (Some d) numbers own h = by_what d.what
     by_what (Return slot) = small_less [] r.outs h
 
 row_fits : (s : State) (c : Change) (p : ℕ) → IsFit s → is_built c ≡ true → allowed s c ≡ true → peer_of c ≡ Some p → IsFitRow (s.changes + 1) (changed s c (row s p))
-row_fits s (Begun body) p f b h e = absurd (cc (e))
-row_fits s (Kept name len new body) p f b h e = absurd (cc (e))
-row_fits s (Snapped number ticket files folders bytes left names) p f b h e = absurd (cc (e))
-row_fits s (Forgot number) p f b h e = absurd (cc (e))
-row_fits s (Chose candidates) p f b h e = absurd (cc (e))
-row_fits s (TookFresh q deal name first len new body) p f b h e = record { mine = omega (arith, (f.rows p).mine); small = all_slots first (units len) _ (small_less [] (row s p).outs (f.rows p).small) }
-row_fits s (TookSwap q deal name numbers len new body) p f b h e = record { mine = omega (arith, (f.rows p).mine); small = small_less [] (row s p).outs (f.rows p).small }
-row_fits s (LetGo q deal name numbers) p f b h e = record { mine = omega (arith, (f.rows p).mine); small = small_less (slots numbers) (row s p).outs (f.rows p).small }
-row_fits s (LetGoBack q deal name numbers body) p f b h e = record { mine = omega (arith, (f.rows p).mine); small = small_less [] (row s p).outs (f.rows p).small }
-row_fits s (Refused q deal why detail) p f b h e = record { mine = omega (arith, (f.rows p).mine); small = small_less [] (row s p).outs (f.rows p).small }
-row_fits s (Turned q deal why detail) p f b h e = record { mine = omega (arith, (f.rows p).mine); small = small_less [] (row s p).outs (f.rows p).small }
-row_fits s (Proposed q deal what) p f b h e =
-    let ts = parts (tests s (Proposed q deal what)) (allows s (Proposed q deal what) h).tests in
-    let next : deal ≡ (row s q).mine + 1 = eqb-true deal ((row s q).mine + 1) ts.0 in
-    record { mine = omega (arith, next, (f.rows q).mine); small = small_less [] (row s p).outs (f.rows p).small }
-row_fits s (Settled q deal numbers body) p f b h e =
-    let same : q ≡ p = cc (e) in
-    record { mine = omega (arith, (f.rows p).mine); small = subst (λ x. list_all is_small (after_move (settle_move s (row s x) (row s x).pending numbers) (row s p)).outs ≡ true) (sym same) (settles s (row s p) (row s p).pending numbers f.own (f.rows p).small) }
+row_fits s (Begun x) p f b h e = absurd (cc (e))
+row_fits s (Kept x) p f b h e = absurd (cc (e))
+row_fits s (Snapped x) p f b h e = absurd (cc (e))
+row_fits s (Forgot x) p f b h e = absurd (cc (e))
+row_fits s (Chose x) p f b h e = absurd (cc (e))
+row_fits s (TookFresh x) p f b h e = record { mine = omega (arith, (f.rows p).mine); small = all_slots x.first (units x.len) _ (small_less [] (row s p).outs (f.rows p).small) }
+row_fits s (TookSwap x) p f b h e = record { mine = omega (arith, (f.rows p).mine); small = small_less [] (row s p).outs (f.rows p).small }
+row_fits s (LetGo x) p f b h e = record { mine = omega (arith, (f.rows p).mine); small = small_less (slots x.slots) (row s p).outs (f.rows p).small }
+row_fits s (LetGoBack x) p f b h e = record { mine = omega (arith, (f.rows p).mine); small = small_less [] (row s p).outs (f.rows p).small }
+row_fits s (Refused x) p f b h e = record { mine = omega (arith, (f.rows p).mine); small = small_less [] (row s p).outs (f.rows p).small }
+row_fits s (Turned x) p f b h e = record { mine = omega (arith, (f.rows p).mine); small = small_less [] (row s p).outs (f.rows p).small }
+row_fits s (Proposed x) p f b h e =
+    let ts = parts (tests s (Proposed x)) (allows s (Proposed x) h).tests in
+    let next : x.deal ≡ (row s x.peer).mine + 1 = eqb-true x.deal ((row s x.peer).mine + 1) ts.0 in
+    record { mine = omega (arith, next, (f.rows x.peer).mine); small = small_less [] (row s p).outs (f.rows p).small }
+row_fits s (Settled y) p f b h e =
+    let same : y.peer ≡ p = cc (e) in
+    record { mine = omega (arith, (f.rows p).mine); small = subst (λ x. list_all is_small (after_move (settle_move s (row s x) (row s x).pending y.slots) (row s p)).outs ≡ true) (sym same) (settles s (row s p) (row s p).pending y.slots f.own (f.rows p).small) }
 row_fits s _ p f b h e = absurd (false≢true b)
 
 -- ---- every change
 
 own_fits : (s : State) (c : Change) → IsFit s → in_grammar c ≡ true → list_all is_fit_len (own_after s c) ≡ true
-own_fits s (Kept name len new body) f g =
-    let a = and_parts (is_chunk_len len) (body_fits (if new then len else 0) body) g in
-    all_own (record { name = name; len = len; marked = false }) s.own (and_parts (nat_le 1 len) (nat_le len 32768) a.0).1 f.own
-own_fits s (Snapped number ticket files folders bytes left names) f g = all_marked _ s.own f.own
-own_fits s (Forgot number) f g = all_marked _ s.own f.own
+own_fits s (Kept x) f g =
+    let a = and_parts (is_chunk_len x.len) (body_fits (if x.new then x.len else 0) x.body) g in
+    all_own (record { name = x.name; len = x.len; marked = false }) s.own (and_parts (nat_le 1 x.len) (nat_le x.len 32768) a.0).1 f.own
+own_fits s (Snapped x) f g = all_marked _ s.own f.own
+own_fits s (Forgot x) f g = all_marked _ s.own f.own
 own_fits s _ f g = f.own
 
 later : (changes : ℕ) (r : Row) → IsFitRow changes r → IsFitRow (changes + 1) r
@@ -135,19 +135,19 @@ of_peer s c p plain f b g h e here = after_fits s c f g (λ q. subst (IsFitRow (
         (λ k. rw k (later s.changes (row s q) (f.rows q)))
 
 fit_after : (s : State) (c : Change) → IsPlain s → IsFit s → is_built c ≡ true → in_grammar c ≡ true → allowed s c ≡ true → IsFit (after s c)
-fit_after s (Begun body) plain f b g h = after_fits s (Begun body) f g (λ q. subst (IsFitRow (s.changes + 1)) (sym (row_in-first_rows (settings_of_body body) q)) (record { mine = omega arith; small = refl }))
-fit_after s (Kept name len new body) plain f b g h = after_fits s (Kept name len new body) f g (λ q. later s.changes (row s q) (f.rows q))
-fit_after s (Snapped number ticket files folders bytes left names) plain f b g h = after_fits s (Snapped number ticket files folders bytes left names) f g (λ q. later s.changes (row s q) (f.rows q))
-fit_after s (Forgot number) plain f b g h = after_fits s (Forgot number) f g (λ q. later s.changes (row s q) (f.rows q))
-fit_after s (Chose candidates) plain f b g h = after_fits s (Chose candidates) f g (λ q. later s.changes (row s q) (f.rows q))
-fit_after s (TookFresh p deal name first len new body) plain f b g h = let c : Change = TookFresh p deal name first len new body in of_peer s c p plain f b g h refl (allows s c h).peer
-fit_after s (TookSwap p deal name numbers len new body) plain f b g h = let c : Change = TookSwap p deal name numbers len new body in of_peer s c p plain f b g h refl (allows s c h).peer
-fit_after s (LetGo p deal name numbers) plain f b g h = let c : Change = LetGo p deal name numbers in of_peer s c p plain f b g h refl (allows s c h).peer
-fit_after s (LetGoBack p deal name numbers body) plain f b g h = let c : Change = LetGoBack p deal name numbers body in of_peer s c p plain f b g h refl (allows s c h).peer
-fit_after s (Refused p deal why detail) plain f b g h = let c : Change = Refused p deal why detail in of_peer s c p plain f b g h refl (allows s c h).peer
-fit_after s (Proposed p deal what) plain f b g h = let c : Change = Proposed p deal what in of_peer s c p plain f b g h refl (allows s c h).peer
-fit_after s (Settled p deal numbers body) plain f b g h = let c : Change = Settled p deal numbers body in of_peer s c p plain f b g h refl (allows s c h).peer
-fit_after s (Turned p deal why detail) plain f b g h = let c : Change = Turned p deal why detail in of_peer s c p plain f b g h refl (allows s c h).peer
+fit_after s (Begun x) plain f b g h = after_fits s (Begun x) f g (λ q. subst (IsFitRow (s.changes + 1)) (sym (row_in-first_rows (settings_of_body x.body) q)) (record { mine = omega arith; small = refl }))
+fit_after s (Kept x) plain f b g h = after_fits s (Kept x) f g (λ q. later s.changes (row s q) (f.rows q))
+fit_after s (Snapped x) plain f b g h = after_fits s (Snapped x) f g (λ q. later s.changes (row s q) (f.rows q))
+fit_after s (Forgot x) plain f b g h = after_fits s (Forgot x) f g (λ q. later s.changes (row s q) (f.rows q))
+fit_after s (Chose x) plain f b g h = after_fits s (Chose x) f g (λ q. later s.changes (row s q) (f.rows q))
+fit_after s (TookFresh x) plain f b g h = let c : Change = TookFresh x in of_peer s c x.peer plain f b g h refl (allows s c h).peer
+fit_after s (TookSwap x) plain f b g h = let c : Change = TookSwap x in of_peer s c x.peer plain f b g h refl (allows s c h).peer
+fit_after s (LetGo x) plain f b g h = let c : Change = LetGo x in of_peer s c x.peer plain f b g h refl (allows s c h).peer
+fit_after s (LetGoBack x) plain f b g h = let c : Change = LetGoBack x in of_peer s c x.peer plain f b g h refl (allows s c h).peer
+fit_after s (Refused x) plain f b g h = let c : Change = Refused x in of_peer s c x.peer plain f b g h refl (allows s c h).peer
+fit_after s (Proposed x) plain f b g h = let c : Change = Proposed x in of_peer s c x.peer plain f b g h refl (allows s c h).peer
+fit_after s (Settled x) plain f b g h = let c : Change = Settled x in of_peer s c x.peer plain f b g h refl (allows s c h).peer
+fit_after s (Turned x) plain f b g h = let c : Change = Turned x in of_peer s c x.peer plain f b g h refl (allows s c h).peer
 fit_after s _ plain f b g h = absurd (false≢true b)
 
 fit_nothing : IsFit nothing_yet

@@ -87,10 +87,10 @@ kept_lifted rows names (e ∷ es) h =
 
 -- Of the kinds that are built a Forgot and what ends a pending deal alone give own chunks up.
 abbrev pub gives_up_none : Change → Bool
-gives_up_none (Begun body) = false
-gives_up_none (Forgot number) = false
-gives_up_none (Settled p deal numbers body) = false
-gives_up_none (Turned p deal why detail) = false
+gives_up_none (Begun x) = false
+gives_up_none (Forgot x) = false
+gives_up_none (Settled x) = false
+gives_up_none (Turned x) = false
 gives_up_none _ = true
 
 -- what the row of its peer names stays, for any other change of one
@@ -103,59 +103,59 @@ kept_by_peer s c p plain b peer own names =
     all_pass (is_kept (all_rows_after s c)) (own_after s c) still
 
 -- a chunk that is kept comes to the others
-pub own_kept : (s : State) (name : List ℕ) (len : ℕ) (new : Bool) (body : Option (List ℕ)) → IsPlain s → (after s (Kept name len new body)).own ≡ own_with (record { name = name; len = len; marked = false }) s.own
-own_kept s name len new body p = all_pass (is_kept s.rows) (own_after s (Kept name len new body)) (kept_with s.rows (record { name = name; len = len; marked = false }) s.own refl p.named)
+pub own_kept : (s : State) (name : List ℕ) (len : ℕ) (new : Bool) (body : Option (List ℕ)) → IsPlain s → (after s (Kept (record { name = name; len = len; new = new; body = body }))).own ≡ own_with (record { name = name; len = len; marked = false }) s.own
+own_kept s name len new body p = all_pass (is_kept s.rows) (own_after s (Kept (record { name = name; len = len; new = new; body = body }))) (kept_with s.rows (record { name = name; len = len; marked = false }) s.own refl p.named)
 
-own_snapped : (s : State) (number : ℕ) (ticket : Ticket) (files folders bytes left : ℕ) (names : List (List ℕ)) → IsPlain s → (after s (Snapped number ticket files folders bytes left names)).own ≡ own_after s (Snapped number ticket files folders bytes left names)
-own_snapped s number ticket files folders bytes left names p = all_pass (is_kept s.rows) (own_after s (Snapped number ticket files folders bytes left names)) (kept_lifted s.rows names s.own p.named)
+own_snapped : (s : State) (number : ℕ) (ticket : Ticket) (files folders bytes left : ℕ) (names : List (List ℕ)) → IsPlain s → (after s (Snapped (record { number = number; ticket = ticket; files = files; folders = folders; bytes = bytes; left = left; names = names }))).own ≡ own_after s (Snapped (record { number = number; ticket = ticket; files = files; folders = folders; bytes = bytes; left = left; names = names }))
+own_snapped s number ticket files folders bytes left names p = all_pass (is_kept s.rows) (own_after s (Snapped (record { number = number; ticket = ticket; files = files; folders = folders; bytes = bytes; left = left; names = names }))) (kept_lifted s.rows names s.own p.named)
 
 -- a snapshot that is noted leaves which they are
-pub snapped_has : (s : State) (number : ℕ) (ticket : Ticket) (files folders bytes left : ℕ) (names : List (List ℕ)) (n : List ℕ) → IsPlain s → own_has (after s (Snapped number ticket files folders bytes left names)).own n ≡ own_has s.own n
+pub snapped_has : (s : State) (number : ℕ) (ticket : Ticket) (files folders bytes left : ℕ) (names : List (List ℕ)) (n : List ℕ) → IsPlain s → own_has (after s (Snapped (record { number = number; ticket = ticket; files = files; folders = folders; bytes = bytes; left = left; names = names }))).own n ≡ own_has s.own n
 snapped_has s number ticket files folders bytes left names n p = ap (λ (l : List OwnEntry). own_has l n) (own_snapped s number ticket files folders bytes left names p) ∙ marks_has (λ e. e.marked && not (name_listed names e.name)) s.own n
 
 pub own_stays : (s : State) (c : Change) → IsPlain s → is_built c ≡ true → allowed s c ≡ true → gives_up_none c ≡ true → (after s c).own ≡ own_after s c
-own_stays s (Kept name len new body) p b h g = own_kept s name len new body p
-own_stays s (Snapped number ticket files folders bytes left names) p b h g = own_snapped s number ticket files folders bytes left names p
-own_stays s (Chose candidates) p b h g = all_pass (is_kept s.rows) s.own p.named
-own_stays s (TookFresh q deal name first len new body) p b h g =
-    let c : Change = TookFresh q deal name first len new body in
-    let r = row s q in
-    kept_by_peer s c q p refl refl refl
-    (λ n _ named. names_stay r (changed s c r) n (plain_row_in s.own s.rows q p.rows).debts (λ k. outs_stay (own_slots first (units len)) (without out_key [] r.outs) n (chunk_stays out_key [] r.outs n ∙ k)) (λ k. k) named)
-own_stays s (TookSwap q deal name numbers len new body) p b h g =
-    let c : Change = TookSwap q deal name numbers len new body in
-    let r = row s q in
-    kept_by_peer s c q p refl refl refl
-    (λ n _ named. names_stay r (changed s c r) n (plain_row_in s.own s.rows q p.rows).debts (λ k. chunk_stays out_key [] r.outs n ∙ k) (λ k. k) named)
-own_stays s (LetGo q deal name numbers) p b h g =
-    let c : Change = LetGo q deal name numbers in
-    let r = row s q in
-    kept_by_peer s c q p refl refl refl
-    (λ n _ named. names_stay r (changed s c r) n (plain_row_in s.own s.rows q p.rows).debts (λ k. chunk_stays out_key numbers r.outs n ∙ k) (λ k. k) named)
-own_stays s (LetGoBack q deal name numbers body) p b h g =
-    let c : Change = LetGoBack q deal name numbers body in
-    let r = row s q in
-    kept_by_peer s c q p refl refl refl
-    (λ n _ named. names_stay r (changed s c r) n (plain_row_in s.own s.rows q p.rows).debts (λ k. chunk_stays out_key [] r.outs n ∙ k) (λ k. k) named)
-own_stays s (Refused q deal why detail) p b h g =
-    let c : Change = Refused q deal why detail in
-    let r = row s q in
-    kept_by_peer s c q p refl refl refl
-    (λ n _ named. names_stay r (changed s c r) n (plain_row_in s.own s.rows q p.rows).debts (λ k. chunk_stays out_key [] r.outs n ∙ k) (λ k. k) named)
-own_stays s (Proposed q deal what) p b h g =
-    let c : Change = Proposed q deal what in
+own_stays s (Kept x) p b h g = own_kept s x.name x.len x.new x.body p
+own_stays s (Snapped x) p b h g = own_snapped s x.number x.ticket x.files x.folders x.bytes x.left x.names p
+own_stays s (Chose x) p b h g = all_pass (is_kept s.rows) s.own p.named
+own_stays s (TookFresh x) p b h g =
+    let c : Change = TookFresh x in
+    let r = row s x.peer in
+    kept_by_peer s c x.peer p refl refl refl
+    (λ n _ named. names_stay r (changed s c r) n (plain_row_in s.own s.rows x.peer p.rows).debts (λ k. outs_stay (own_slots x.first (units x.len)) (without out_key [] r.outs) n (chunk_stays out_key [] r.outs n ∙ k)) (λ k. k) named)
+own_stays s (TookSwap x) p b h g =
+    let c : Change = TookSwap x in
+    let r = row s x.peer in
+    kept_by_peer s c x.peer p refl refl refl
+    (λ n _ named. names_stay r (changed s c r) n (plain_row_in s.own s.rows x.peer p.rows).debts (λ k. chunk_stays out_key [] r.outs n ∙ k) (λ k. k) named)
+own_stays s (LetGo x) p b h g =
+    let c : Change = LetGo x in
+    let r = row s x.peer in
+    kept_by_peer s c x.peer p refl refl refl
+    (λ n _ named. names_stay r (changed s c r) n (plain_row_in s.own s.rows x.peer p.rows).debts (λ k. chunk_stays out_key x.slots r.outs n ∙ k) (λ k. k) named)
+own_stays s (LetGoBack x) p b h g =
+    let c : Change = LetGoBack x in
+    let r = row s x.peer in
+    kept_by_peer s c x.peer p refl refl refl
+    (λ n _ named. names_stay r (changed s c r) n (plain_row_in s.own s.rows x.peer p.rows).debts (λ k. chunk_stays out_key [] r.outs n ∙ k) (λ k. k) named)
+own_stays s (Refused x) p b h g =
+    let c : Change = Refused x in
+    let r = row s x.peer in
+    kept_by_peer s c x.peer p refl refl refl
+    (λ n _ named. names_stay r (changed s c r) n (plain_row_in s.own s.rows x.peer p.rows).debts (λ k. chunk_stays out_key [] r.outs n ∙ k) (λ k. k) named)
+own_stays s (Proposed x) p b h g =
+    let c : Change = Proposed x in
     let ts = parts (tests s c) (allows s c h).tests in
-    let r = row s q in
-    kept_by_peer s c q p b refl refl
-    (λ n _ named. names_stay r (changed s c r) n (plain_row_in s.own s.rows q p.rows).debts (λ k. chunk_stays out_key [] r.outs n ∙ k) (λ k. absurd (none_pending r.pending n ts.1.0 k)) named)
+    let r = row s x.peer in
+    kept_by_peer s c x.peer p b refl refl
+    (λ n _ named. names_stay r (changed s c r) n (plain_row_in s.own s.rows x.peer p.rows).debts (λ k. chunk_stays out_key [] r.outs n ∙ k) (λ k. absurd (none_pending r.pending n ts.1.0 k)) named)
   where
     none_pending : (o : Option Deal) (n : List ℕ) → is_none o ≡ true → name_listed (pending_name deal_name o) n ≡ true → ⊥
     none_pending None n e k = false≢true k
     none_pending (Some d) n e k = false≢true e
-own_stays s (Begun body) p b h g = absurd (false≢true g)
-own_stays s (Forgot number) p b h g = absurd (false≢true g)
-own_stays s (Settled q deal numbers body) p b h g = absurd (false≢true g)
-own_stays s (Turned q deal why detail) p b h g = absurd (false≢true g)
+own_stays s (Begun x) p b h g = absurd (false≢true g)
+own_stays s (Forgot x) p b h g = absurd (false≢true g)
+own_stays s (Settled x) p b h g = absurd (false≢true g)
+own_stays s (Turned x) p b h g = absurd (false≢true g)
 own_stays s _ p b h g = absurd (false≢true b)
 
 -- OWN CHUNKS THAT GO
@@ -184,7 +184,7 @@ marked_or lists (e ∷ es) n h = by_cases (name_eq e.name n)
     (λ k. rw k (marked_or lists es n (rw k at h)))
 
 -- a Forgot leaves what other snapshots list and what rows name
-pub forgot_has : (s : State) (number : ℕ) (n : List ℕ) → IsPlain s → own_has (after s (Forgot number)).own n ≡ (own_has s.own n && (kept_lists (kept_without number s.kept) n || is_named s.rows n))
+pub forgot_has : (s : State) (number : ℕ) (n : List ℕ) → IsPlain s → own_has (after s (Forgot (record { number = number }))).own n ≡ (own_has s.own n && (kept_lists (kept_without number s.kept) n || is_named s.rows n))
 forgot_has s number n p =
     let lists = kept_lists (kept_without number s.kept) in
     let mark : OwnEntry → Bool = λ e. e.marked || not (lists e.name) in
@@ -206,7 +206,7 @@ ended_has s c n p own =
     ap (λ l. own_has (given_up (all_rows_after s c) l) n) own ∙ given_has (all_rows_after s c) s.own n p.apart
 
 -- the row names all that it named but the chunk of its pending deal
-pub settled_names : (s : State) (q deal : ℕ) (numbers : List ℕ) (body : Option (List ℕ)) (r : Row) → r.debts ≡ [] → NamesBut (pending_name deal_name (row s q).pending) (record r { pending = None }) (changed s (Settled q deal numbers body) r)
+pub settled_names : (s : State) (q deal : ℕ) (numbers : List ℕ) (body : Option (List ℕ)) (r : Row) → r.debts ≡ [] → NamesBut (pending_name deal_name (row s q).pending) (record r { pending = None }) (changed s (Settled (record { peer = q; deal = deal; slots = numbers; body = body })) r)
 settled_names s q deal numbers body r none n other named = by_deal (row s q).pending other
   where
     stays : (m : Move) → (has out_key r.outs (Chunk n) ≡ true → has out_key (after_move m r).outs (Chunk n) ≡ true) → row_names (record (after_move m r) { pending = None }) n ≡ true
@@ -227,8 +227,8 @@ settled_names s q deal numbers body r none n other named = by_deal (row s q).pen
     by_deal None o = stays still (λ k. chunk_stays out_key [] r.outs n ∙ k)
     by_deal (Some d) o = by_what d.number d.what o
 
-pub turned_names : (s : State) (q deal why detail : ℕ) (r : Row) → r.debts ≡ [] → NamesBut [] (record r { pending = None }) (changed s (Turned q deal why detail) r)
-turned_names s q deal why detail r none n other named = names_stay (record r { pending = None }) (changed s (Turned q deal why detail) r) n none (λ k. chunk_stays out_key [] r.outs n ∙ k) (λ k. k) named
+pub turned_names : (s : State) (q deal why detail : ℕ) (r : Row) → r.debts ≡ [] → NamesBut [] (record r { pending = None }) (changed s (Turned (record { peer = q; deal = deal; why = why; detail = detail })) r)
+turned_names s q deal why detail r none n other named = names_stay (record r { pending = None }) (changed s (Turned (record { peer = q; deal = deal; why = why; detail = detail })) r) n none (λ k. chunk_stays out_key [] r.outs n ∙ k) (λ k. k) named
 
 -- a row names all but the chunk of its pending deal without it
 names_beside : (r : Row) (n : List ℕ) → name_listed (pending_name deal_name r.pending) n ≡ false → row_names r n ≡ true → row_names (record r { pending = None }) n ≡ true
@@ -259,14 +259,14 @@ ended_beside_row s c q n p b peer own names =
     and_true true = refl
     and_true false = refl
 
-pub settled_beside : (s : State) (q deal : ℕ) (numbers : List ℕ) (body : Option (List ℕ)) (n : List ℕ) → IsPlain s → name_listed (pending_name deal_name (row s q).pending) n ≡ false → own_has (after s (Settled q deal numbers body)).own n ≡ own_has s.own n
+pub settled_beside : (s : State) (q deal : ℕ) (numbers : List ℕ) (body : Option (List ℕ)) (n : List ℕ) → IsPlain s → name_listed (pending_name deal_name (row s q).pending) n ≡ false → own_has (after s (Settled (record { peer = q; deal = deal; slots = numbers; body = body }))).own n ≡ own_has s.own n
 settled_beside s q deal numbers body n p other =
     let r = row s q in
-    ended_beside_row s (Settled q deal numbers body) q n p refl refl refl
+    ended_beside_row s (Settled (record { peer = q; deal = deal; slots = numbers; body = body })) q n p refl refl refl
     (λ named. settled_names s q deal numbers body r (plain_row_in s.own s.rows q p.rows).debts n other (names_beside r n other named))
 
-pub turned_beside : (s : State) (q deal why detail : ℕ) (n : List ℕ) → IsPlain s → name_listed (pending_name deal_name (row s q).pending) n ≡ false → own_has (after s (Turned q deal why detail)).own n ≡ own_has s.own n
+pub turned_beside : (s : State) (q deal why detail : ℕ) (n : List ℕ) → IsPlain s → name_listed (pending_name deal_name (row s q).pending) n ≡ false → own_has (after s (Turned (record { peer = q; deal = deal; why = why; detail = detail }))).own n ≡ own_has s.own n
 turned_beside s q deal why detail n p other =
     let r = row s q in
-    ended_beside_row s (Turned q deal why detail) q n p refl refl refl
+    ended_beside_row s (Turned (record { peer = q; deal = deal; why = why; detail = detail })) q n p refl refl refl
     (λ named. turned_names s q deal why detail r (plain_row_in s.own s.rows q p.rows).debts n refl (names_beside r n other named))

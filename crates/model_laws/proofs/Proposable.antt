@@ -241,7 +241,7 @@ proposable s p probed facts what plain fit wide sorted issued most h =
     (λ is. placed s p probed what plain fit wide sorted (ap (place s p probed) (sym most) ∙ is))
 
 -- with the next number it may be made, where none is pending
-pub proposal_allowed : (s : State) (p deal : ℕ) (what : DealWhat) → MayBe s p what → nat_lt 0 s.changes ≡ true → is_peer s p ≡ true → (row s p).pending ≡ None → deal ≡ (row s p).mine + 1 → allowed s (Proposed p deal what) ≡ true
+pub proposal_allowed : (s : State) (p deal : ℕ) (what : DealWhat) → MayBe s p what → nat_lt 0 s.changes ≡ true → is_peer s p ≡ true → (row s p).pending ≡ None → deal ≡ (row s p).mine + 1 → allowed s (Proposed (record { peer = p; deal = deal; what = what })) ≡ true
 proposal_allowed s p deal what may later peer idle next =
     let number : (deal == (row s p).mine + 1) ≡ true = eq-eqb deal ((row s p).mine + 1) next in
     let none : is_none (row s p).pending ≡ true = ap is_none idle in

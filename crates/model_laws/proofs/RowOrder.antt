@@ -125,8 +125,8 @@ sorted_settling p (Some d) rows h = by_what d.what
     by_what (Return slot) = sorted_at p _ rows (relabelled_out (Slot slot) on.Own) h
 
 sorted_states : (s : State) (c : Change) (rows : List (ℕ × Row)) → AllSorted rows → AllSorted (states_of s c rows)
-sorted_states s (Replaced p deal slot place home body) rows h = sorted_at p _ rows (relabelled_in (Slot slot) _) h
-sorted_states s (Settled p deal numbers body) rows h = sorted_settling p (row s p).pending rows h
+sorted_states s (Replaced x) rows h = sorted_at x.peer _ rows (relabelled_in (Slot x.slot) _) h
+sorted_states s (Settled x) rows h = sorted_settling x.peer (row s x.peer).pending rows h
 sorted_states s _ rows h = h
 
 sorted_loose : (es : List InEntry) (rows : List (ℕ × Row)) → AllSorted rows → AllSorted (loosen es rows)
@@ -154,25 +154,25 @@ sorted_first None = tt
 sorted_first (Some x) = sorted_blank x.peers
 
 sorted_after : (s : State) (c : Change) → AllSorted s.rows → AllSorted (after s c).rows
-sorted_after s (Begun body) h = sorted_first (settings_of_body body)
-sorted_after s (Kept name len new body) h = h
-sorted_after s (Snapped number ticket files folders bytes left names) h = h
-sorted_after s (Forgot number) h = h
-sorted_after s (TookFresh p deal name first len new body) h = sorted_of_peer s (TookFresh p deal name first len new body) p h
-sorted_after s (TookSwap p deal name numbers len new body) h = sorted_of_peer s (TookSwap p deal name numbers len new body) p h
-sorted_after s (LetGo p deal name numbers) h = sorted_of_peer s (LetGo p deal name numbers) p h
-sorted_after s (LetGoBack p deal name numbers body) h = sorted_of_peer s (LetGoBack p deal name numbers body) p h
-sorted_after s (Replaced p deal slot place home body) h = sorted_of_peer s (Replaced p deal slot place home body) p h
-sorted_after s (Refused p deal why detail) h = sorted_of_peer s (Refused p deal why detail) p h
-sorted_after s (Proposed p deal what) h = sorted_of_peer s (Proposed p deal what) p h
-sorted_after s (Settled p deal numbers body) h = sorted_of_peer s (Settled p deal numbers body) p h
-sorted_after s (Turned p deal why detail) h = sorted_of_peer s (Turned p deal why detail) p h
-sorted_after s (Asked p objects) h = sorted_of_peer s (Asked p objects) p h
-sorted_after s (Passed p asked objects) h = sorted_of_peer s (Passed p asked objects) p h
-sorted_after s (Failed p asked how got objects) h = sorted_of_peer s (Failed p asked how got objects) p h
-sorted_after s (Declined p asked places) h = sorted_of_peer s (Declined p asked places) p h
-sorted_after s (Discarded p objects) h = sorted_of_peer s (Discarded p objects) p h
-sorted_after s (Chose candidates) h = h
+sorted_after s (Begun x) h = sorted_first (settings_of_body x.body)
+sorted_after s (Kept x) h = h
+sorted_after s (Snapped x) h = h
+sorted_after s (Forgot x) h = h
+sorted_after s (TookFresh x) h = sorted_of_peer s (TookFresh x) x.peer h
+sorted_after s (TookSwap x) h = sorted_of_peer s (TookSwap x) x.peer h
+sorted_after s (LetGo x) h = sorted_of_peer s (LetGo x) x.peer h
+sorted_after s (LetGoBack x) h = sorted_of_peer s (LetGoBack x) x.peer h
+sorted_after s (Replaced x) h = sorted_of_peer s (Replaced x) x.peer h
+sorted_after s (Refused x) h = sorted_of_peer s (Refused x) x.peer h
+sorted_after s (Proposed x) h = sorted_of_peer s (Proposed x) x.peer h
+sorted_after s (Settled x) h = sorted_of_peer s (Settled x) x.peer h
+sorted_after s (Turned x) h = sorted_of_peer s (Turned x) x.peer h
+sorted_after s (Asked x) h = sorted_of_peer s (Asked x) x.peer h
+sorted_after s (Passed x) h = sorted_of_peer s (Passed x) x.peer h
+sorted_after s (Failed x) h = sorted_of_peer s (Failed x) x.peer h
+sorted_after s (Declined x) h = sorted_of_peer s (Declined x) x.peer h
+sorted_after s (Discarded x) h = sorted_of_peer s (Discarded x) x.peer h
+sorted_after s (Chose x) h = h
 
 sorted_from : (s : State) (h : List Change) → AllSorted s.rows → AllSorted (state_from s h).rows
 sorted_from s [] k = k

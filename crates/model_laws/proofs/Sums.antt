@@ -56,38 +56,38 @@ ForPeer P None = Unit {0}
 ForPeer P (Some p) = P p
 
 table : (s : State) (c : Change) → Good s → in_grammar c ≡ true → all_of (tests s c) ≡ true → ForPeer (Step s c) (peer_of c) → ForPeer (λ p. Moves (row s p) (after_move (move_of s c) (row s p)) (shift_of s c)) (peer_of c)
-table s (Begun body) g gr h st = tt
-table s (Kept name len new body) g gr h st = tt
-table s (Snapped number ticket files folders bytes left names) g gr h st = tt
-table s (Forgot number) g gr h st = tt
-table s (Chose candidates) g gr h st = tt
-table s (TookFresh p deal name first len new body) g gr h st = let w = st.weighs in record { held = omega (arith, w.held); back = omega (arith, w.back, sum-own_slots first (units len)); debt = omega (arith, w.debt, none_returned debt_size (row s p).debts) }
-table s (TookSwap p deal name numbers len new body) g gr h st =
+table s (Begun x) g gr h st = tt
+table s (Kept x) g gr h st = tt
+table s (Snapped x) g gr h st = tt
+table s (Forgot x) g gr h st = tt
+table s (Chose x) g gr h st = tt
+table s (TookFresh x) g gr h st = let w = st.weighs in record { held = omega (arith, w.held); back = omega (arith, w.back, sum-own_slots x.first (units x.len)); debt = omega (arith, w.debt, none_returned debt_size (row s x.peer).debts) }
+table s (TookSwap x) g gr h st =
     let w = st.weighs in
-    let ts = parts (tests s (TookSwap p deal name numbers len new body)) h in
-    let t = (g.rows p).tidy in
-    record { held = omega (arith, w.held, units_of_slots in_key in_size (row s p).ins numbers t.ins_ones t.ins_once (λ o. each_slot-listed (has in_key (row s p).ins) numbers o ts.1.1.1.0)); back = omega (arith, w.back); debt = omega (arith, w.debt, none_returned debt_size (row s p).debts) }
-table s (LetGo p deal name numbers) g gr h st =
+    let ts = parts (tests s (TookSwap x)) h in
+    let t = (g.rows x.peer).tidy in
+    record { held = omega (arith, w.held, units_of_slots in_key in_size (row s x.peer).ins x.slots t.ins_ones t.ins_once (λ o. each_slot-listed (has in_key (row s x.peer).ins) x.slots o ts.1.1.1.0)); back = omega (arith, w.back); debt = omega (arith, w.debt, none_returned debt_size (row s x.peer).debts) }
+table s (LetGo x) g gr h st =
     let w = st.weighs in
-    let ts = parts (tests s (LetGo p deal name numbers)) h in
-    let t = (g.rows p).tidy in
+    let ts = parts (tests s (LetGo x)) h in
+    let t = (g.rows x.peer).tidy in
     record {
       held = omega (arith, w.held);
-      back = omega (arith, w.back, units_of_slots out_key out_size (row s p).outs numbers t.outs_ones (λ o. omega (arith, t.outs_once o)) (λ o k. has_so-has out_key carries_none (row s p).outs o (each_slot-listed (has_so out_key carries_none (row s p).outs) numbers o ts.1.1.0 k)));
-      debt = omega (arith, w.debt, none_returned debt_size (row s p).debts);
+      back = omega (arith, w.back, units_of_slots out_key out_size (row s x.peer).outs x.slots t.outs_ones (λ o. omega (arith, t.outs_once o)) (λ o k. has_so-has out_key carries_none (row s x.peer).outs o (each_slot-listed (has_so out_key carries_none (row s x.peer).outs) x.slots o ts.1.1.0 k)));
+      debt = omega (arith, w.debt, none_returned debt_size (row s x.peer).debts);
     }
-table s (LetGoBack p deal name numbers body) g gr h st = let w = st.weighs in record { held = omega (arith, w.held, sum-direct_slots numbers); back = omega (arith, w.back); debt = omega (arith, w.debt, none_returned debt_size (row s p).debts) }
-table s (Replaced p deal slot place home body) g gr h st = still_moves (row s p) st.weighs
-table s (Refused p deal why detail) g gr h st = still_moves (row s p) st.weighs
-table s (Proposed p deal what) g gr h st = still_moves (row s p) st.weighs
-table s (Settled p deal numbers body) g gr h st = settled_moves s p numbers (row s p).pending (g.rows p).tidy (g.rows p).stands st.weighs
-table s (Turned p deal why detail) g gr h st = still_moves (row s p) st.weighs
-table s (Asked p objects) g gr h st = still_moves (row s p) st.weighs
-table s (Passed p asked objects) g gr h st =
-    let w = st.weighs in record { held = omega (arith, w.held); back = omega (arith, w.back, sum-out_again objects (row s p).debts); debt = omega (arith, w.debt) }
-table s (Failed p asked how got objects) g gr h st = loses_moves s.changes false objects (row s p) (objects_apart objects gr) st.weighs
-table s (Declined p asked places) g gr h st = loses_moves s.changes true (declined_objects s p asked places) (row s p) (Rattle.psb_model.proofs.Balance.declined_distinct s p asked places (g.asked p) (numbers_ascend places gr)) st.weighs
-table s (Discarded p objects) g gr h st = let w = st.weighs in record { held = omega (arith, w.held, sum_by-only in_key in_size (row s p).ins objects (objects_apart objects gr)); back = omega (arith, w.back); debt = omega (arith, w.debt, none_returned debt_size (row s p).debts) }
+table s (LetGoBack x) g gr h st = let w = st.weighs in record { held = omega (arith, w.held, sum-direct_slots x.slots); back = omega (arith, w.back); debt = omega (arith, w.debt, none_returned debt_size (row s x.peer).debts) }
+table s (Replaced x) g gr h st = still_moves (row s x.peer) st.weighs
+table s (Refused x) g gr h st = still_moves (row s x.peer) st.weighs
+table s (Proposed x) g gr h st = still_moves (row s x.peer) st.weighs
+table s (Settled x) g gr h st = settled_moves s x.peer x.slots (row s x.peer).pending (g.rows x.peer).tidy (g.rows x.peer).stands st.weighs
+table s (Turned x) g gr h st = still_moves (row s x.peer) st.weighs
+table s (Asked x) g gr h st = still_moves (row s x.peer) st.weighs
+table s (Passed x) g gr h st =
+    let w = st.weighs in record { held = omega (arith, w.held); back = omega (arith, w.back, sum-out_again x.objects (row s x.peer).debts); debt = omega (arith, w.debt) }
+table s (Failed x) g gr h st = loses_moves s.changes false x.objects (row s x.peer) (objects_apart x.objects gr) st.weighs
+table s (Declined x) g gr h st = loses_moves s.changes true (declined_objects s x.peer x.asked x.places) (row s x.peer) (Rattle.psb_model.proofs.Balance.declined_distinct s x.peer x.asked x.places (g.asked x.peer) (numbers_ascend x.places gr)) st.weighs
+table s (Discarded x) g gr h st = let w = st.weighs in record { held = omega (arith, w.held, sum_by-only in_key in_size (row s x.peer).ins x.objects (objects_apart x.objects gr)); back = omega (arith, w.back); debt = omega (arith, w.debt, none_returned debt_size (row s x.peer).debts) }
 
 -- over the rows
 moves_on : (r a b c : Row) (m : Shift) → Moves r a m → Alike a b → SameLists b c → Moves r c m
@@ -122,28 +122,28 @@ abbrev Begins : State → Type 0
 Begins s = s.changes ≡ 0 → (q : ℕ) → row s q ≡ blank
 
 each_moves : (s : State) (c : Change) → Good s → Begins s → in_grammar c ≡ true → of_a_peer s (peer_of c) ≡ true → all_of (tests s c) ≡ true → (q : ℕ) → Moves (row s q) (row (after s c) q) (shift_for s c q)
-each_moves s (Begun body) g b gr pe h q =
-    let ts = parts (tests s (Begun body)) h in
+each_moves s (Begun x) g b gr pe h q =
+    let ts = parts (tests s (Begun x)) h in
     let was : row s q ≡ blank = b (eqb-true s.changes 0 ts.0) q in
-    subst (λ r. Moves (row s q) r no_shift) (sym (row_in-first_rows (settings_of_body body) q)) (record { held = omega (arith, ap held_units was); back = omega (arith, ap back_units was); debt = omega (arith, ap debt_units was) })
-each_moves s (Kept name len new body) g b gr pe h q = record { held = refl; back = refl; debt = refl }
-each_moves s (Snapped number ticket files folders bytes left names) g b gr pe h q = record { held = refl; back = refl; debt = refl }
-each_moves s (Forgot number) g b gr pe h q = record { held = refl; back = refl; debt = refl }
-each_moves s (Chose candidates) g b gr pe h q = record { held = refl; back = refl; debt = refl }
-each_moves s (TookFresh p deal name first len new body) g b gr pe h q = let c : Change = TookFresh p deal name first len new body in of_peer s c p pe (table s c g gr h (steps s c g gr h)) q
-each_moves s (TookSwap p deal name numbers len new body) g b gr pe h q = let c : Change = TookSwap p deal name numbers len new body in of_peer s c p pe (table s c g gr h (steps s c g gr h)) q
-each_moves s (LetGo p deal name numbers) g b gr pe h q = let c : Change = LetGo p deal name numbers in of_peer s c p pe (table s c g gr h (steps s c g gr h)) q
-each_moves s (LetGoBack p deal name numbers body) g b gr pe h q = let c : Change = LetGoBack p deal name numbers body in of_peer s c p pe (table s c g gr h (steps s c g gr h)) q
-each_moves s (Replaced p deal slot place home body) g b gr pe h q = let c : Change = Replaced p deal slot place home body in of_peer s c p pe (table s c g gr h (steps s c g gr h)) q
-each_moves s (Refused p deal why detail) g b gr pe h q = let c : Change = Refused p deal why detail in of_peer s c p pe (table s c g gr h (steps s c g gr h)) q
-each_moves s (Proposed p deal what) g b gr pe h q = let c : Change = Proposed p deal what in of_peer s c p pe (table s c g gr h (steps s c g gr h)) q
-each_moves s (Settled p deal numbers body) g b gr pe h q = let c : Change = Settled p deal numbers body in of_peer s c p pe (table s c g gr h (steps s c g gr h)) q
-each_moves s (Turned p deal why detail) g b gr pe h q = let c : Change = Turned p deal why detail in of_peer s c p pe (table s c g gr h (steps s c g gr h)) q
-each_moves s (Asked p objects) g b gr pe h q = let c : Change = Asked p objects in of_peer s c p pe (table s c g gr h (steps s c g gr h)) q
-each_moves s (Passed p asked objects) g b gr pe h q = let c : Change = Passed p asked objects in of_peer s c p pe (table s c g gr h (steps s c g gr h)) q
-each_moves s (Failed p asked how got objects) g b gr pe h q = let c : Change = Failed p asked how got objects in of_peer s c p pe (table s c g gr h (steps s c g gr h)) q
-each_moves s (Declined p asked places) g b gr pe h q = let c : Change = Declined p asked places in of_peer s c p pe (table s c g gr h (steps s c g gr h)) q
-each_moves s (Discarded p objects) g b gr pe h q = let c : Change = Discarded p objects in of_peer s c p pe (table s c g gr h (steps s c g gr h)) q
+    subst (λ r. Moves (row s q) r no_shift) (sym (row_in-first_rows (settings_of_body x.body) q)) (record { held = omega (arith, ap held_units was); back = omega (arith, ap back_units was); debt = omega (arith, ap debt_units was) })
+each_moves s (Kept x) g b gr pe h q = record { held = refl; back = refl; debt = refl }
+each_moves s (Snapped x) g b gr pe h q = record { held = refl; back = refl; debt = refl }
+each_moves s (Forgot x) g b gr pe h q = record { held = refl; back = refl; debt = refl }
+each_moves s (Chose x) g b gr pe h q = record { held = refl; back = refl; debt = refl }
+each_moves s (TookFresh x) g b gr pe h q = let c : Change = TookFresh x in of_peer s c x.peer pe (table s c g gr h (steps s c g gr h)) q
+each_moves s (TookSwap x) g b gr pe h q = let c : Change = TookSwap x in of_peer s c x.peer pe (table s c g gr h (steps s c g gr h)) q
+each_moves s (LetGo x) g b gr pe h q = let c : Change = LetGo x in of_peer s c x.peer pe (table s c g gr h (steps s c g gr h)) q
+each_moves s (LetGoBack x) g b gr pe h q = let c : Change = LetGoBack x in of_peer s c x.peer pe (table s c g gr h (steps s c g gr h)) q
+each_moves s (Replaced x) g b gr pe h q = let c : Change = Replaced x in of_peer s c x.peer pe (table s c g gr h (steps s c g gr h)) q
+each_moves s (Refused x) g b gr pe h q = let c : Change = Refused x in of_peer s c x.peer pe (table s c g gr h (steps s c g gr h)) q
+each_moves s (Proposed x) g b gr pe h q = let c : Change = Proposed x in of_peer s c x.peer pe (table s c g gr h (steps s c g gr h)) q
+each_moves s (Settled x) g b gr pe h q = let c : Change = Settled x in of_peer s c x.peer pe (table s c g gr h (steps s c g gr h)) q
+each_moves s (Turned x) g b gr pe h q = let c : Change = Turned x in of_peer s c x.peer pe (table s c g gr h (steps s c g gr h)) q
+each_moves s (Asked x) g b gr pe h q = let c : Change = Asked x in of_peer s c x.peer pe (table s c g gr h (steps s c g gr h)) q
+each_moves s (Passed x) g b gr pe h q = let c : Change = Passed x in of_peer s c x.peer pe (table s c g gr h (steps s c g gr h)) q
+each_moves s (Failed x) g b gr pe h q = let c : Change = Failed x in of_peer s c x.peer pe (table s c g gr h (steps s c g gr h)) q
+each_moves s (Declined x) g b gr pe h q = let c : Change = Declined x in of_peer s c x.peer pe (table s c g gr h (steps s c g gr h)) q
+each_moves s (Discarded x) g b gr pe h q = let c : Change = Discarded x in of_peer s c x.peer pe (table s c g gr h (steps s c g gr h)) q
 
 record Adds (s : State) (h : List Change) (q : ℕ) : Type 0 where
   held : held_units (row (state_from s h) q) + sum_from (λ m. m.held_down) s h q ≡ held_units (row s q) + sum_from (λ m. m.held_up) s h q

@@ -103,47 +103,47 @@ settle_fits s r (Some d) numbers w p n stands few = by_what d.what p (stands d r
 -- ---- a change of the peer
 
 row_wide : (s : State) (c : Change) (p : ℕ) → IsPlain s → AreWide s → is_built c ≡ true → fits_widths c ≡ true → allowed s c ≡ true → peer_of c ≡ Some p → IsWideRow (changed s c (row s p))
-row_wide s (Begun body) p plain w b f h e = absurd (cc (e))
-row_wide s (Kept name len new body) p plain w b f h e = absurd (cc (e))
-row_wide s (Snapped number ticket files folders bytes left names) p plain w b f h e = absurd (cc (e))
-row_wide s (Forgot number) p plain w b f h e = absurd (cc (e))
-row_wide s (Chose candidates) p plain w b f h e = absurd (cc (e))
-row_wide s (TookFresh q deal name first len new body) p plain w b f h e =
-    let ts = parts (tests s (TookFresh q deal name first len new body)) (allows s (TookFresh q deal name first len new body) h).tests in
-    let begins : first ≡ s.issued = eqb-true first s.issued ts.1.1.1.1.1.0 in
-    let few = leb-true (s.issued + units len) most_claims ts.1.1.1.1.1.1.0 in
-    let names = and_parts (is_u32 q && is_u64 deal) (is_digest name) (and_parts (is_u32 q && is_u64 deal && is_digest name) (is_u32 first) (and_parts (is_u32 q && is_u64 deal && is_digest name && is_u32 first) (is_u32 len) (and_parts (is_u32 q && is_u64 deal && is_digest name && is_u32 first && is_u32 len) (are_bytes body) f).0).0).0 in
+row_wide s (Begun x) p plain w b f h e = absurd (cc (e))
+row_wide s (Kept x) p plain w b f h e = absurd (cc (e))
+row_wide s (Snapped x) p plain w b f h e = absurd (cc (e))
+row_wide s (Forgot x) p plain w b f h e = absurd (cc (e))
+row_wide s (Chose x) p plain w b f h e = absurd (cc (e))
+row_wide s (TookFresh x) p plain w b f h e =
+    let ts = parts (tests s (TookFresh x)) (allows s (TookFresh x) h).tests in
+    let begins : x.first ≡ s.issued = eqb-true x.first s.issued ts.1.1.1.1.1.0 in
+    let few = leb-true (s.issued + units x.len) most_claims ts.1.1.1.1.1.1.0 in
+    let names = and_parts (is_u32 x.peer && is_u64 x.deal) (is_digest x.name) (and_parts (is_u32 x.peer && is_u64 x.deal && is_digest x.name) (is_u32 x.first) (and_parts (is_u32 x.peer && is_u64 x.deal && is_digest x.name && is_u32 x.first) (is_u32 x.len) (and_parts (is_u32 x.peer && is_u64 x.deal && is_digest x.name && is_u32 x.first && is_u32 x.len) (are_bytes x.body) f).0).0).0 in
     let r = w.rows p in
     record {
-      ins = all_with_one in_key in_fits (chunk_in name (units len)) (without in_key [] (row s p).ins) names.1 (ins_left [] (row s p).ins r.ins);
-      outs = own_fit first (units len) (without out_key [] (row s p).outs) (omega (arith, begins, few)) (outs_left [] (row s p).outs r.outs);
+      ins = all_with_one in_key in_fits (chunk_in x.name (units x.len)) (without in_key [] (row s p).ins) names.1 (ins_left [] (row s p).ins r.ins);
+      outs = own_fit x.first (units x.len) (without out_key [] (row s p).outs) (omega (arith, begins, few)) (outs_left [] (row s p).outs r.outs);
       deal = r.deal;
     }
-row_wide s (TookSwap q deal name numbers len new body) p plain w b f h e =
-    let names = and_parts (is_u32 q && is_u64 deal) (is_digest name) (and_parts (is_u32 q && is_u64 deal && is_digest name) (list_all is_u32 numbers) (and_parts (is_u32 q && is_u64 deal && is_digest name && list_all is_u32 numbers) (is_u32 len) (and_parts (is_u32 q && is_u64 deal && is_digest name && list_all is_u32 numbers && is_u32 len) (are_bytes body) f).0).0).0 in
+row_wide s (TookSwap x) p plain w b f h e =
+    let names = and_parts (is_u32 x.peer && is_u64 x.deal) (is_digest x.name) (and_parts (is_u32 x.peer && is_u64 x.deal && is_digest x.name) (list_all is_u32 x.slots) (and_parts (is_u32 x.peer && is_u64 x.deal && is_digest x.name && list_all is_u32 x.slots) (is_u32 x.len) (and_parts (is_u32 x.peer && is_u64 x.deal && is_digest x.name && list_all is_u32 x.slots && is_u32 x.len) (are_bytes x.body) f).0).0).0 in
     let r = w.rows p in
     record {
-      ins = all_with_one in_key in_fits (chunk_in name (units len)) (without in_key (slots numbers) (row s p).ins) names.1 (ins_left (slots numbers) (row s p).ins r.ins);
+      ins = all_with_one in_key in_fits (chunk_in x.name (units x.len)) (without in_key (slots x.slots) (row s p).ins) names.1 (ins_left (slots x.slots) (row s p).ins r.ins);
       outs = outs_left [] (row s p).outs r.outs;
       deal = r.deal;
     }
-row_wide s (LetGo q deal name numbers) p plain w b f h e =
+row_wide s (LetGo x) p plain w b f h e =
     let r = w.rows p in
-    record { ins = ins_left (Chunk name ∷ []) (row s p).ins r.ins; outs = outs_left (slots numbers) (row s p).outs r.outs; deal = r.deal }
-row_wide s (LetGoBack q deal name numbers body) p plain w b f h e =
-    let listed = and_parts (is_u32 q && is_u64 deal && is_digest name) (list_all is_u32 numbers) (and_parts (is_u32 q && is_u64 deal && is_digest name && list_all is_u32 numbers) (are_bytes body) f).0 in
+    record { ins = ins_left (Chunk x.name ∷ []) (row s p).ins r.ins; outs = outs_left (slots x.slots) (row s p).outs r.outs; deal = r.deal }
+row_wide s (LetGoBack x) p plain w b f h e =
+    let listed = and_parts (is_u32 x.peer && is_u64 x.deal && is_digest x.name) (list_all is_u32 x.slots) (and_parts (is_u32 x.peer && is_u64 x.deal && is_digest x.name && list_all is_u32 x.slots) (are_bytes x.body) f).0 in
     let r = w.rows p in
-    record { ins = direct_fit numbers (without in_key (Chunk name ∷ []) (row s p).ins) listed.1 (ins_left (Chunk name ∷ []) (row s p).ins r.ins); outs = outs_left [] (row s p).outs r.outs; deal = r.deal }
-row_wide s (Refused q deal why detail) p plain w b f h e = let r = w.rows p in record { ins = ins_left [] (row s p).ins r.ins; outs = outs_left [] (row s p).outs r.outs; deal = r.deal }
-row_wide s (Turned q deal why detail) p plain w b f h e = let r = w.rows p in record { ins = ins_left [] (row s p).ins r.ins; outs = outs_left [] (row s p).outs r.outs; deal = refl }
-row_wide s (Proposed q deal what) p plain w b f h e = let r = w.rows p in record { ins = ins_left [] (row s p).ins r.ins; outs = outs_left [] (row s p).outs r.outs; deal = deal_widths (is_u32 q) (is_u64 deal) (what_fits what) f }
-row_wide s (Settled q deal numbers body) p plain w b f h e =
-    let same : q ≡ p = cc (e) in
-    let listed = and_parts (is_u32 q && is_u64 deal) (list_all is_u32 numbers) (and_parts (is_u32 q && is_u64 deal && list_all is_u32 numbers) (are_bytes body) f).0 in
-    let m = settle_fits s (row s p) (row s p).pending numbers (w.rows p) (w.rows p).deal listed.1 (plain.good.rows p).stands w.issued in
+    record { ins = direct_fit x.slots (without in_key (Chunk x.name ∷ []) (row s p).ins) listed.1 (ins_left (Chunk x.name ∷ []) (row s p).ins r.ins); outs = outs_left [] (row s p).outs r.outs; deal = r.deal }
+row_wide s (Refused x) p plain w b f h e = let r = w.rows p in record { ins = ins_left [] (row s p).ins r.ins; outs = outs_left [] (row s p).outs r.outs; deal = r.deal }
+row_wide s (Turned x) p plain w b f h e = let r = w.rows p in record { ins = ins_left [] (row s p).ins r.ins; outs = outs_left [] (row s p).outs r.outs; deal = refl }
+row_wide s (Proposed x) p plain w b f h e = let r = w.rows p in record { ins = ins_left [] (row s p).ins r.ins; outs = outs_left [] (row s p).outs r.outs; deal = deal_widths (is_u32 x.peer) (is_u64 x.deal) (what_fits x.what) f }
+row_wide s (Settled y) p plain w b f h e =
+    let same : y.peer ≡ p = cc (e) in
+    let listed = and_parts (is_u32 y.peer && is_u64 y.deal) (list_all is_u32 y.slots) (and_parts (is_u32 y.peer && is_u64 y.deal && list_all is_u32 y.slots) (are_bytes y.body) f).0 in
+    let m = settle_fits s (row s p) (row s p).pending y.slots (w.rows p) (w.rows p).deal listed.1 (plain.good.rows p).stands w.issued in
     record {
-      ins = subst (λ x. list_all in_fits (after_move (settle_move s (row s x) (row s x).pending numbers) (row s p)).ins ≡ true) (sym same) m.ins;
-      outs = subst (λ x. list_all out_fits (after_move (settle_move s (row s x) (row s x).pending numbers) (row s p)).outs ≡ true) (sym same) m.outs;
+      ins = subst (λ x. list_all in_fits (after_move (settle_move s (row s x) (row s x).pending y.slots) (row s p)).ins ≡ true) (sym same) m.ins;
+      outs = subst (λ x. list_all out_fits (after_move (settle_move s (row s x) (row s x).pending y.slots) (row s p)).outs ≡ true) (sym same) m.outs;
       deal = refl;
     }
 row_wide s _ p plain w b f h e = absurd (false≢true b)
@@ -151,25 +151,25 @@ row_wide s _ p plain w b f h e = absurd (false≢true b)
 -- ---- every change
 
 own_wide : (s : State) (c : Change) → AreWide s → fits_widths c ≡ true → list_all name_fits (own_after s c) ≡ true
-own_wide s (Kept name len new body) w f =
-    let a = and_parts (is_digest name) (is_u32 len) (and_parts (is_digest name && is_u32 len) (are_bytes body) f).0 in
-    names_with (record { name = name; len = len; marked = false }) s.own a.0 w.own
-own_wide s (Snapped number ticket files folders bytes left names) w f = names_marked _ s.own w.own
-own_wide s (Forgot number) w f = names_marked _ s.own w.own
+own_wide s (Kept x) w f =
+    let a = and_parts (is_digest x.name) (is_u32 x.len) (and_parts (is_digest x.name && is_u32 x.len) (are_bytes x.body) f).0 in
+    names_with (record { name = x.name; len = x.len; marked = false }) s.own a.0 w.own
+own_wide s (Snapped x) w f = names_marked _ s.own w.own
+own_wide s (Forgot x) w f = names_marked _ s.own w.own
 own_wide s _ w f = w.own
 
 issued_few : (s : State) (c : Change) → AreWide s → allowed s c ≡ true → issued_after s c ≤ 4294967295
-issued_few s (TookFresh q deal name first len new body) w h =
-    let ts = parts (tests s (TookFresh q deal name first len new body)) (allows s (TookFresh q deal name first len new body) h).tests in
-    leb-true (s.issued + units len) most_claims ts.1.1.1.1.1.1.0
-issued_few s (Proposed q deal what) w h =
-    by_what what ((parts (tests s (Proposed q deal what)) (allows s (Proposed q deal what) h).tests).1.1.0)
+issued_few s (TookFresh x) w h =
+    let ts = parts (tests s (TookFresh x)) (allows s (TookFresh x) h).tests in
+    leb-true (s.issued + units x.len) most_claims ts.1.1.1.1.1.1.0
+issued_few s (Proposed x) w h =
+    by_what x.what ((parts (tests s (Proposed x)) (allows s (Proposed x) h).tests).1.1.0)
   where
-    by_what : (what : DealWhat) → all_of (propose_tests s q what) ≡ true → issued_after s (Proposed q deal what) ≤ 4294967295
+    by_what : (what : DealWhat) → all_of (propose_tests s x.peer what) ≡ true → issued_after s (Proposed (record x { what = what })) ≤ 4294967295
     by_what (Fresh name) t = w.issued
     by_what (Swap name numbers) t = w.issued
     by_what (Cancel name numbers) t = w.issued
-    by_what (PutBack name first) t = leb-true (s.issued + units_at out_key out_size (row s q).outs (Chunk name)) most_claims (parts (propose_tests s q (PutBack name first)) t).1.1.1.1.0
+    by_what (PutBack name first) t = leb-true (s.issued + units_at out_key out_size (row s x.peer).outs (Chunk name)) most_claims (parts (propose_tests s x.peer (PutBack name first)) t).1.1.1.1.0
     by_what (Forward slot entry) t = w.issued
     by_what (Return slot) t = w.issued
 issued_few s _ w h = w.issued
@@ -189,19 +189,19 @@ blank_wide : IsWideRow blank
 blank_wide = record { ins = refl; outs = refl; deal = refl }
 
 wide_after : (s : State) (c : Change) → IsPlain s → AreWide s → is_built c ≡ true → fits_widths c ≡ true → allowed s c ≡ true → AreWide (after s c)
-wide_after s (Begun body) plain w b f h = after_wide s (Begun body) w f h (λ q. subst IsWideRow (sym (row_in-first_rows (settings_of_body body) q)) blank_wide)
-wide_after s (Kept name len new body) plain w b f h = after_wide s (Kept name len new body) w f h w.rows
-wide_after s (Snapped number ticket files folders bytes left names) plain w b f h = after_wide s (Snapped number ticket files folders bytes left names) w f h w.rows
-wide_after s (Forgot number) plain w b f h = after_wide s (Forgot number) w f h w.rows
-wide_after s (Chose candidates) plain w b f h = after_wide s (Chose candidates) w f h w.rows
-wide_after s (TookFresh p deal name first len new body) plain w b f h = let c : Change = TookFresh p deal name first len new body in of_peer s c p plain w b f h refl (allows s c h).peer
-wide_after s (TookSwap p deal name numbers len new body) plain w b f h = let c : Change = TookSwap p deal name numbers len new body in of_peer s c p plain w b f h refl (allows s c h).peer
-wide_after s (LetGo p deal name numbers) plain w b f h = let c : Change = LetGo p deal name numbers in of_peer s c p plain w b f h refl (allows s c h).peer
-wide_after s (LetGoBack p deal name numbers body) plain w b f h = let c : Change = LetGoBack p deal name numbers body in of_peer s c p plain w b f h refl (allows s c h).peer
-wide_after s (Refused p deal why detail) plain w b f h = let c : Change = Refused p deal why detail in of_peer s c p plain w b f h refl (allows s c h).peer
-wide_after s (Proposed p deal what) plain w b f h = let c : Change = Proposed p deal what in of_peer s c p plain w b f h refl (allows s c h).peer
-wide_after s (Settled p deal numbers body) plain w b f h = let c : Change = Settled p deal numbers body in of_peer s c p plain w b f h refl (allows s c h).peer
-wide_after s (Turned p deal why detail) plain w b f h = let c : Change = Turned p deal why detail in of_peer s c p plain w b f h refl (allows s c h).peer
+wide_after s (Begun x) plain w b f h = after_wide s (Begun x) w f h (λ q. subst IsWideRow (sym (row_in-first_rows (settings_of_body x.body) q)) blank_wide)
+wide_after s (Kept x) plain w b f h = after_wide s (Kept x) w f h w.rows
+wide_after s (Snapped x) plain w b f h = after_wide s (Snapped x) w f h w.rows
+wide_after s (Forgot x) plain w b f h = after_wide s (Forgot x) w f h w.rows
+wide_after s (Chose x) plain w b f h = after_wide s (Chose x) w f h w.rows
+wide_after s (TookFresh x) plain w b f h = let c : Change = TookFresh x in of_peer s c x.peer plain w b f h refl (allows s c h).peer
+wide_after s (TookSwap x) plain w b f h = let c : Change = TookSwap x in of_peer s c x.peer plain w b f h refl (allows s c h).peer
+wide_after s (LetGo x) plain w b f h = let c : Change = LetGo x in of_peer s c x.peer plain w b f h refl (allows s c h).peer
+wide_after s (LetGoBack x) plain w b f h = let c : Change = LetGoBack x in of_peer s c x.peer plain w b f h refl (allows s c h).peer
+wide_after s (Refused x) plain w b f h = let c : Change = Refused x in of_peer s c x.peer plain w b f h refl (allows s c h).peer
+wide_after s (Proposed x) plain w b f h = let c : Change = Proposed x in of_peer s c x.peer plain w b f h refl (allows s c h).peer
+wide_after s (Settled x) plain w b f h = let c : Change = Settled x in of_peer s c x.peer plain w b f h refl (allows s c h).peer
+wide_after s (Turned x) plain w b f h = let c : Change = Turned x in of_peer s c x.peer plain w b f h refl (allows s c h).peer
 wide_after s _ plain w b f h = absurd (false≢true b)
 
 wide_nothing : AreWide nothing_yet

@@ -49,17 +49,17 @@ settled_shift s r (Some d) numbers = elim d.what [
 
 -- what each kind moves
 abbrev pub shift_of : State → Change → Shift
-shift_of s (TookFresh p deal name first len new body) = record no_shift { held_up = units len; back_up = units len }
-shift_of s (TookSwap p deal name numbers len new body) = record no_shift { held_down = length numbers; held_up = units len }
-shift_of s (LetGo p deal name numbers) = record no_shift { held_down = units_at in_key in_size (row s p).ins (Chunk name); back_down = length numbers }
-shift_of s (LetGoBack p deal name numbers body) = record no_shift { held_down = units_at in_key in_size (row s p).ins (Chunk name); held_up = length numbers }
-shift_of s (Settled p deal numbers body) = settled_shift s (row s p) (row s p).pending numbers
-shift_of s (Passed p asked objects) =
-    let n = sum_by debt_size (filter (is_whole_listed objects) (row s p).debts) in
+shift_of s (TookFresh x) = record no_shift { held_up = units x.len; back_up = units x.len }
+shift_of s (TookSwap x) = record no_shift { held_down = length x.slots; held_up = units x.len }
+shift_of s (LetGo x) = record no_shift { held_down = units_at in_key in_size (row s x.peer).ins (Chunk x.name); back_down = length x.slots }
+shift_of s (LetGoBack x) = record no_shift { held_down = units_at in_key in_size (row s x.peer).ins (Chunk x.name); held_up = length x.slots }
+shift_of s (Settled x) = settled_shift s (row s x.peer) (row s x.peer).pending x.slots
+shift_of s (Passed x) =
+    let n = sum_by debt_size (filter (is_whole_listed x.objects) (row s x.peer).debts) in
     record no_shift { back_up = n; debt_down = n }
-shift_of s (Failed p asked how got objects) = lost (out_units (row s p) objects)
-shift_of s (Declined p asked places) = lost (out_units (row s p) (declined_objects s p asked places))
-shift_of s (Discarded p objects) = let n = in_units (row s p) objects in record no_shift { held_down = n; debt_down = n }
+shift_of s (Failed x) = lost (out_units (row s x.peer) x.objects)
+shift_of s (Declined x) = lost (out_units (row s x.peer) (declined_objects s x.peer x.asked x.places))
+shift_of s (Discarded x) = let n = in_units (row s x.peer) x.objects in record no_shift { held_down = n; debt_down = n }
 shift_of s _ = no_shift
 
 -- what the change does to the numbers of q

@@ -48,48 +48,48 @@ plain_ticket = record { reference = record { name = name_of 8; handle = name_of 
 -- a chunk is taken, and the next deal refused
 abbrev pub first_deals : List ℕ → List ℕ → List Change
 first_deals text chunk =
-    Begun (Some text)
-    ∷ TookFresh 2 1 (sha chunk) 0 512 true (Some chunk)
-    ∷ Refused 2 2 3 0
+    Begun (record { body = Some text })
+    ∷ TookFresh (record { peer = 2; deal = 1; name = sha chunk; first = 0; len = 512; new = true; body = Some chunk })
+    ∷ Refused (record { peer = 2; deal = 2; why = 3; detail = 0 })
     ∷ []
 
 -- two peers store one chunk, and its bytes are kept once
 abbrev pub shared_deals : List ℕ → List ℕ → List Change
 shared_deals text chunk =
-    Begun (Some text)
-    ∷ TookFresh 2 1 (sha chunk) 0 512 true (Some chunk)
-    ∷ TookFresh 3 1 (sha chunk) 1 512 false (Some [])
+    Begun (record { body = Some text })
+    ∷ TookFresh (record { peer = 2; deal = 1; name = sha chunk; first = 0; len = 512; new = true; body = Some chunk })
+    ∷ TookFresh (record { peer = 3; deal = 1; name = sha chunk; first = 1; len = 512; new = false; body = Some [] })
     ∷ []
 
 -- a chunk is taken, its slot is asked for, and no answer comes
 abbrev pub lost_slot : List ℕ → List Change
 lost_slot text =
-    Begun (Some text)
-    ∷ TookFresh 2 1 (name_of 7) 0 512 true None
-    ∷ Asked 2 (Slot 0 ∷ [])
-    ∷ Failed 2 2 0 (name_of 0) (Slot 0 ∷ [])
+    Begun (record { body = Some text })
+    ∷ TookFresh (record { peer = 2; deal = 1; name = name_of 7; first = 0; len = 512; new = true; body = None })
+    ∷ Asked (record { peer = 2; objects = Slot 0 ∷ [] })
+    ∷ Failed (record { peer = 2; asked = 2; how = 0; got = name_of 0; objects = Slot 0 ∷ [] })
     ∷ []
 
 -- and then the peer shows it after all, outside a probe
 abbrev pub shown_again : Change
-shown_again = Passed 2 0 (Slot 0 ∷ [])
+shown_again = Passed (record { peer = 2; asked = 0; objects = Slot 0 ∷ [] })
 
 -- the own slot 0 on peer 2 carries slot 5 of peer 3, which is then swapped for a chunk
 abbrev pub forwarded : List ℕ → List Change
 forwarded text =
-    Begun (Some text)
-    ∷ TookFresh 2 1 (name_of 7) 0 512 true None
-    ∷ Kept (name_of 8) 512 true None
-    ∷ Snapped 1 plain_ticket 1 0 512 0 (name_of 8 ∷ [])
-    ∷ Chose (record { peer = 3; got = 0; of = 1; hops = 2 } ∷ [])
-    ∷ Proposed 3 1 (Fresh (name_of 8))
-    ∷ Settled 3 1 (5 ∷ []) None
-    ∷ Proposed 2 1 (Forward 0 (record { peer = 3; slot = 5 }))
-    ∷ Settled 2 1 [] None
+    Begun (record { body = Some text })
+    ∷ TookFresh (record { peer = 2; deal = 1; name = name_of 7; first = 0; len = 512; new = true; body = None })
+    ∷ Kept (record { name = name_of 8; len = 512; new = true; body = None })
+    ∷ Snapped (record { number = 1; ticket = plain_ticket; files = 1; folders = 0; bytes = 512; left = 0; names = name_of 8 ∷ [] })
+    ∷ Chose (record { candidates = record { peer = 3; got = 0; of = 1; hops = 2 } ∷ [] })
+    ∷ Proposed (record { peer = 3; deal = 1; what = Fresh (name_of 8) })
+    ∷ Settled (record { peer = 3; deal = 1; slots = 5 ∷ []; body = None })
+    ∷ Proposed (record { peer = 2; deal = 1; what = Forward 0 (record { peer = 3; slot = 5 }) })
+    ∷ Settled (record { peer = 2; deal = 1; slots = []; body = None })
     ∷ []
 
 abbrev pub swapped_away : Change
-swapped_away = TookSwap 3 1 (name_of 10) (5 ∷ []) 512 true None
+swapped_away = TookSwap (record { peer = 3; deal = 1; name = name_of 10; slots = 5 ∷ []; len = 512; new = true; body = None })
 
 -- the three numbers of a peer
 pub record Numbers (h : List Change) (q a b c : ℕ) : Type 0 where

@@ -13,7 +13,6 @@ use Rattle.psb_model.specs.Heads.{head_of, candidate}
 use Rattle.psb_model.specs.History.{state}
 use Rattle.psb_model.specs.Needed.{IsValid}
 use Rattle.psb_model.specs.declared.change.Change.{Change}
-use Rattle.psb_model.specs.declared.change.Change.TheVariants.{Chose}
 use Rattle.psb_model.specs.declared.entries.Candidate.{Candidate}
 use Rattle.model_laws.proofs.Bodies.{valid_snoc}
 use Rattle.buddy_select.specs.Order.{put_all}
@@ -23,7 +22,7 @@ use Rattle.wire_codec.specs.declared.frame.Frame.TheVariants.{Ask}
 use Rattle.psb_machine.specs.Sampling.{sample_in, candidate_by, candidates, is_last, is_ready, choice_among, choice_by, open_question, question_to, questions}
 use Rattle.psb_machine.specs.declared.question.Question.{Question}
 use Rattle.psb_model.proofs.ByObject.{by_cases}
-use Rattle.psb_machine.specs.Machine.{Situation, Volatile, Tick, Reaction as MachineReaction, key_of_row, clock_in, later, react, asks_too, by_asking, asking_at, choice_at, by_choice}
+use Rattle.psb_machine.specs.Machine.{Situation, Volatile, Tick, Reaction as MachineReaction, key_of_row, clock_in, later, react, asks_too, by_asking, asking_at, choice_at, choice_of, by_choice}
 use Rattle.psb_machine.proofs.Choosing.{choice_cases, choice_may, found_asked, found_distinct, found_few, open_is}
 use Rattle.psb_machine.proofs.Peers.{settings_read}
 use Rattle.node_core.specs.declared.clocks.Clock.{Clock}
@@ -118,19 +117,19 @@ among_is : (peers ticks : ℕ) (found : List Candidate) (b : Bool) → is_ready 
 among_is peers ticks found b is = ap (λ (t : Bool). if t then Some (put_all [] found) else None) is
 
 pub chooses : {L : Type 0} (node : Node L) (n : Situation) (settings : Settings) (p : ℕ) (x : Clock) (q : Question) → Knows node n → (state n.history).settings ≡ Some settings → clock_of node.clocks.items p ≡ Some x → open_question node.ledger.state ≡ Some q → is_last node.peers.rows p ≡ true
-    → is_ready (length node.peers.rows) (length (candidates_in node.peers.rows node.clocks.items (length q.names))) (later x.ticks) ≡ true → Some (Chose (put_all [] (candidates_in node.peers.rows node.clocks.items (length q.names)))) ≡ option_map Chose (choice_at settings n p)
+    → is_ready (length node.peers.rows) (length (candidates_in node.peers.rows node.clocks.items (length q.names))) (later x.ticks) ≡ true → Some (choice_of (put_all [] (candidates_in node.peers.rows node.clocks.items (length q.names)))) ≡ option_map choice_of (choice_at settings n p)
 chooses node n settings p x q k present found opened last ready =
     let cs = candidates_in node.peers.rows node.clocks.items (length q.names) in
-    ap (option_map Chose)
+    ap (option_map choice_of)
     (sym (among_is (length node.peers.rows) (later x.ticks) cs true ready)
     ∙ sym (ready_last node.peers.rows node.clocks.items (later x.ticks) (open_question node.ledger.state) p q opened last)
     ∙ choice_node node n settings p x k present found)
 
 pub chooses_none : {L : Type 0} (node : Node L) (n : Situation) (settings : Settings) (p : ℕ) (x : Clock) (q : Question) → Knows node n → (state n.history).settings ≡ Some settings → clock_of node.clocks.items p ≡ Some x → open_question node.ledger.state ≡ Some q → is_last node.peers.rows p ≡ true
-    → is_ready (length node.peers.rows) (length (candidates_in node.peers.rows node.clocks.items (length q.names))) (later x.ticks) ≡ false → None ≡ option_map Chose (choice_at settings n p)
+    → is_ready (length node.peers.rows) (length (candidates_in node.peers.rows node.clocks.items (length q.names))) (later x.ticks) ≡ false → None ≡ option_map choice_of (choice_at settings n p)
 chooses_none node n settings p x q k present found opened last not_ready =
     let cs = candidates_in node.peers.rows node.clocks.items (length q.names) in
-    ap (option_map Chose)
+    ap (option_map choice_of)
     (sym (among_is (length node.peers.rows) (later x.ticks) cs false not_ready)
     ∙ sym (ready_last node.peers.rows node.clocks.items (later x.ticks) (open_question node.ledger.state) p q opened last)
     ∙ choice_node node n settings p x k present found)
@@ -165,7 +164,7 @@ candidates_long (x ∷ xs) =
     let e = to_be_bytes w32 x.hops in
     omega (arith, candidates_long xs, length-append (candidate x) (flat_map candidate xs), length-append (a ++ b ++ d) e, length-append (a ++ b) d, length-append a b)
 
-chose_short : (cs : List Candidate) → length cs ≤ 64 → length (head_of (Chose cs)) ≤ 2000
+chose_short : (cs : List Candidate) → length cs ≤ 64 → length (head_of (choice_of cs)) ≤ 2000
 chose_short cs few = omega (arith, few, candidates_long cs, length-append (to_be_bytes w32 (length cs)) (flat_map candidate cs))
 
 chosen_few : (settings : Settings) (n : Situation) (p : ℕ) (cs : List Candidate) → IsValid n.history → (state n.history).settings ≡ Some settings → choice_at settings n p ≡ Some cs → length cs ≤ 64
@@ -178,7 +177,7 @@ pub record MayChoose (n : Situation) (c : Change) : Type 0 where
   pub make : MayMake (state n.history) c
   pub valid : IsValid (n.history ++ c ∷ [])
 
-may_choose : (settings : Settings) (n : Situation) (p : ℕ) (cs : List Candidate) → IsValid n.history → (state n.history).settings ≡ Some settings → (state n.history).changes < 2 ^ 62 → choice_at settings n p ≡ Some cs → MayChoose n (Chose cs)
+may_choose : (settings : Settings) (n : Situation) (p : ℕ) (cs : List Candidate) → IsValid n.history → (state n.history).settings ≡ Some settings → (state n.history).changes < 2 ^ 62 → choice_at settings n p ≡ Some cs → MayChoose n (choice_of cs)
 may_choose settings n p cs v present few is =
     let m = choice_may settings n p cs v present is in
     record {
@@ -190,15 +189,15 @@ may_choose settings n p cs v present few is =
         there = refl;
         short = omega (arith, chose_short cs (chosen_few settings n p cs v present is));
       };
-      valid = valid_snoc n.history (Chose cs) v m.grammar m.may m.widths m.built m.brings;
+      valid = valid_snoc n.history (choice_of cs) v m.grammar m.may m.widths m.built m.brings;
     }
 
-by_choice_made : {P : Type 0} (o : Option (List Candidate)) (c : Change) → Some c ≡ option_map Chose o → ((cs : List Candidate) → o ≡ Some cs → c ≡ Chose cs → P) → P
+by_choice_made : {P : Type 0} (o : Option (List Candidate)) (c : Change) → Some c ≡ option_map choice_of o → ((cs : List Candidate) → o ≡ Some cs → c ≡ choice_of cs → P) → P
 by_choice_made None c is f = absurd (cc (is))
 by_choice_made (Some cs) c is f = f cs refl (cc (is))
 
 -- so it may come next
-pub choice_may_come : {L : Type 0} (node : Node L) (p : ℕ) (c : Change) → node.ledger.state.changes < 2 ^ 62 → (n : Situation) × Knows node n → ((n : Situation) (settings : Settings) → Knows node n → (state n.history).settings ≡ Some settings → Some c ≡ option_map Chose (choice_at settings n p)) → MayCome Knows node c
+pub choice_may_come : {L : Type 0} (node : Node L) (p : ℕ) (c : Change) → node.ledger.state.changes < 2 ^ 62 → (n : Situation) × Knows node n → ((n : Situation) (settings : Settings) → Knows node n → (state n.history).settings ≡ Some settings → Some c ≡ option_map choice_of (choice_at settings n p)) → MayCome Knows node c
 choice_may_come node p c few known choice = (
   subst (λ (s : State). MayMake s c) (sym known.1.ledger) (made known.0 known.1).make,
   λ n k. (made n k).valid,
@@ -214,7 +213,7 @@ choice_may_come node p c few known choice = (
 
 -- a choice
 pub choice_reacts : {L : Type 0} (r : Reaction) (node : Node L) (n : Situation) (p : ℕ) (x : Clock) (c : Change) → Knows node n → clock_of node.clocks.items p ≡ Some x
-    → ((n : Situation) (settings : Settings) → Knows node n → (state n.history).settings ≡ Some settings → Some c ≡ option_map Chose (choice_at settings n p))
+    → ((n : Situation) (settings : Settings) → Knows node n → (state n.history).settings ≡ Some settings → Some c ≡ option_map choice_of (choice_at settings n p))
     → r.change ≡ Some c → r.sample ≡ None → r.dropped ≡ None → r.out ≡ [] → Reacts r (react n (Tick p))
 choice_reacts r node n p x c k found choice change sample dropped out =
     let settings = k.settings.settings in
@@ -250,12 +249,12 @@ too_reacts r r' m letters it given change sample dropped = by_grown m.grown refl
     })
 
 -- where there is none, the machine makes none
-no_choice : (o : Option (List Candidate)) → None ≡ option_map Chose o → o ≡ None
+no_choice : (o : Option (List Candidate)) → None ≡ option_map choice_of o → o ≡ None
 no_choice None is = refl
 no_choice (Some cs) is = absurd (cc (is))
 
 pub deal_reacts : {L : Type 0} (r r' : Reaction) (node : Node L) (n : Situation) (p : ℕ) (x : Clock) → Knows node n → clock_of node.clocks.items p ≡ Some x
-    → ((n : Situation) (settings : Settings) → Knows node n → (state n.history).settings ≡ Some settings → None ≡ option_map Chose (choice_at settings n p))
+    → ((n : Situation) (settings : Settings) → Knows node n → (state n.history).settings ≡ Some settings → None ≡ option_map choice_of (choice_at settings n p))
     → AsksBesides node r p (letters_of r'.out) → r'.change ≡ r.change → r'.sample ≡ r.sample → r'.dropped ≡ r.dropped → AsksDeal r node n p → Reacts r' (react n (Tick p))
 deal_reacts r r' node n p x k found choice given change sample dropped asks =
     let settings = k.settings.settings in
@@ -277,7 +276,7 @@ so_far m letters = by_grown m.grown refl
     by_grown (Some c) is = let e = too_by letters m (Some c) is in record { grown = ap (λ (q : MachineReaction). q.grown) e; dropped = ap (λ (q : MachineReaction). q.dropped) e }
 
 pub deal_reacts_so : {L : Type 0} (r r' : Reaction) (node : Node L) (n : Situation) (p : ℕ) (x : Clock) → Knows node n → clock_of node.clocks.items p ≡ Some x
-    → ((n : Situation) (settings : Settings) → Knows node n → (state n.history).settings ≡ Some settings → None ≡ option_map Chose (choice_at settings n p))
+    → ((n : Situation) (settings : Settings) → Knows node n → (state n.history).settings ≡ Some settings → None ≡ option_map choice_of (choice_at settings n p))
     → r'.change ≡ r.change → r'.dropped ≡ r.dropped → AsksDealSo r node n p → ReactsSo r' n (Tick p)
 deal_reacts_so r r' node n p x k found choice change dropped asks =
     let settings = k.settings.settings in

@@ -186,7 +186,7 @@ clocks_kept None l keys v k = k
 clocks_kept (Some x) l keys v k = changed_known (sampled x.0 x.1) l keys v (record v { samples = with_sample x.0 x.1 v.samples }) (sampled_peer x.0 x.1) (one_sampled v x.0 x.1) k
 
 pub clocks_grown : (l : List Clock) (keys : List (ℕ × List ℕ)) (s : State) (settings : Settings) (c : Change) (v : Volatile) → s.settings ≡ Some settings → KnowsClocks l keys v → KnowsClocks (clocks_changed settings.id c l) keys (by_change s c v)
-clocks_grown l keys s settings (Turned p deal why detail) v is k = rw is (clocks_waiting l keys v p (ticks_to_wait settings.id p) k)
-clocks_grown l keys s settings (Snapped number ticket files folders bytes left names) v is k = no_samples l keys v k
-clocks_grown l keys s settings (Forgot number) v is k = no_samples l keys v k
+clocks_grown l keys s settings (Turned x) v is k = rw is (clocks_waiting l keys v x.peer (ticks_to_wait settings.id x.peer) k)
+clocks_grown l keys s settings (Snapped x) v is k = no_samples l keys v k
+clocks_grown l keys s settings (Forgot x) v is k = no_samples l keys v k
 clocks_grown l keys s settings _ v is k = k

@@ -61,8 +61,8 @@ with_it n m c step = subst IsValid (grown_to n m c step.grown) step.valid
 
 -- no change after the first changes the settings
 settings_stay : (s : State) (c : Change) → allowed s c ≡ true → 1 ≤ s.changes → (after s c).settings ≡ s.settings
-settings_stay s (Begun body) may some =
-    let first : s.changes ≡ 0 = eqb-true s.changes 0 (parts (tests s (Begun body)) (allows s (Begun body) may).tests).0 in
+settings_stay s (Begun x) may some =
+    let first : s.changes ≡ 0 = eqb-true s.changes 0 (parts (tests s (Begun x)) (allows s (Begun x) may).tests).0 in
     absurd (omega (arith, first, some))
 settings_stay s _ may some = refl
 

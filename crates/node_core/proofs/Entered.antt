@@ -93,16 +93,16 @@ differ_at s t p f name b own rows peer gains = record {
     by_owner Own q = ap (λ own. own_has own q) own ∙ sym (ap (λ (x : Bool). own_has s.own q || x) (and_none (b && name_eq name q)) ∙ or_none (own_has s.own q))
     by_owner (Peer r) q = ap (λ (l : List (ℕ × Row)). has in_key (row_in l r).ins (Chunk q)) rows ∙ one_gains p f q (b && name_eq name q) s.rows peer (gains q) r
 
-differ_kept : (s : State) (name : List ℕ) (len : ℕ) (new : Bool) (body : Option (List ℕ)) → IsPlain s → allowed s (Kept name len new body) ≡ true → Differ s (after s (Kept name len new body)) Own name true
+differ_kept : (s : State) (name : List ℕ) (len : ℕ) (new : Bool) (body : Option (List ℕ)) → IsPlain s → allowed s (Kept (record { name = name; len = len; new = new; body = body })) ≡ true → Differ s (after s (Kept (record { name = name; len = len; new = new; body = body }))) Own name true
 differ_kept s name len new body plain may = record {
   owners = λ o q. by_owner o q;
   held = λ q. ap (λ (x : Bool). x || held_in s.rows q) (own_now q) ∙ or_middle (own_has s.own q) (name_eq name q) (held_in s.rows q);
 }
   where
-    own_now : (q : List ℕ) → own_has (after s (Kept name len new body)).own q ≡ (own_has s.own q || name_eq name q)
-    own_now q = ap (λ own. own_has own q) (own_stays s (Kept name len new body) plain refl may refl) ∙ own_with_is (record { name = name; len = len; marked = false }) s.own q
+    own_now : (q : List ℕ) → own_has (after s (Kept (record { name = name; len = len; new = new; body = body }))).own q ≡ (own_has s.own q || name_eq name q)
+    own_now q = ap (λ own. own_has own q) (own_stays s (Kept (record { name = name; len = len; new = new; body = body })) plain refl may refl) ∙ own_with_is (record { name = name; len = len; marked = false }) s.own q
 
-    by_owner : (o : Owner) (q : List ℕ) → owns (after s (Kept name len new body)) o q ≡ (owns s o q || (name_eq name q && owner_eq Own o))
+    by_owner : (o : Owner) (q : List ℕ) → owns (after s (Kept (record { name = name; len = len; new = new; body = body }))) o q ≡ (owns s o q || (name_eq name q && owner_eq Own o))
     by_owner Own q = own_now q ∙ ap (λ (x : Bool). own_has s.own q || x) (sym (and_true (name_eq name q)))
       where
         and_true : (a : Bool) → (a && true) ≡ a
@@ -146,15 +146,15 @@ added_placed old new h c owner name brings number built may names_it fresh knows
         inr (cc (same), names_it q ∙ ap (λ (b : Bool). b && name_eq name q) it ∙ e))
         (λ e. absurd (let clash : None ≡ Some k = sym (ap (λ (b : Bool). cond b (Some number) None) e) ∙ now None there in cc))
 
-kept_brings : (name : List ℕ) (len : ℕ) (new : Bool) (body : Option (List ℕ)) (q : List ℕ) → brings_name q (Kept name len new body) ≡ (new && name_eq name q)
+kept_brings : (name : List ℕ) (len : ℕ) (new : Bool) (body : Option (List ℕ)) (q : List ℕ) → brings_name q (Kept (record { name = name; len = len; new = new; body = body })) ≡ (new && name_eq name q)
 kept_brings name len true body q = refl
 kept_brings name len false body q = refl
 
-swap_brings : (p deal : ℕ) (name numbers : List ℕ) (len : ℕ) (new : Bool) (body : Option (List ℕ)) (q : List ℕ) → brings_name q (TookSwap p deal name numbers len new body) ≡ (new && name_eq name q)
+swap_brings : (p deal : ℕ) (name numbers : List ℕ) (len : ℕ) (new : Bool) (body : Option (List ℕ)) (q : List ℕ) → brings_name q (TookSwap (record { peer = p; deal = deal; name = name; slots = numbers; len = len; new = new; body = body })) ≡ (new && name_eq name q)
 swap_brings p deal name numbers len true body q = refl
 swap_brings p deal name numbers len false body q = refl
 
-fresh_brings : (p deal : ℕ) (name : List ℕ) (first len : ℕ) (new : Bool) (body : Option (List ℕ)) (q : List ℕ) → brings_name q (TookFresh p deal name first len new body) ≡ (new && name_eq name q)
+fresh_brings : (p deal : ℕ) (name : List ℕ) (first len : ℕ) (new : Bool) (body : Option (List ℕ)) (q : List ℕ) → brings_name q (TookFresh (record { peer = p; deal = deal; name = name; first = first; len = len; new = new; body = body })) ≡ (new && name_eq name q)
 fresh_brings p deal name first len true body q = refl
 fresh_brings p deal name first len false body q = refl
 
@@ -164,28 +164,28 @@ left_record old new owner q k (inl was) is = sym was.0 ∙ is
 left_record old new owner q k (inr none) is = absurd (let clash : None ≡ Some k = sym none.0 ∙ is in cc)
 
 pub placed : (old new : Store) (h : List Change) (c : Change) (number : ℕ) → is_lawful h ≡ true → list_all is_built h ≡ true → is_built c ≡ true → allowed (state h) c ≡ true → KnowsNames old h → Enters (state h) old new c number → (q : List ℕ) (k : ℕ) → record_of new q ≡ Some k → IsPlaced old c number q k
-placed old new h (Begun body) number lawful built is may knows enters q k here = inl (sym (enters.records q) ∙ here, refl)
-placed old new h (Kept name len brings body) number lawful built is may knows enters q k here =
-    let c : Change = Kept name len brings body in
+placed old new h (Begun x) number lawful built is may knows enters q k here = inl (sym (enters.records q) ∙ here, refl)
+placed old new h (Kept x) number lawful built is may knows enters q k here =
+    let c : Change = Kept x in
     let ts = parts (tests (state h) c) (allows (state h) c may).tests in
-    added_placed old new h c Own name brings number refl may (kept_brings name len brings body) (λ free. is_fresh (is_held (state h) name) brings ts.1.0 free) knows enters q k here
-placed old new h (Snapped snapshot ticket files folders bytes left names) number lawful built is may knows enters q k here = inl (sym (enters.records q) ∙ here, refl)
-placed old new h (Forgot snapshot) number lawful built is may knows enters q k here = inl (left_record old new Own q k (enters.drops.records q) here, refl)
-placed old new h (TookFresh p deal name first len brings body) number lawful built is may knows enters q k here =
-    let c : Change = TookFresh p deal name first len brings body in
+    added_placed old new h c Own x.name x.new number refl may (kept_brings x.name x.len x.new x.body) (λ free. is_fresh (is_held (state h) x.name) x.new ts.1.0 free) knows enters q k here
+placed old new h (Snapped x) number lawful built is may knows enters q k here = inl (sym (enters.records q) ∙ here, refl)
+placed old new h (Forgot x) number lawful built is may knows enters q k here = inl (left_record old new Own q k (enters.drops.records q) here, refl)
+placed old new h (TookFresh x) number lawful built is may knows enters q k here =
+    let c : Change = TookFresh x in
     let ts = parts (tests (state h) c) (allows (state h) c may).tests in
-    added_placed old new h c (Peer p) name brings number refl may (fresh_brings p deal name first len brings body) (λ free. is_fresh (is_held (state h) name) brings ts.1.1.0 free) knows enters q k here
-placed old new h (TookSwap p deal name numbers len brings body) number lawful built is may knows enters q k here =
-    let c : Change = TookSwap p deal name numbers len brings body in
+    added_placed old new h c (Peer x.peer) x.name x.new number refl may (fresh_brings x.peer x.deal x.name x.first x.len x.new x.body) (λ free. is_fresh (is_held (state h) x.name) x.new ts.1.1.0 free) knows enters q k here
+placed old new h (TookSwap x) number lawful built is may knows enters q k here =
+    let c : Change = TookSwap x in
     let ts = parts (tests (state h) c) (allows (state h) c may).tests in
-    added_placed old new h c (Peer p) name brings number refl may (swap_brings p deal name numbers len brings body) (λ free. is_fresh (is_held (state h) name) brings ts.1.1.0 free) knows enters q k here
-placed old new h (LetGo p deal name numbers) number lawful built is may knows enters q k here = inl (left_record old new (Peer p) q k (enters.records q) here, refl)
-placed old new h (LetGoBack p deal name numbers body) number lawful built is may knows enters q k here = inl (left_record old new (Peer p) q k (enters.records q) here, refl)
-placed old new h (Refused p deal why detail) number lawful built is may knows enters q k here = inl (sym (enters.records q) ∙ here, refl)
-placed old new h (Proposed p deal what) number lawful built is may knows enters q k here = inl (sym (enters.records q) ∙ here, refl)
-placed old new h (Settled p deal numbers body) number lawful built is may knows enters q k here = inl (left_record old new Own q k (enters.drops.records q) here, refl)
-placed old new h (Turned p deal why detail) number lawful built is may knows enters q k here = inl (left_record old new Own q k (enters.drops.records q) here, refl)
-placed old new h (Chose candidates) number lawful built is may knows enters q k here = inl (sym (enters.records q) ∙ here, refl)
+    added_placed old new h c (Peer x.peer) x.name x.new number refl may (swap_brings x.peer x.deal x.name x.slots x.len x.new x.body) (λ free. is_fresh (is_held (state h) x.name) x.new ts.1.1.0 free) knows enters q k here
+placed old new h (LetGo x) number lawful built is may knows enters q k here = inl (left_record old new (Peer x.peer) q k (enters.records q) here, refl)
+placed old new h (LetGoBack x) number lawful built is may knows enters q k here = inl (left_record old new (Peer x.peer) q k (enters.records q) here, refl)
+placed old new h (Refused x) number lawful built is may knows enters q k here = inl (sym (enters.records q) ∙ here, refl)
+placed old new h (Proposed x) number lawful built is may knows enters q k here = inl (sym (enters.records q) ∙ here, refl)
+placed old new h (Settled x) number lawful built is may knows enters q k here = inl (left_record old new Own q k (enters.drops.records q) here, refl)
+placed old new h (Turned x) number lawful built is may knows enters q k here = inl (left_record old new Own q k (enters.drops.records q) here, refl)
+placed old new h (Chose x) number lawful built is may knows enters q k here = inl (sym (enters.records q) ∙ here, refl)
 placed old new h _ number lawful built is may knows enters q k here = absurd (false≢true is)
 
 placed_brought : (old : Store) (h : List Change) (c : Change) (q : List ℕ) (k : ℕ) → KnowsNames old h → IsPlaced old c (length h) q k → brought_from 0 q (h ++ c ∷ []) ≡ Some k
@@ -306,10 +306,10 @@ let_go_names old new h c p name lawful built is later peer here own may none los
     owners_now Own q = drops.owners Own q ∙ ap (λ (b : Bool). is_owner old Own q && not b) (and_none (name_eq name q)) ∙ and_true (is_owner old Own q) ∙ knows.owners Own q ∙ ap (λ l. own_has l q) (sym own)
     owners_now (Peer r) q = drops.owners (Peer r) q ∙ ap (λ (b : Bool). b && not (name_eq name q && (p == r))) (knows.owners (Peer r) q) ∙ sym (row_now r q)
 
-begun_names : (old new : Store) (h : List Change) (body : Option (List ℕ)) → length h ≡ 0 → KnowsNames old h → SameNames old new → KnowsNames new (h ++ Begun body ∷ [])
+begun_names : (old new : Store) (h : List Change) (body : Option (List ℕ)) → length h ≡ 0 → KnowsNames old h → SameNames old new → KnowsNames new (h ++ Begun (record { body = body }) ∷ [])
 begun_names old new h body none knows same = at h none knows
   where
-    no_owner : (o : Owner) (q : List ℕ) → owns (after nothing_yet (Begun body)) o q ≡ false
+    no_owner : (o : Owner) (q : List ℕ) → owns (after nothing_yet (Begun (record { body = body }))) o q ≡ false
     no_owner Own q = refl
     no_owner (Peer p) q = ap (λ (r : Row). has in_key r.ins (Chunk q)) (row_in-first_rows (settings_of_body body) p)
 
@@ -317,7 +317,7 @@ begun_names old new h body none knows same = at h none knows
     nobody Own q = refl
     nobody (Peer p) q = refl
 
-    at : (h : List Change) → length h ≡ 0 → KnowsNames old h → KnowsNames new (h ++ Begun body ∷ [])
+    at : (h : List Change) → length h ≡ 0 → KnowsNames old h → KnowsNames new (h ++ Begun (record { body = body }) ∷ [])
     at [] first knows = record {
       owners = λ o q. same.owners o q ∙ knows.owners o q ∙ nobody o q ∙ sym (no_owner o q);
       held = λ q. ap is_some (same.records q) ∙ knows.held q ∙ sym (none_first (settings_of_body body) q);
@@ -331,63 +331,63 @@ snapped_owns s c own rows (Peer p) q = ap (λ (l : List (ℕ × Row)). has in_ke
 
 -- with one change more
 pub names_grown : (old new : Store) (h : List Change) (c : Change) → is_lawful h ≡ true → list_all is_built h ≡ true → is_built c ≡ true → allowed (state h) c ≡ true → KnowsNames old h → Enters (state h) old new c (length h) → KnowsNames new (h ++ c ∷ [])
-names_grown old new h (Begun body) lawful built is may knows enters =
-    let ts = parts (tests (state h) (Begun body)) (allows (state h) (Begun body) may).tests in
-    begun_names old new h body (omega (arith, changes_counted h, eqb-true (state h).changes 0 ts.0)) knows enters
-names_grown old new h (Kept name len brings body) lawful built is may knows enters =
-    let c : Change = Kept name len brings body in
-    added_names old new h c Own name (differ_kept (state h) name len brings body (plain_state h lawful built) may) knows enters (placed old new h c (length h) lawful built is may knows enters)
-names_grown old new h (Snapped number ticket files folders bytes left names) lawful built is may knows enters =
-    let c : Change = Snapped number ticket files folders bytes left names in
-    let own : (q : List ℕ) → own_has (after (state h) c).own q ≡ own_has (state h).own q = λ q. ap (λ l. own_has l q) (own_stays (state h) c (plain_state h lawful built) refl may refl) ∙ marks_has (λ e. e.marked && not (name_listed names e.name)) (state h).own q in
+names_grown old new h (Begun x) lawful built is may knows enters =
+    let ts = parts (tests (state h) (Begun x)) (allows (state h) (Begun x) may).tests in
+    begun_names old new h x.body (omega (arith, changes_counted h, eqb-true (state h).changes 0 ts.0)) knows enters
+names_grown old new h (Kept x) lawful built is may knows enters =
+    let c : Change = Kept x in
+    added_names old new h c Own x.name (differ_kept (state h) x.name x.len x.new x.body (plain_state h lawful built) may) knows enters (placed old new h c (length h) lawful built is may knows enters)
+names_grown old new h (Snapped x) lawful built is may knows enters =
+    let c : Change = Snapped x in
+    let own : (q : List ℕ) → own_has (after (state h) c).own q ≡ own_has (state h).own q = λ q. ap (λ l. own_has l q) (own_stays (state h) c (plain_state h lawful built) refl may refl) ∙ marks_has (λ e. e.marked && not (name_listed x.names e.name)) (state h).own q in
     same_names old new h c (λ q. refl) (snapped_owns (state h) c own refl) (λ q. ap (λ b. b || held_in (state h).rows q) (own q)) knows enters
-names_grown old new h (Forgot number) lawful built is may knows enters =
+names_grown old new h (Forgot x) lawful built is may knows enters =
     let p = plain_state h lawful built in
-    given_up_names old new h (Forgot number) lawful built refl refl may (λ q. refl)
-    (λ q lacks. forgot_has (state h) number q p ∙ ap (λ (b : Bool). b && (kept_lists (kept_without number (state h).kept) q || is_named (state h).rows q)) lacks)
+    given_up_names old new h (Forgot x) lawful built refl refl may (λ q. refl)
+    (λ q lacks. forgot_has (state h) x.number q p ∙ ap (λ (b : Bool). b && (kept_lists (kept_without x.number (state h).kept) q || is_named (state h).rows q)) lacks)
     (λ r q. refl) knows enters
-names_grown old new h (TookFresh p deal name first len brings body) lawful built is may knows enters =
-    let c : Change = TookFresh p deal name first len brings body in
+names_grown old new h (TookFresh x) lawful built is may knows enters =
+    let c : Change = TookFresh x in
     let s = state h in
-    added_names old new h c (Peer p) name
-    (differ_at s (after s c) p (changed s c) name true (own_stays s c (plain_state h lawful built) refl may refl) (rows_one s c p (plain_state h lawful built).rows refl refl) (allows s c may).peer (λ q. fresh_gains s p deal name first len brings body q))
+    added_names old new h c (Peer x.peer) x.name
+    (differ_at s (after s c) x.peer (changed s c) x.name true (own_stays s c (plain_state h lawful built) refl may refl) (rows_one s c x.peer (plain_state h lawful built).rows refl refl) (allows s c may).peer (λ q. fresh_gains s x.peer x.deal x.name x.first x.len x.new x.body q))
     knows enters (placed old new h c (length h) lawful built is may knows enters)
-names_grown old new h (TookSwap p deal name numbers len brings body) lawful built is may knows enters =
-    let c : Change = TookSwap p deal name numbers len brings body in
+names_grown old new h (TookSwap x) lawful built is may knows enters =
+    let c : Change = TookSwap x in
     let s = state h in
-    added_names old new h c (Peer p) name
-    (differ_at s (after s c) p (changed s c) name true (own_stays s c (plain_state h lawful built) refl may refl) (rows_one s c p (plain_state h lawful built).rows refl refl) (allows s c may).peer (λ q. swap_gains s p deal name numbers len brings body q))
+    added_names old new h c (Peer x.peer) x.name
+    (differ_at s (after s c) x.peer (changed s c) x.name true (own_stays s c (plain_state h lawful built) refl may refl) (rows_one s c x.peer (plain_state h lawful built).rows refl refl) (allows s c may).peer (λ q. swap_gains s x.peer x.deal x.name x.slots x.len x.new x.body q))
     knows enters (placed old new h c (length h) lawful built is may knows enters)
-names_grown old new h (LetGo p deal name numbers) lawful built is may knows enters =
-    let c : Change = LetGo p deal name numbers in
-    let_go_names old new h c p name lawful built refl refl refl (allows (state h) c may).peer (own_stays (state h) c (plain_state h lawful built) refl may refl) may (λ q. refl) (λ q. let_go_loses (state h) p deal name numbers q) knows enters
-names_grown old new h (LetGoBack p deal name numbers body) lawful built is may knows enters =
-    let c : Change = LetGoBack p deal name numbers body in
-    let_go_names old new h c p name lawful built refl refl refl (allows (state h) c may).peer (own_stays (state h) c (plain_state h lawful built) refl may refl) may (λ q. refl) (λ q. put_back_loses (state h) p deal name numbers body q) knows enters
-names_grown old new h (Refused p deal why detail) lawful built is may knows enters =
-    let c : Change = Refused p deal why detail in
+names_grown old new h (LetGo x) lawful built is may knows enters =
+    let c : Change = LetGo x in
+    let_go_names old new h c x.peer x.name lawful built refl refl refl (allows (state h) c may).peer (own_stays (state h) c (plain_state h lawful built) refl may refl) may (λ q. refl) (λ q. let_go_loses (state h) x.peer x.deal x.name x.slots q) knows enters
+names_grown old new h (LetGoBack x) lawful built is may knows enters =
+    let c : Change = LetGoBack x in
+    let_go_names old new h c x.peer x.name lawful built refl refl refl (allows (state h) c may).peer (own_stays (state h) c (plain_state h lawful built) refl may refl) may (λ q. refl) (λ q. put_back_loses (state h) x.peer x.deal x.name x.slots x.body q) knows enters
+names_grown old new h (Refused x) lawful built is may knows enters =
+    let c : Change = Refused x in
     let s = state h in
-    let differ : Differ s (after s c) (Peer p) [] false = differ_at s (after s c) p (changed s c) [] false (own_stays s c (plain_state h lawful built) refl may refl) (rows_one s c p (plain_state h lawful built).rows refl refl) (allows s c may).peer (λ q. refused_gains s p deal why detail q) in
+    let differ : Differ s (after s c) (Peer x.peer) [] false = differ_at s (after s c) x.peer (changed s c) [] false (own_stays s c (plain_state h lawful built) refl may refl) (rows_one s c x.peer (plain_state h lawful built).rows refl refl) (allows s c may).peer (λ q. refused_gains s x.peer x.deal x.why x.detail q) in
     same_names old new h c (λ q. refl) (λ o q. differ.owners o q ∙ or_none (owns s o q)) (λ q. differ.held q ∙ or_none (is_held s q)) knows enters
-names_grown old new h (Proposed p deal what) lawful built is may knows enters =
-    let c : Change = Proposed p deal what in
+names_grown old new h (Proposed x) lawful built is may knows enters =
+    let c : Change = Proposed x in
     let s = state h in
-    let differ : Differ s (after s c) (Peer p) [] false = differ_at s (after s c) p (changed s c) [] false (own_stays s c (plain_state h lawful built) is may refl) (rows_one s c p (plain_state h lawful built).rows is refl) (allows s c may).peer (λ q. proposed_gains s p deal what q) in
+    let differ : Differ s (after s c) (Peer x.peer) [] false = differ_at s (after s c) x.peer (changed s c) [] false (own_stays s c (plain_state h lawful built) is may refl) (rows_one s c x.peer (plain_state h lawful built).rows is refl) (allows s c may).peer (λ q. proposed_gains s x.peer x.deal x.what q) in
     same_names old new h c (λ q. refl) (λ o q. differ.owners o q ∙ or_none (owns s o q)) (λ q. differ.held q ∙ or_none (is_held s q)) knows enters
-names_grown old new h (Settled p deal numbers body) lawful built is may knows enters =
-    let c : Change = Settled p deal numbers body in
+names_grown old new h (Settled x) lawful built is may knows enters =
+    let c : Change = Settled x in
     let s = state h in
     let plain = plain_state h lawful built in
     given_up_names old new h c lawful built refl refl may (λ q. refl) (λ q lacks. ended_has s c q plain refl ∙ ap (λ (b : Bool). b && (not (own_marked s.own q) || is_named (all_rows_after s c) q)) lacks)
-    (peers_stay s c p plain refl refl (allows s c may).peer (λ q. settled_gains s p deal numbers body q)) knows enters
-names_grown old new h (Turned p deal why detail) lawful built is may knows enters =
-    let c : Change = Turned p deal why detail in
+    (peers_stay s c x.peer plain refl refl (allows s c may).peer (λ q. settled_gains s x.peer x.deal x.slots x.body q)) knows enters
+names_grown old new h (Turned x) lawful built is may knows enters =
+    let c : Change = Turned x in
     let s = state h in
     let plain = plain_state h lawful built in
     given_up_names old new h c lawful built refl refl may (λ q. refl) (λ q lacks. ended_has s c q plain refl ∙ ap (λ (b : Bool). b && (not (own_marked s.own q) || is_named (all_rows_after s c) q)) lacks)
-    (peers_stay s c p plain refl refl (allows s c may).peer (λ q. turned_gains s p deal why detail q)) knows enters
-names_grown old new h (Chose candidates) lawful built is may knows enters =
-    let c : Change = Chose candidates in
+    (peers_stay s c x.peer plain refl refl (allows s c may).peer (λ q. turned_gains s x.peer x.deal x.why x.detail q)) knows enters
+names_grown old new h (Chose x) lawful built is may knows enters =
+    let c : Change = Chose x in
     let own : (q : List ℕ) → own_has (after (state h) c).own q ≡ own_has (state h).own q = λ q. ap (λ l. own_has l q) (own_stays (state h) c (plain_state h lawful built) refl may refl) in
     same_names old new h c (λ q. refl) (snapped_owns (state h) c own refl) (λ q. ap (λ b. b || held_in (state h).rows q) (own q)) knows enters
 names_grown old new h _ lawful built is may knows enters = absurd (false≢true is)
@@ -405,33 +405,33 @@ names_start store none nobody = record {
     at (Peer p) q = refl
 
 -- and so does that of a node that has just begun
-pub names_begun : (store : Store) (text : List ℕ) → ((q : List ℕ) → record_of store q ≡ None) → ((o : Owner) (q : List ℕ) → is_owner store o q ≡ false) → KnowsNames store (Begun (Some text) ∷ [])
+pub names_begun : (store : Store) (text : List ℕ) → ((q : List ℕ) → record_of store q ≡ None) → ((o : Owner) (q : List ℕ) → is_owner store o q ≡ false) → KnowsNames store (Begun (record { body = Some text }) ∷ [])
 names_begun store text none nobody = begun_names store store [] (Some text) refl (names_start store none nobody) (record { owners = λ o q. refl; records = λ q. refl })
 
 -- a name that a change may give to an owner is not the owner's yet
 pub is_new : (store : Store) (h : List Change) (s : State) (c : Change) (e : Entering) → KnowsNames store h → s ≡ state h → is_built c ≡ true → allowed s c ≡ true → IsEntering s c e → IsNew store e
-is_new store h s (Begun body) e knows here is may it = subst (IsNew store) (sym it) tt
-is_new store h s (Kept name len brings body) e knows here is may it =
-    let c : Change = Kept name len brings body in
+is_new store h s (Begun x) e knows here is may it = subst (IsNew store) (sym it) tt
+is_new store h s (Kept x) e knows here is may it =
+    let c : Change = Kept x in
     let ts = parts (tests s c) (allows s c may).tests in
-    subst (IsNew store) (sym it) (knows.owners Own name ∙ ap (λ (t : State). owns t Own name) (sym here) ∙ not_true (own_has s.own name) ts.0)
-is_new store h s (Snapped number ticket files folders bytes left names) e knows here is may it = subst (IsNew store) (sym it) tt
-is_new store h s (Forgot number) e knows here is may it = subst (IsNew store) (sym it.1) tt
-is_new store h s (TookFresh p deal name first len brings body) e knows here is may it =
-    let c : Change = TookFresh p deal name first len brings body in
+    subst (IsNew store) (sym it) (knows.owners Own x.name ∙ ap (λ (t : State). owns t Own x.name) (sym here) ∙ not_true (own_has s.own x.name) ts.0)
+is_new store h s (Snapped x) e knows here is may it = subst (IsNew store) (sym it) tt
+is_new store h s (Forgot x) e knows here is may it = subst (IsNew store) (sym it.1) tt
+is_new store h s (TookFresh x) e knows here is may it =
+    let c : Change = TookFresh x in
     let ts = parts (tests s c) (allows s c may).tests in
-    subst (IsNew store) (sym it) (knows.owners (Peer p) name ∙ ap (λ (t : State). owns t (Peer p) name) (sym here) ∙ not_true (has in_key (row s p).ins (Chunk name)) ts.1.0)
-is_new store h s (TookSwap p deal name numbers len brings body) e knows here is may it =
-    let c : Change = TookSwap p deal name numbers len brings body in
+    subst (IsNew store) (sym it) (knows.owners (Peer x.peer) x.name ∙ ap (λ (t : State). owns t (Peer x.peer) x.name) (sym here) ∙ not_true (has in_key (row s x.peer).ins (Chunk x.name)) ts.1.0)
+is_new store h s (TookSwap x) e knows here is may it =
+    let c : Change = TookSwap x in
     let ts = parts (tests s c) (allows s c may).tests in
-    subst (IsNew store) (sym it) (knows.owners (Peer p) name ∙ ap (λ (t : State). owns t (Peer p) name) (sym here) ∙ not_true (has in_key (row s p).ins (Chunk name)) ts.1.0)
-is_new store h s (LetGo p deal name numbers) e knows here is may it = subst (IsNew store) (sym it) tt
-is_new store h s (LetGoBack p deal name numbers body) e knows here is may it = subst (IsNew store) (sym it) tt
-is_new store h s (Refused p deal why detail) e knows here is may it = subst (IsNew store) (sym it) tt
-is_new store h s (Proposed p deal what) e knows here is may it = subst (IsNew store) (sym it) tt
-is_new store h s (Settled p deal numbers body) e knows here is may it = subst (IsNew store) (sym it) tt
-is_new store h s (Turned p deal why detail) e knows here is may it = subst (IsNew store) (sym it) tt
-is_new store h s (Chose candidates) e knows here is may it = subst (IsNew store) (sym it) tt
+    subst (IsNew store) (sym it) (knows.owners (Peer x.peer) x.name ∙ ap (λ (t : State). owns t (Peer x.peer) x.name) (sym here) ∙ not_true (has in_key (row s x.peer).ins (Chunk x.name)) ts.1.0)
+is_new store h s (LetGo x) e knows here is may it = subst (IsNew store) (sym it) tt
+is_new store h s (LetGoBack x) e knows here is may it = subst (IsNew store) (sym it) tt
+is_new store h s (Refused x) e knows here is may it = subst (IsNew store) (sym it) tt
+is_new store h s (Proposed x) e knows here is may it = subst (IsNew store) (sym it) tt
+is_new store h s (Settled x) e knows here is may it = subst (IsNew store) (sym it) tt
+is_new store h s (Turned x) e knows here is may it = subst (IsNew store) (sym it) tt
+is_new store h s (Chose x) e knows here is may it = subst (IsNew store) (sym it) tt
 is_new store h s _ e knows here is may it = absurd (false≢true is)
 
 -- names that may go, and of which those went that own has no longer
@@ -444,27 +444,27 @@ given_up_of s c old new names stay drops = record {
 
 -- what was worked out of a change is what the change does
 enters_of : (s : State) (old new : Store) (c : Change) (e : Entering) (number : ℕ) → IsPlain s → is_built c ≡ true → IsEntering s c e → Enter (after s c).own old new e number → Enters s old new c number
-enters_of s old new (Forgot snapshot) e number p is it enter =
-    given_up_of s (Forgot snapshot) old new it.0 (λ q has other. forgot_has s snapshot q p ∙ rw (has, listed q has other) refl) (subst (λ (x : Entering). Enter (after s (Forgot snapshot)).own old new x number) it.1 enter)
+enters_of s old new (Forgot y) e number p is it enter =
+    given_up_of s (Forgot y) old new it.0 (λ q has other. forgot_has s y.number q p ∙ rw (has, listed q has other) refl) (subst (λ (x : Entering). Enter (after s (Forgot y)).own old new x number) it.1 enter)
   where
-    listed : (q : List ℕ) → own_has s.own q ≡ true → name_listed it.0 q ≡ false → kept_lists (kept_without snapshot s.kept) q ≡ true
-    listed q has other = by_cases (kept_lists (kept_without snapshot s.kept) q) (λ k. k) (λ k. absurd (false≢true (sym other ∙ it.2 q has k)))
-enters_of s old new (Settled q deal numbers body) e number p is it enter =
-    let c : Change = Settled q deal numbers body in
-    given_up_of s c old new (deal_names s q) (λ n has other. settled_beside s q deal numbers body n p other ∙ has) (subst (λ (x : Entering). Enter (after s c).own old new x number) it enter)
-enters_of s old new (Turned q deal why detail) e number p is it enter =
-    let c : Change = Turned q deal why detail in
-    given_up_of s c old new (deal_names s q) (λ n has other. turned_beside s q deal why detail n p other ∙ has) (subst (λ (x : Entering). Enter (after s c).own old new x number) it enter)
-enters_of s old new (Begun body) e number p is it enter = subst (λ (x : Entering). Enter (after s (Begun body)).own old new x number) it enter
-enters_of s old new (Kept name len brings body) e number p is it enter = subst (λ (x : Entering). Enter (after s (Kept name len brings body)).own old new x number) it enter
-enters_of s old new (Snapped snapshot ticket files folders bytes left names) e number p is it enter = subst (λ (x : Entering). Enter (after s (Snapped snapshot ticket files folders bytes left names)).own old new x number) it enter
-enters_of s old new (TookFresh q deal name first len brings body) e number p is it enter = subst (λ (x : Entering). Enter (after s (TookFresh q deal name first len brings body)).own old new x number) it enter
-enters_of s old new (TookSwap q deal name numbers len brings body) e number p is it enter = subst (λ (x : Entering). Enter (after s (TookSwap q deal name numbers len brings body)).own old new x number) it enter
-enters_of s old new (LetGo q deal name numbers) e number p is it enter = subst (λ (x : Entering). Enter (after s (LetGo q deal name numbers)).own old new x number) it enter
-enters_of s old new (LetGoBack q deal name numbers body) e number p is it enter = subst (λ (x : Entering). Enter (after s (LetGoBack q deal name numbers body)).own old new x number) it enter
-enters_of s old new (Refused q deal why detail) e number p is it enter = subst (λ (x : Entering). Enter (after s (Refused q deal why detail)).own old new x number) it enter
-enters_of s old new (Proposed q deal what) e number p is it enter = subst (λ (x : Entering). Enter (after s (Proposed q deal what)).own old new x number) it enter
-enters_of s old new (Chose candidates) e number p is it enter = subst (λ (x : Entering). Enter (after s (Chose candidates)).own old new x number) it enter
+    listed : (q : List ℕ) → own_has s.own q ≡ true → name_listed it.0 q ≡ false → kept_lists (kept_without y.number s.kept) q ≡ true
+    listed q has other = by_cases (kept_lists (kept_without y.number s.kept) q) (λ k. k) (λ k. absurd (false≢true (sym other ∙ it.2 q has k)))
+enters_of s old new (Settled y) e number p is it enter =
+    let c : Change = Settled y in
+    given_up_of s c old new (deal_names s y.peer) (λ n has other. settled_beside s y.peer y.deal y.slots y.body n p other ∙ has) (subst (λ (x : Entering). Enter (after s c).own old new x number) it enter)
+enters_of s old new (Turned y) e number p is it enter =
+    let c : Change = Turned y in
+    given_up_of s c old new (deal_names s y.peer) (λ n has other. turned_beside s y.peer y.deal y.why y.detail n p other ∙ has) (subst (λ (x : Entering). Enter (after s c).own old new x number) it enter)
+enters_of s old new (Begun y) e number p is it enter = subst (λ (x : Entering). Enter (after s (Begun y)).own old new x number) it enter
+enters_of s old new (Kept y) e number p is it enter = subst (λ (x : Entering). Enter (after s (Kept y)).own old new x number) it enter
+enters_of s old new (Snapped y) e number p is it enter = subst (λ (x : Entering). Enter (after s (Snapped y)).own old new x number) it enter
+enters_of s old new (TookFresh y) e number p is it enter = subst (λ (x : Entering). Enter (after s (TookFresh y)).own old new x number) it enter
+enters_of s old new (TookSwap y) e number p is it enter = subst (λ (x : Entering). Enter (after s (TookSwap y)).own old new x number) it enter
+enters_of s old new (LetGo y) e number p is it enter = subst (λ (x : Entering). Enter (after s (LetGo y)).own old new x number) it enter
+enters_of s old new (LetGoBack y) e number p is it enter = subst (λ (x : Entering). Enter (after s (LetGoBack y)).own old new x number) it enter
+enters_of s old new (Refused y) e number p is it enter = subst (λ (x : Entering). Enter (after s (Refused y)).own old new x number) it enter
+enters_of s old new (Proposed y) e number p is it enter = subst (λ (x : Entering). Enter (after s (Proposed y)).own old new x number) it enter
+enters_of s old new (Chose y) e number p is it enter = subst (λ (x : Entering). Enter (after s (Chose y)).own old new x number) it enter
 enters_of s old new _ e number p is it enter = absurd (false≢true is)
 
 -- so it is after the change was made of a history
@@ -507,17 +507,17 @@ added_there old new owner name size more keeps keeps' longer there adds = λ q k
 
 -- a log with the record of the change has the bodies of the names after it
 pub there_grown : (s : State) (old new : Store) (c : Change) (size more : ℕ) (keeps keeps' : ℕ → Bool) → is_built c ≡ true → more ≡ size + 1 → ((n : ℕ) → n < size → keeps' n ≡ keeps n) → keeps' size ≡ true → AreThere old size keeps → Enters s old new c size → AreThere new more keeps'
-there_grown s old new (Begun body) size more keeps keeps' is longer same last there enters = λ q k here. still_there size more keeps keeps' k (longer, same, last) (there q k (sym (enters.records q) ∙ here))
-there_grown s old new (Kept name len brings body) size more keeps keeps' is longer same last there enters = added_there old new Own name size more keeps keeps' (longer, same, last) there enters
-there_grown s old new (Snapped snapshot ticket files folders bytes left names) size more keeps keeps' is longer same last there enters = λ q k here. still_there size more keeps keeps' k (longer, same, last) (there q k (sym (enters.records q) ∙ here))
-there_grown s old new (Forgot snapshot) size more keeps keeps' is longer same last there enters = λ q k here. still_there size more keeps keeps' k (longer, same, last) (there q k (left_record old new Own q k (enters.drops.records q) here))
-there_grown s old new (TookFresh p deal name first len brings body) size more keeps keeps' is longer same last there enters = added_there old new (Peer p) name size more keeps keeps' (longer, same, last) there enters
-there_grown s old new (TookSwap p deal name numbers len brings body) size more keeps keeps' is longer same last there enters = added_there old new (Peer p) name size more keeps keeps' (longer, same, last) there enters
-there_grown s old new (LetGo p deal name numbers) size more keeps keeps' is longer same last there enters = λ q k here. still_there size more keeps keeps' k (longer, same, last) (there q k (left_record old new (Peer p) q k (enters.records q) here))
-there_grown s old new (LetGoBack p deal name numbers body) size more keeps keeps' is longer same last there enters = λ q k here. still_there size more keeps keeps' k (longer, same, last) (there q k (left_record old new (Peer p) q k (enters.records q) here))
-there_grown s old new (Proposed p deal what) size more keeps keeps' is longer same last there enters = λ q k here. still_there size more keeps keeps' k (longer, same, last) (there q k (sym (enters.records q) ∙ here))
-there_grown s old new (Settled p deal numbers body) size more keeps keeps' is longer same last there enters = λ q k here. still_there size more keeps keeps' k (longer, same, last) (there q k (left_record old new Own q k (enters.drops.records q) here))
-there_grown s old new (Turned p deal why detail) size more keeps keeps' is longer same last there enters = λ q k here. still_there size more keeps keeps' k (longer, same, last) (there q k (left_record old new Own q k (enters.drops.records q) here))
-there_grown s old new (Chose candidates) size more keeps keeps' is longer same last there enters = λ q k here. still_there size more keeps keeps' k (longer, same, last) (there q k (sym (enters.records q) ∙ here))
-there_grown s old new (Refused p deal why detail) size more keeps keeps' is longer same last there enters = λ q k here. still_there size more keeps keeps' k (longer, same, last) (there q k (sym (enters.records q) ∙ here))
+there_grown s old new (Begun x) size more keeps keeps' is longer same last there enters = λ q k here. still_there size more keeps keeps' k (longer, same, last) (there q k (sym (enters.records q) ∙ here))
+there_grown s old new (Kept x) size more keeps keeps' is longer same last there enters = added_there old new Own x.name size more keeps keeps' (longer, same, last) there enters
+there_grown s old new (Snapped x) size more keeps keeps' is longer same last there enters = λ q k here. still_there size more keeps keeps' k (longer, same, last) (there q k (sym (enters.records q) ∙ here))
+there_grown s old new (Forgot x) size more keeps keeps' is longer same last there enters = λ q k here. still_there size more keeps keeps' k (longer, same, last) (there q k (left_record old new Own q k (enters.drops.records q) here))
+there_grown s old new (TookFresh x) size more keeps keeps' is longer same last there enters = added_there old new (Peer x.peer) x.name size more keeps keeps' (longer, same, last) there enters
+there_grown s old new (TookSwap x) size more keeps keeps' is longer same last there enters = added_there old new (Peer x.peer) x.name size more keeps keeps' (longer, same, last) there enters
+there_grown s old new (LetGo x) size more keeps keeps' is longer same last there enters = λ q k here. still_there size more keeps keeps' k (longer, same, last) (there q k (left_record old new (Peer x.peer) q k (enters.records q) here))
+there_grown s old new (LetGoBack x) size more keeps keeps' is longer same last there enters = λ q k here. still_there size more keeps keeps' k (longer, same, last) (there q k (left_record old new (Peer x.peer) q k (enters.records q) here))
+there_grown s old new (Proposed x) size more keeps keeps' is longer same last there enters = λ q k here. still_there size more keeps keeps' k (longer, same, last) (there q k (sym (enters.records q) ∙ here))
+there_grown s old new (Settled x) size more keeps keeps' is longer same last there enters = λ q k here. still_there size more keeps keeps' k (longer, same, last) (there q k (left_record old new Own q k (enters.drops.records q) here))
+there_grown s old new (Turned x) size more keeps keeps' is longer same last there enters = λ q k here. still_there size more keeps keeps' k (longer, same, last) (there q k (left_record old new Own q k (enters.drops.records q) here))
+there_grown s old new (Chose x) size more keeps keeps' is longer same last there enters = λ q k here. still_there size more keeps keeps' k (longer, same, last) (there q k (sym (enters.records q) ∙ here))
+there_grown s old new (Refused x) size more keeps keeps' is longer same last there enters = λ q k here. still_there size more keeps keeps' k (longer, same, last) (there q k (sym (enters.records q) ∙ here))
 there_grown s old new _ size more keeps keeps' is longer same last there enters = absurd (false≢true is)

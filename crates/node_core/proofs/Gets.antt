@@ -107,9 +107,9 @@ new_of name true P h = refl
 new_of name false P h = absurd (false≢true h)
 
 change_chunk : (name : List ℕ) (c : Change) (b : List ℕ) → in_grammar c ≡ true → brings_name name c ≡ true → body_of c ≡ Some b → IsChunk b
-change_chunk name (Kept n len new body) b g is there = fits_chunk len new body b g (new_of n new _ is) there
-change_chunk name (TookFresh p deal n first len new body) b g is there = fits_chunk len new body b g (new_of n new _ is) there
-change_chunk name (TookSwap p deal n numbers len new body) b g is there = fits_chunk len new body b (and_parts (chunk_fits len new body) (numbers_listed numbers) g).0 (new_of n new _ is) there
+change_chunk name (Kept x) b g is there = fits_chunk x.len x.new x.body b g (new_of x.name x.new _ is) there
+change_chunk name (TookFresh x) b g is there = fits_chunk x.len x.new x.body b g (new_of x.name x.new _ is) there
+change_chunk name (TookSwap x) b g is there = fits_chunk x.len x.new x.body b (and_parts (chunk_fits x.len x.new x.body) (numbers_listed x.slots) g).0 (new_of x.name x.new _ is) there
 change_chunk name _ b g is there = absurd (false≢true is)
 
 brought_from : (s : State) (h : List Change) (name b : List ℕ) → lawful_from s h ≡ true → last_brought name h ≡ Some b → IsChunk b

@@ -172,8 +172,8 @@ pub record LacksNone (s : State) (cs : List Change) : Type 0 where
   pub slots : (p n : ℕ) → has_direct (row s p).ins n ≡ true → lacks_slot p n cs ≡ false
 
 -- a beginning has its text
-begun_there : (s : State) (body : Option (List ℕ)) → allowed s (Begun body) ≡ true → is_some body ≡ true
-begun_there s None may = absurd (let none : false ≡ true = (parts (tests s (Begun None)) (allows s (Begun None) may).tests).1.0 in cc)
+begun_there : (s : State) (body : Option (List ℕ)) → allowed s (Begun (record { body = body })) ≡ true → is_some body ≡ true
+begun_there s None may = absurd (let none : false ≡ true = (parts (tests s (Begun (record { body = None }))) (allows s (Begun (record { body = None })) may).tests).1.0 in cc)
 begun_there s (Some text) may = refl
 
 begun_body : (body : Option (List ℕ)) → is_some body ≡ true → is_body None body ≡ true
@@ -257,24 +257,33 @@ slots_right s c p cs later no_name of_peer none = by_cases (body_is_right c)
         (λ away. rw away refl)
 
 one_right : (s t : State) (c : Change) (cs : List Change) → allowed t c ≡ true → is_built c ≡ true → LacksNone s (c ∷ cs) → (not (is_needed_by s c cs) || body_is_right c) ≡ true
-one_right s t (Begun body) cs may built none =
-    let right : is_body None body ≡ true = begun_body body (begun_there t body may) in
-    ap (λ (b : Bool). not (is_needed_by s (Begun body) cs) || b) right ∙ or_true (not (is_needed_by s (Begun body) cs))
-one_right s t (Kept name len true body) cs may built none = name_right s (Kept name len true body) name cs refl refl refl none
-one_right s t (Kept name len false body) cs may built none = refl
-one_right s t (Snapped number ticket files folders bytes left names) cs may built none = refl
-one_right s t (Forgot number) cs may built none = refl
-one_right s t (TookFresh p deal name first len true body) cs may built none = name_right s (TookFresh p deal name first len true body) name cs refl refl refl none
-one_right s t (TookFresh p deal name first len false body) cs may built none = refl
-one_right s t (TookSwap p deal name numbers len true body) cs may built none = name_right s (TookSwap p deal name numbers len true body) name cs refl refl refl none
-one_right s t (TookSwap p deal name numbers len false body) cs may built none = refl
-one_right s t (LetGo p deal name numbers) cs may built none = refl
-one_right s t (LetGoBack p deal name numbers body) cs may built none = slots_right s (LetGoBack p deal name numbers body) p cs refl refl refl none
-one_right s t (Refused p deal why detail) cs may built none = refl
-one_right s t (Proposed p deal what) cs may built none = refl
-one_right s t (Settled p deal numbers body) cs may built none = slots_right s (Settled p deal numbers body) p cs refl refl refl none
-one_right s t (Turned p deal why detail) cs may built none = refl
-one_right s t (Chose candidates) cs may built none = refl
+one_right s t (Begun x) cs may built none =
+    let right : is_body None x.body ≡ true = begun_body x.body (begun_there t x.body may) in
+    ap (λ (b : Bool). not (is_needed_by s (Begun x) cs) || b) right ∙ or_true (not (is_needed_by s (Begun x) cs))
+one_right s t (Kept x) cs may built none = by_new x.new none
+  where
+    by_new : (new : Bool) → LacksNone s (Kept (record x { new = new }) ∷ cs) → (not (is_needed_by s (Kept (record x { new = new })) cs) || body_is_right (Kept (record x { new = new }))) ≡ true
+    by_new true k = name_right s (Kept (record x { new = true })) x.name cs refl refl refl k
+    by_new false k = refl
+one_right s t (Snapped x) cs may built none = refl
+one_right s t (Forgot x) cs may built none = refl
+one_right s t (TookFresh x) cs may built none = by_new x.new none
+  where
+    by_new : (new : Bool) → LacksNone s (TookFresh (record x { new = new }) ∷ cs) → (not (is_needed_by s (TookFresh (record x { new = new })) cs) || body_is_right (TookFresh (record x { new = new }))) ≡ true
+    by_new true k = name_right s (TookFresh (record x { new = true })) x.name cs refl refl refl k
+    by_new false k = refl
+one_right s t (TookSwap x) cs may built none = by_new x.new none
+  where
+    by_new : (new : Bool) → LacksNone s (TookSwap (record x { new = new }) ∷ cs) → (not (is_needed_by s (TookSwap (record x { new = new })) cs) || body_is_right (TookSwap (record x { new = new }))) ≡ true
+    by_new true k = name_right s (TookSwap (record x { new = true })) x.name cs refl refl refl k
+    by_new false k = refl
+one_right s t (LetGo x) cs may built none = refl
+one_right s t (LetGoBack x) cs may built none = slots_right s (LetGoBack x) x.peer cs refl refl refl none
+one_right s t (Refused x) cs may built none = refl
+one_right s t (Proposed x) cs may built none = refl
+one_right s t (Settled x) cs may built none = slots_right s (Settled x) x.peer cs refl refl refl none
+one_right s t (Turned x) cs may built none = refl
+one_right s t (Chose x) cs may built none = refl
 one_right s t _ cs may built none = absurd (false≢true built)
 
 pub sound_of : (s t : State) (cs : List Change) → lawful_from t cs ≡ true → list_all is_built cs ≡ true → LacksNone s cs → bodies_right s cs ≡ true

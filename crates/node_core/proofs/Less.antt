@@ -33,67 +33,67 @@ pub same_in : {A : Type 0} (f : Change → A) → ((c : Change) → f (without_b
 same_in f law c d is = ⊎_elim (λ e. ap f e) (λ e. ap f e ∙ law c) is
 
 pub head_without : (c : Change) → head_of (without_body c) ≡ head_of c
-head_without (Kept name len new body) = refl
-head_without (TookFresh p deal name first len new body) = refl
-head_without (TookSwap p deal name slots len new body) = refl
-head_without (LetGoBack p deal name slots body) = refl
-head_without (Replaced p deal slot place home body) = refl
-head_without (Settled p deal slots body) = refl
+head_without (Kept x) = refl
+head_without (TookFresh x) = refl
+head_without (TookSwap x) = refl
+head_without (LetGoBack x) = refl
+head_without (Replaced x) = refl
+head_without (Settled x) = refl
 head_without _ = refl
 
 pub brings_without : (c : Change) → brings (without_body c) ≡ brings c
-brings_without (Kept name len new body) = refl
-brings_without (TookFresh p deal name first len new body) = refl
-brings_without (TookSwap p deal name slots len new body) = refl
-brings_without (LetGoBack p deal name slots body) = refl
-brings_without (Replaced p deal slot place home body) = refl
-brings_without (Settled p deal slots body) = refl
+brings_without (Kept x) = refl
+brings_without (TookFresh x) = refl
+brings_without (TookSwap x) = refl
+brings_without (LetGoBack x) = refl
+brings_without (Replaced x) = refl
+brings_without (Settled x) = refl
 brings_without _ = refl
 
 pub slots_without : (c : Change) → slots_given (without_body c) ≡ slots_given c
-slots_without (Kept name len new body) = refl
-slots_without (TookFresh p deal name first len new body) = refl
-slots_without (TookSwap p deal name slots len new body) = refl
-slots_without (LetGoBack p deal name slots body) = refl
-slots_without (Replaced p deal slot place home body) = refl
-slots_without (Settled p deal slots body) = refl
+slots_without (Kept x) = refl
+slots_without (TookFresh x) = refl
+slots_without (TookSwap x) = refl
+slots_without (LetGoBack x) = refl
+slots_without (Replaced x) = refl
+slots_without (Settled x) = refl
 slots_without _ = refl
 
 pub peer_without : (c : Change) → peer_of (without_body c) ≡ peer_of c
-peer_without (Kept name len new body) = refl
-peer_without (TookFresh p deal name first len new body) = refl
-peer_without (TookSwap p deal name slots len new body) = refl
-peer_without (LetGoBack p deal name slots body) = refl
-peer_without (Replaced p deal slot place home body) = refl
-peer_without (Settled p deal slots body) = refl
+peer_without (Kept x) = refl
+peer_without (TookFresh x) = refl
+peer_without (TookSwap x) = refl
+peer_without (LetGoBack x) = refl
+peer_without (Replaced x) = refl
+peer_without (Settled x) = refl
 peer_without _ = refl
 
 pub begun_without : (c : Change) → is_begun (without_body c) ≡ is_begun c
-begun_without (Kept name len new body) = refl
-begun_without (TookFresh p deal name first len new body) = refl
-begun_without (TookSwap p deal name slots len new body) = refl
-begun_without (LetGoBack p deal name slots body) = refl
-begun_without (Replaced p deal slot place home body) = refl
-begun_without (Settled p deal slots body) = refl
+begun_without (Kept x) = refl
+begun_without (TookFresh x) = refl
+begun_without (TookSwap x) = refl
+begun_without (LetGoBack x) = refl
+begun_without (Replaced x) = refl
+begun_without (Settled x) = refl
 begun_without _ = refl
 
 pub after_without : (s : State) (c : Change) → after s (without_body c) ≡ after s c
-after_without s (Kept name len new body) = refl
-after_without s (TookFresh p deal name first len new body) = refl
-after_without s (TookSwap p deal name slots len new body) = refl
-after_without s (LetGoBack p deal name slots body) = refl
-after_without s (Replaced p deal slot place home body) = refl
-after_without s (Settled p deal slots body) = refl
+after_without s (Kept x) = refl
+after_without s (TookFresh x) = refl
+after_without s (TookSwap x) = refl
+after_without s (LetGoBack x) = refl
+after_without s (Replaced x) = refl
+after_without s (Settled x) = refl
 after_without s _ = refl
 
 -- a body that is there was not given up
 pub body_without : (c : Change) → is_some (body_of (without_body c)) ≡ true → body_of (without_body c) ≡ body_of c
-body_without (Kept name len new body) there = absurd (false≢true there)
-body_without (TookFresh p deal name first len new body) there = absurd (false≢true there)
-body_without (TookSwap p deal name slots len new body) there = absurd (false≢true there)
-body_without (LetGoBack p deal name slots body) there = absurd (false≢true there)
-body_without (Replaced p deal slot place home body) there = absurd (false≢true there)
-body_without (Settled p deal slots body) there = absurd (false≢true there)
+body_without (Kept x) there = absurd (false≢true there)
+body_without (TookFresh x) there = absurd (false≢true there)
+body_without (TookSwap x) there = absurd (false≢true there)
+body_without (LetGoBack x) there = absurd (false≢true there)
+body_without (Replaced x) there = absurd (false≢true there)
+body_without (Settled x) there = absurd (false≢true there)
 body_without _ there = refl
 
 pub brings_name_without : (name : List ℕ) (c : Change) → brings_name name (without_body c) ≡ brings_name name c

@@ -8,7 +8,7 @@ use Rattle.psb_settings.specs.declared.settings.Settings.{Settings}
 use Rattle.psb_settings.specs.declared.settings.PeerRow.{PeerRow}
 use Rattle.psb_settings.specs.Settings.{have_distinct_ids, has_id}
 use Rattle.psb_settings.proofs.Ranges.{settings_of-are}
-use Rattle.psb_model.specs.declared.entries.Snapshot.{Snapshot}
+use Rattle.psb_model.specs.declared.snapshots.Snapshot.{Snapshot}
 use Rattle.psb_model.specs.declared.change.Change.{Change}
 use Rattle.psb_model.specs.declared.change.Change.TheVariants.{Begun, Kept, Snapped, Forgot, TookFresh, TookSwap, LetGo, LetGoBack, Refused, Proposed, Settled, Turned, Chose}
 use Rattle.psb_model.specs.Words.{all_of, name_listed, has}
@@ -26,8 +26,9 @@ use Rattle.psb_model.proofs.Rows.{has_row-at_row}
 use Rattle.psb_model.proofs.Prefixes.{lawful_cons}
 use Rattle.psb_model.proofs.Built.{IsPlain, is_kept, plain_nothing, plain_after, allows, changed, rows_one}
 use Rattle.psb_model.proofs.Held.{held_in}
-use Rattle.psb_ledger.specs.View.{in_order, own_key}
-use Rattle.psb_ledger.proofs.OwnTrees.{ordered_with, ordered_kept}
+use Rattle.peer_lists.specs.Entries.{in_order}
+use Rattle.own_chunks.specs.OwnList.{own_key}
+use Rattle.own_chunks.proofs.OwnTrees.{ordered_with, ordered_kept}
 
 not_true : (a : Bool) → not a ≡ true → a ≡ false
 not_true true h = absurd (false≢true h)
@@ -132,9 +133,9 @@ marks_ordered mark (e ∷ es) h =
     rw (marks_behind mark (own_key e) es ∙ a.0, marks_ordered mark es a.1) refl
 
 own_after_ordered : (s : State) (c : Change) → all_of (tests s c) ≡ true → in_order own_key s.own ≡ true → in_order own_key (own_after s c) ≡ true
-own_after_ordered s (Kept name len new body) h o = ordered_with (record { name = name; len = len; marked = false }) s.own o (not_true (own_has s.own name) (parts (tests s (Kept name len new body)) h).0)
-own_after_ordered s (Snapped number ticket files folders bytes left names) h o = marks_ordered (λ e. e.marked && not (name_listed names e.name)) s.own o
-own_after_ordered s (Forgot number) h o = marks_ordered (λ e. e.marked || not (kept_lists (kept_without number s.kept) e.name)) s.own o
+own_after_ordered s (Kept x) h o = ordered_with (record { name = x.name; len = x.len; marked = false }) s.own o (not_true (own_has s.own x.name) (parts (tests s (Kept x)) h).0)
+own_after_ordered s (Snapped x) h o = marks_ordered (λ e. e.marked && not (name_listed x.names e.name)) s.own o
+own_after_ordered s (Forgot x) h o = marks_ordered (λ e. e.marked || not (kept_lists (kept_without x.number s.kept) e.name)) s.own o
 own_after_ordered s _ h o = o
 
 -- so does what is given up
@@ -150,26 +151,26 @@ ordered_peer s c q p b h peer kept o = record {
 }
 
 pub ordered_after : (s : State) (c : Change) → IsPlain s → is_built c ≡ true → allowed s c ≡ true → IsOrdered s → IsOrdered (after s c)
-ordered_after s (Begun body) p b h o = record { own = ordered_own s (Begun body) h o.own; kept = o.kept; rows = distinct_first body }
-ordered_after s (Kept name len new body) p b h o = record { own = ordered_own s (Kept name len new body) h o.own; kept = o.kept; rows = o.rows }
-ordered_after s (Snapped number ticket files folders bytes left names) p b h o =
-    let c : Change = Snapped number ticket files folders bytes left names in
+ordered_after s (Begun x) p b h o = record { own = ordered_own s (Begun x) h o.own; kept = o.kept; rows = distinct_first x.body }
+ordered_after s (Kept x) p b h o = record { own = ordered_own s (Kept x) h o.own; kept = o.kept; rows = o.rows }
+ordered_after s (Snapped x) p b h o =
+    let c : Change = Snapped x in
     let ts = parts (tests s c) (allows s c h).tests in
     record {
       own = ordered_own s c h o.own;
-      kept = all_end s.kept (record { number = number; ticket = ticket; files = files; folders = folders; bytes = bytes; left = left; names = names }) o.kept ts.1.0;
+      kept = all_end s.kept (record { number = x.number; ticket = x.ticket; files = x.files; folders = x.folders; bytes = x.bytes; left = x.left; names = x.names }) o.kept ts.1.0;
       rows = o.rows;
     }
-ordered_after s (Forgot number) p b h o = record { own = ordered_own s (Forgot number) h o.own; kept = all_less number s.kept o.kept; rows = o.rows }
-ordered_after s (Chose candidates) p b h o = record { own = ordered_own s (Chose candidates) h o.own; kept = o.kept; rows = o.rows }
-ordered_after s (TookFresh q deal name first len new body) p b h o = ordered_peer s (TookFresh q deal name first len new body) q p refl h refl refl o
-ordered_after s (TookSwap q deal name numbers len new body) p b h o = ordered_peer s (TookSwap q deal name numbers len new body) q p refl h refl refl o
-ordered_after s (LetGo q deal name numbers) p b h o = ordered_peer s (LetGo q deal name numbers) q p refl h refl refl o
-ordered_after s (LetGoBack q deal name numbers body) p b h o = ordered_peer s (LetGoBack q deal name numbers body) q p refl h refl refl o
-ordered_after s (Refused q deal why detail) p b h o = ordered_peer s (Refused q deal why detail) q p refl h refl refl o
-ordered_after s (Proposed q deal what) p b h o = ordered_peer s (Proposed q deal what) q p b h refl refl o
-ordered_after s (Settled q deal numbers body) p b h o = ordered_peer s (Settled q deal numbers body) q p refl h refl refl o
-ordered_after s (Turned q deal why detail) p b h o = ordered_peer s (Turned q deal why detail) q p refl h refl refl o
+ordered_after s (Forgot x) p b h o = record { own = ordered_own s (Forgot x) h o.own; kept = all_less x.number s.kept o.kept; rows = o.rows }
+ordered_after s (Chose x) p b h o = record { own = ordered_own s (Chose x) h o.own; kept = o.kept; rows = o.rows }
+ordered_after s (TookFresh x) p b h o = ordered_peer s (TookFresh x) x.peer p refl h refl refl o
+ordered_after s (TookSwap x) p b h o = ordered_peer s (TookSwap x) x.peer p refl h refl refl o
+ordered_after s (LetGo x) p b h o = ordered_peer s (LetGo x) x.peer p refl h refl refl o
+ordered_after s (LetGoBack x) p b h o = ordered_peer s (LetGoBack x) x.peer p refl h refl refl o
+ordered_after s (Refused x) p b h o = ordered_peer s (Refused x) x.peer p refl h refl refl o
+ordered_after s (Proposed x) p b h o = ordered_peer s (Proposed x) x.peer p b h refl refl o
+ordered_after s (Settled x) p b h o = ordered_peer s (Settled x) x.peer p refl h refl refl o
+ordered_after s (Turned x) p b h o = ordered_peer s (Turned x) x.peer p refl h refl refl o
 ordered_after s _ p b h o = absurd (false≢true b)
 
 ordered_from : (s : State) (h : List Change) → IsPlain s → lawful_from s h ≡ true → list_all is_built h ≡ true → IsOrdered s → IsOrdered (state_from s h)

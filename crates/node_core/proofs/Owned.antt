@@ -195,7 +195,7 @@ keep_fits name bytes named some short each = record {
   bytes_fit = all_bytes bytes each;
 }
 
-kept_long : (name : List ℕ) (len : ℕ) (new : Bool) (body : Option (List ℕ)) → length name ≡ 32 → length (head_of (Kept name len new body)) ≡ 38
+kept_long : (name : List ℕ) (len : ℕ) (new : Bool) (body : Option (List ℕ)) → length name ≡ 32 → length (head_of (Kept (record { name = name; len = len; new = new; body = body }))) ≡ 38
 kept_long name len new body is = omega (arith, is, length-append (name ++ to_be_bytes w32 len) (cond new 1 0 ∷ []), length-append name (to_be_bytes w32 len))
 
 kept_may_make : (h : List Change) (name bytes : List ℕ) → 1 ≤ length h → KeepFits name bytes → own_has (state h).own name ≡ false → (state h).changes < 2 ^ 62 → MayMake (state h) (kept_with (state h) name bytes)
@@ -321,7 +321,7 @@ snap_may_come r node note c makes is f known few =
 
 -- ---- a snapshot that is given up
 
-pub forget_may_come : {L : Type 0} (r : Reaction) (node : Node L) (number : ℕ) → r.change ≡ Some (Forgot number) → is_u32 number ≡ true → has_snapshot node.ledger.state number ≡ true → (n : Situation) × Knows node n → node.ledger.state.changes < 2 ^ 62 → IfSome r.change (MayCome Knows node)
+pub forget_may_come : {L : Type 0} (r : Reaction) (node : Node L) (number : ℕ) → r.change ≡ Some (Forgot (record { number = number })) → is_u32 number ≡ true → has_snapshot node.ledger.state number ≡ true → (n : Situation) × Knows node n → node.ledger.state.changes < 2 ^ 62 → IfSome r.change (MayCome Knows node)
 forget_may_come r node number makes fits has known few =
     subst (λ (o : Option Change). IfSome o (MayCome Knows node)) (sym makes) (
       may_make known,
@@ -331,10 +331,10 @@ forget_may_come r node number makes fits has known few =
     there : (n : Situation) → Knows node n → has_snapshot (state n.history) number ≡ true
     there n k = ap (λ (s : State). has_snapshot s number) (sym k.ledger) ∙ has
 
-    may_make : (n : Situation) × Knows node n → MayMake node.ledger.state (Forgot number)
+    may_make : (n : Situation) × Knows node n → MayMake node.ledger.state (Forgot (record { number = number }))
     may_make known =
         let k = known.1 in
-        subst (λ (s : State). MayMake s (Forgot number)) (sym k.ledger) (record {
+        subst (λ (s : State). MayMake s (Forgot (record { number = number }))) (sym k.ledger) (record {
           read = refl;
           grammar = refl;
           may = forgot_may known.0.history number k.valid.some (there known.0 k);

@@ -35,14 +35,14 @@ use Rattle.node_core.proofs.Offered.{reads_as, keyed_in, slots_long}
 
 -- ---- the change that a reply makes may be made
 
-settled_long : (p deal : ℕ) (numbers : List ℕ) (body : Option (List ℕ)) → length (head_of (Settled p deal numbers body)) ≡ 17 + 4 * length numbers
+settled_long : (p deal : ℕ) (numbers : List ℕ) (body : Option (List ℕ)) → length (head_of (Settled (record { peer = p; deal = deal; slots = numbers; body = body }))) ≡ 17 + 4 * length numbers
 settled_long p deal numbers body =
     let a = to_be_bytes w32 p in
     let b = to_be_bytes w64 deal in
     let d = to_be_bytes w32 (length numbers) ++ flat_map (to_be_bytes w32) numbers in
     omega (arith, slots_long numbers, length-append (a ++ b) d, length-append a b)
 
-turned_long : (p deal why detail : ℕ) → length (head_of (Turned p deal why detail)) ≡ 22
+turned_long : (p deal why detail : ℕ) → length (head_of (Turned (record { peer = p; deal = deal; why = why; detail = detail }))) ≡ 22
 turned_long p deal why detail =
     let a = to_be_bytes w32 p in
     let b = to_be_bytes w64 deal in

@@ -192,7 +192,7 @@ fields_short s p (PutBack name first) w a =
 fields_short s p (Forward slot entry) w a = omega (arith, length-append (to_be_bytes w32 slot ++ to_be_bytes w32 entry.peer) (to_be_bytes w32 entry.slot), length-append (to_be_bytes w32 slot) (to_be_bytes w32 entry.peer))
 fields_short s p (Return slot) w a = omega arith
 
-proposed_short : (p number : ℕ) (what : DealWhat) → length (deal_fields what) ≤ 300 → length (head_of (Proposed p number what)) ≤ 400
+proposed_short : (p number : ℕ) (what : DealWhat) → length (deal_fields what) ≤ 300 → length (head_of (Proposed (record { peer = p; deal = number; what = what }))) ≤ 400
 proposed_short p number what few =
     let a = to_be_bytes w32 p in
     let b = to_be_bytes w64 number in
@@ -218,7 +218,7 @@ may_propose node n p a c k small few q grown =
     (λ idle what found same.
     let s = state n.history in
     let number = (row s p).mine + 1 in
-    let is : Proposed p number what ≡ c = cc (ap (grown_by p) same ∙ grown) in
+    let is : Proposed (record { peer = p; deal = number; what = what }) ≡ c = cc (ap (grown_by p) same ∙ grown) in
     let m = proposed_may n.history q.settings p what k.valid q.present (keyed_is_peer n.history q.settings p q.key k.valid.built q.present q.keyed) (tick_fits n p k.valid small few) idle found in
     let fits = and_parts (is_u32 p && is_u64 number) (what_fits what) m.widths in
     let askable = subst (λ (b : MachineAsking). is_askable s p b.deal.what ≡ true) (sym same) (asking_askable q.settings n p a k.valid q.present q.asking) in
@@ -231,7 +231,7 @@ may_propose node n p a c k small few q grown =
         there = refl;
         short = omega (arith, proposed_short p number what (fields_short s p what fits.1 askable));
       };
-      valid = valid_snoc n.history (Proposed p number what) k.valid m.grammar m.may m.widths m.built m.brings;
+      valid = valid_snoc n.history (Proposed (record { peer = p; deal = number; what = what })) k.valid m.grammar m.may m.widths m.built m.brings;
     }))
 
 -- so it may come next

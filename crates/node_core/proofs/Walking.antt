@@ -3,14 +3,14 @@ use Rattle.std.proofs.Common.{◌≡◌, ℕ, zero, suc, ◌<◌, Bool, true, fa
 use Rattle.std.proofs.lemmas.Bool.{false≢true}
 use Rattle.std.proofs.lemmas.List.{append-nil}
 use Rattle.psb_model.specs.declared.entries.OwnEntry.{OwnEntry}
-use Rattle.psb_model.specs.declared.entries.Snapshot.{Snapshot}
+use Rattle.psb_model.specs.declared.snapshots.Snapshot.{Snapshot}
 use Rattle.psb_model.specs.Words.{name_eq, name_listed}
 use Rattle.psb_model.specs.State.{own_has}
 use Rattle.psb_model.specs.Effects.{kept_lists, kept_without}
 use Rattle.psb_model.proofs.ByObject.{by_cases}
 use Rattle.psb_model.proofs.Own.{name_same}
-use Rattle.psb_ledger.specs.View.{in_order, own_key}
-use Rattle.psb_ledger.specs.OwnList.{next_own}
+use Rattle.peer_lists.specs.Entries.{in_order}
+use Rattle.own_chunks.specs.OwnList.{own_key, next_own}
 use Rattle.sampling.proofs.Walking.{own_left, first_behind, first_none, first_some, left_falls}
 
 -- ---- one of two, and both

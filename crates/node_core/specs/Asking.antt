@@ -16,7 +16,7 @@ asking_in a = record { deal = a.deal; is_new = a.is_new }
 
 -- the deal that a change proposes
 abbrev pub asking_of : Change → Option MachineAsking
-asking_of (Proposed p number what) = Some (record { deal = record { number = number; what = what }; is_new = true })
+asking_of (Proposed x) = Some (record { deal = record { number = x.deal; what = x.what }; is_new = true })
 asking_of _ = None
 
 -- one without a reply at each second tick

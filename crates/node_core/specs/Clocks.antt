@@ -49,9 +49,9 @@ clocks_noted None clocks = clocks
 clocks_noted (Some x) clocks = map (sampled x.0 x.1) clocks
 
 abbrev pub clocks_changed : ℕ → Change → List Clock → List Clock
-clocks_changed own (Turned p deal why detail) clocks = map (waiting p (ticks_to_wait own p)) clocks
-clocks_changed own (Snapped number ticket files folders bytes left names) clocks = map unsampled clocks
-clocks_changed own (Forgot number) clocks = map unsampled clocks
+clocks_changed own (Turned x) clocks = map (waiting x.peer (ticks_to_wait own x.peer)) clocks
+clocks_changed own (Snapped x) clocks = map unsampled clocks
+clocks_changed own (Forgot x) clocks = map unsampled clocks
 clocks_changed own _ clocks = clocks
 
 -- the clock is the machine's of that peer

@@ -9,12 +9,12 @@ use Rattle.psb_model.specs.declared.change.Change.TheVariants.{Kept, TookFresh, 
 -- The change without its body part. A kind that has none is as it is, and so is the beginning, whose body,
 -- the settings, is always needed.
 abbrev pub without_body : Change → Change
-without_body (Kept name len new body) = Kept name len new None
-without_body (TookFresh peer deal name first len new body) = TookFresh peer deal name first len new None
-without_body (TookSwap peer deal name slots len new body) = TookSwap peer deal name slots len new None
-without_body (LetGoBack peer deal name slots body) = LetGoBack peer deal name slots None
-without_body (Replaced peer deal slot place home body) = Replaced peer deal slot place home None
-without_body (Settled peer deal slots body) = Settled peer deal slots None
+without_body (Kept x) = Kept (record { name = x.name; len = x.len; new = x.new; body = None })
+without_body (TookFresh x) = TookFresh (record { peer = x.peer; deal = x.deal; name = x.name; first = x.first; len = x.len; new = x.new; body = None })
+without_body (TookSwap x) = TookSwap (record { peer = x.peer; deal = x.deal; name = x.name; slots = x.slots; len = x.len; new = x.new; body = None })
+without_body (LetGoBack x) = LetGoBack (record { peer = x.peer; deal = x.deal; name = x.name; slots = x.slots; body = None })
+without_body (Replaced x) = Replaced (record { peer = x.peer; deal = x.deal; slot = x.slot; place = x.place; home = x.home; body = None })
+without_body (Settled x) = Settled (record { peer = x.peer; deal = x.deal; slots = x.slots; body = None })
 without_body c = c
 
 -- the change, or what is left of it where its body was given up

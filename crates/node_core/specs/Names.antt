@@ -76,14 +76,14 @@ pub record GivesUp (s : State) (c : Change) (old new : Store) : Type 0 where
 
 -- what a change with this number, of a kind that is built, does to the names, after this state
 abbrev pub Enters : State → Store → Store → Change → ℕ → Type 0
-Enters s old new (Kept name len brings body) number = Adds old new Own name number
-Enters s old new (Forgot snapshot) number = GivesUp s (Forgot snapshot) old new
-Enters s old new (TookFresh p deal name first len brings body) number = Adds old new (Peer p) name number
-Enters s old new (TookSwap p deal name numbers len brings body) number = Adds old new (Peer p) name number
-Enters s old new (LetGo p deal name numbers) number = Drops old new (Peer p) (name_eq name)
-Enters s old new (LetGoBack p deal name numbers body) number = Drops old new (Peer p) (name_eq name)
-Enters s old new (Settled p deal numbers body) number = GivesUp s (Settled p deal numbers body) old new
-Enters s old new (Turned p deal why detail) number = GivesUp s (Turned p deal why detail) old new
+Enters s old new (Kept x) number = Adds old new Own x.name number
+Enters s old new (Forgot x) number = GivesUp s (Forgot x) old new
+Enters s old new (TookFresh x) number = Adds old new (Peer x.peer) x.name number
+Enters s old new (TookSwap x) number = Adds old new (Peer x.peer) x.name number
+Enters s old new (LetGo x) number = Drops old new (Peer x.peer) (name_eq x.name)
+Enters s old new (LetGoBack x) number = Drops old new (Peer x.peer) (name_eq x.name)
+Enters s old new (Settled x) number = GivesUp s (Settled x) old new
+Enters s old new (Turned x) number = GivesUp s (Turned x) old new
 Enters s old new _ number = SameNames old new
 
 -- The own names that may go: those that no kept snapshot lists without this one, and those of the peer's pending
@@ -96,14 +96,14 @@ deal_names s p = pending_name deal_name (row s p).pending
 
 -- what is worked out of it before the change is made
 abbrev pub IsEntering : State → Change → Entering → Type 0
-IsEntering s (Kept name len brings body) e = e ≡ AddsOwner Own name
-IsEntering s (Forgot snapshot) e = (names : List (List ℕ)) × (e ≡ MayDropOwn names) × AreUnlisted s snapshot names
-IsEntering s (TookFresh p deal name first len brings body) e = e ≡ AddsOwner (Peer p) name
-IsEntering s (TookSwap p deal name numbers len brings body) e = e ≡ AddsOwner (Peer p) name
-IsEntering s (LetGo p deal name numbers) e = e ≡ DropsOwner (Peer p) name
-IsEntering s (LetGoBack p deal name numbers body) e = e ≡ DropsOwner (Peer p) name
-IsEntering s (Settled p deal numbers body) e = e ≡ MayDropOwn (deal_names s p)
-IsEntering s (Turned p deal why detail) e = e ≡ MayDropOwn (deal_names s p)
+IsEntering s (Kept x) e = e ≡ AddsOwner Own x.name
+IsEntering s (Forgot x) e = (names : List (List ℕ)) × (e ≡ MayDropOwn names) × AreUnlisted s x.number names
+IsEntering s (TookFresh x) e = e ≡ AddsOwner (Peer x.peer) x.name
+IsEntering s (TookSwap x) e = e ≡ AddsOwner (Peer x.peer) x.name
+IsEntering s (LetGo x) e = e ≡ DropsOwner (Peer x.peer) x.name
+IsEntering s (LetGoBack x) e = e ≡ DropsOwner (Peer x.peer) x.name
+IsEntering s (Settled x) e = e ≡ MayDropOwn (deal_names s x.peer)
+IsEntering s (Turned x) e = e ≡ MayDropOwn (deal_names s x.peer)
 IsEntering s _ e = e ≡ Nothing
 
 -- what that does to the names, where these are the own chunks after it

@@ -11,9 +11,10 @@ ghost use Rattle.node_core.specs.Asking.{asking_in, asking_of, asked_again, aske
 
 use crate::clocks::{Clock, after_tick};
 use deals::{ProposeFacts, look_ahead, propose};
+use next_deals::Planner;
 use psb_bytes::{Items, Memory, PeerId, SlotList};
 use psb_ledger::Ledger;
-use psb_model::{Change, Deal, DealWhat};
+use psb_model::{Change, Deal, DealWhat, Proposed};
 use psb_settings::Settings;
 use std::alloc::Global;
 
@@ -22,31 +23,6 @@ use std::alloc::Global;
 pub(crate) struct Asking {
     pub deal: Deal,
     pub is_new: bool,
-}
-
-fn what_copy(alloc: Global, what: &DealWhat) -> Result<DealWhat, Memory>
-    ensures { IfOk result (λ w. w ≡ what.now) }
-{
-    match what {
-        DealWhat::Fresh { name } => Ok(DealWhat::Fresh { name: *name }),
-        DealWhat::Swap { name, slots } => Ok(DealWhat::Swap {
-            name: *name,
-            slots: SlotList::copy(alloc, slots.as_slice())?,
-        }),
-        DealWhat::Cancel { name, slots } => Ok(DealWhat::Cancel {
-            name: *name,
-            slots: SlotList::copy(alloc, slots.as_slice())?,
-        }),
-        DealWhat::PutBack { name, first } => Ok(DealWhat::PutBack {
-            name: *name,
-            first: *first,
-        }),
-        DealWhat::Forward { slot, entry } => Ok(DealWhat::Forward {
-            slot: *slot,
-            entry: *entry,
-        }),
-        DealWhat::Return { slot } => Ok(DealWhat::Return { slot: *slot }),
-    }
 }
 
 /// A deal without a reply is asked for again at each second tick.
@@ -59,7 +35,7 @@ fn again(alloc: Global, clock: &Clock, deal: &Deal) -> Result<Option<Asking>, Me
     Ok(Some(Asking {
         deal: Deal {
             number: deal.number,
-            what: what_copy(alloc, &deal.what)?,
+            what: deal.what.copy(alloc)?,
         },
         is_new: false,
     }))
@@ -70,8 +46,11 @@ fn asking_of(change: Change) -> Option<Asking>
     ensures { option_map asking_in result ≡ asking_of change }
 {
     match change {
-        Change::Proposed { deal, what, .. } => Some(Asking {
-            deal: Deal { number: deal, what },
+        Change::Proposed(x) => Some(Asking {
+            deal: Deal {
+                number: x.deal,
+                what: x.what,
+            },
             is_new: true,
         }),
         _ => None,
@@ -89,11 +68,11 @@ pub(crate) fn proposed(peer: PeerId, asking: Asking) -> Option<Change>
     if !is_new {
         return None;
     }
-    Some(Change::Proposed {
+    Some(Change::Proposed(Proposed {
         peer,
         deal: number,
         what,
-    })
+    }))
 }
 
 fn facts_of(ledger: &Ledger, settings: &Settings) -> ProposeFacts
@@ -107,15 +86,15 @@ fn facts_of(ledger: &Ledger, settings: &Settings) -> ProposeFacts
 }
 
 /// The deal that is proposed to a peer next.
-fn next(alloc: Global, ledger: &mut Ledger, peer: PeerId) -> Result<Option<Asking>, Memory>
+fn next(alloc: Global, ledger: &mut Planner, peer: PeerId) -> Result<Option<Asking>, Memory>
     requires more { (row ledger.old.state peer).mine + 1 < 2 ^ 64 }
     ensures asks { IfOk result (λ o. (settings : AnySettings) → ledger.old.state.settings ≡ Some settings → option_map asking_in o ≡ proposed_at settings ledger.old.state peer) }
     ensures same { ledger.new ≡ ledger.old }
 {
-    let Some(settings) = ledger.settings() else {
+    let Some(settings) = ledger.ledger().settings() else {
         return Ok(None);
     };
-    let facts = facts_of(ledger, settings);
+    let facts = facts_of(ledger.ledger(), settings);
     let listed = Items::from_vec(Vec::new(alloc));
     look_ahead(ledger, peer, &listed, &facts)?;
     match propose(alloc, ledger, peer, &listed, &facts)? {
@@ -128,7 +107,7 @@ fn next(alloc: Global, ledger: &mut Ledger, peer: PeerId) -> Result<Option<Askin
 /// tick; where none is pending and none is waited for, the one that is proposed next.
 pub(crate) fn asking_at(
     alloc: Global,
-    ledger: &mut Ledger,
+    ledger: &mut Planner,
     peer: PeerId,
     clock: &Clock,
 ) -> Result<Option<Asking>, Memory>
@@ -137,7 +116,7 @@ pub(crate) fn asking_at(
         → option_map asking_in o ≡ asked_with settings ledger.old.state peer clock.now (row ledger.old.state peer).pending) }
     ensures same { ledger.new ≡ ledger.old }
 {
-    if let Some(deal) = ledger.pending(peer) {
+    if let Some(deal) = ledger.ledger().row(peer).pending() {
         return again(alloc, clock, deal);
     }
     if clock.wait > 0 {

@@ -181,8 +181,8 @@ pub(crate) fn note_change(clocks: &mut Vec<Clock>, own: PeerId, change: &Change)
     ensures { clocks.new.items ≡ clocks_changed own change.now clocks.old.items }
 {
     match change {
-        Change::Turned { peer, .. } => wait_for(clocks, *peer, ticks_to_wait(own, *peer)),
-        Change::Snapped { .. } | Change::Forgot { .. } => drop_samples(clocks),
+        Change::Turned(x) => wait_for(clocks, x.peer, ticks_to_wait(own, x.peer)),
+        Change::Snapped(_) | Change::Forgot(_) => drop_samples(clocks),
         _ => {}
     }
 }

@@ -6,9 +6,9 @@ ghost use Rattle.std.specs.Option.{option_copied, option_map};
 ghost use Rattle.psb_model.specs.State.{State, row, own_has};
 ghost use Rattle.psb_model.specs.Conditions.{names_ascend};
 ghost use Rattle.psb_model.specs.Words.{name_eq, name_listed};
-ghost use Rattle.psb_model.specs.Effects.{kept_lists, kept_without, deal_name};
-ghost use Rattle.psb_ledger.specs.OwnList.{next_own};
-ghost use Rattle.psb_ledger.specs.View.{in_order, own_key};
+ghost use Rattle.psb_model.specs.Effects.{kept_lists, kept_without};
+ghost use Rattle.own_chunks.specs.OwnList.{next_own, own_key};
+ghost use Rattle.peer_lists.specs.Entries.{in_order};
 ghost use Rattle.chunk_store.specs.Store.{has_room};
 ghost use Rattle.chunk_store.specs.declared.owner.Owner.TheVariants.{Own};
 ghost use Rattle.node_core.specs.Names.{deal_names, Drops};
@@ -16,16 +16,8 @@ ghost use Rattle.node_core.specs.Names.{deal_names, Drops};
 use chunk_store::{Owner, Store};
 use psb_bytes::{Digest, DigestList, Items, Memory, PeerId};
 use psb_ledger::Ledger;
-use psb_model::{Change, Deal, DealWhat, OwnEntry, Snapshot};
+use psb_model::{Change, Deal, OwnEntry, Snapshot};
 use std::alloc::Global;
-
-/// Whether names that ascend have this one.
-fn has_name(names: &[Digest], name: &Digest) -> bool
-    requires { names_ascend names.now ≡ true }
-    ensures { result ≡ name_listed names.now name.now }
-{
-    names.binary_search(name).is_ok()
-}
 
 /// Whether a kept snapshot other than this one lists the name: one search in each list, the newest
 /// first.
@@ -34,7 +26,7 @@ fn is_listed(kept: &[Snapshot], number: u32, name: &Digest) -> bool
     ensures { result ≡ kept_lists (kept_without number kept.now) name.now }
 {
     for i in (0..kept.len()).rev() {
-        if kept[i].number != number && has_name(kept[i].names.as_slice(), name) {
+        if kept[i].number != number && kept[i].lists(name) {
             return true;
         }
     }
@@ -80,24 +72,11 @@ fn unlisted_names(alloc: Global, past: &Ledger, number: u32) -> Result<DigestLis
     Ok(Items::from_vec(names))
 }
 
-/// The own chunk that a deal names.
-fn name_of(deal: &DealWhat) -> Option<Digest>
-    ensures { option_to_list result ≡ deal_name deal.now }
-{
-    match deal {
-        DealWhat::Fresh { name }
-        | DealWhat::Swap { name, .. }
-        | DealWhat::Cancel { name, .. }
-        | DealWhat::PutBack { name, .. } => Some(*name),
-        DealWhat::Forward { .. } | DealWhat::Return { .. } => None,
-    }
-}
-
 /// The name of the peer's pending deal, if it has one.
 fn pending_name(past: &Ledger, peer: PeerId) -> Option<Digest>
     ensures { option_to_list result ≡ deal_names past.now.state peer }
 {
-    name_of(&past.pending(peer)?.what)
+    past.row(peer).named()
 }
 
 /// The same, as a list.
@@ -133,19 +112,14 @@ impl Entering {
         ensures { IfOk result (IsEntering past.now.state change.now) }
     {
         match change {
-            Change::Kept { name, .. } => Ok(Entering::AddsOwner(Owner::Own, *name)),
-            Change::Forgot { number } => {
-                Ok(Entering::MayDropOwn(unlisted_names(alloc, past, *number)?))
-            }
-            Change::Settled { peer, .. } | Change::Turned { peer, .. } => {
-                Ok(Entering::MayDropOwn(deal_names(alloc, past, *peer)?))
-            }
-            Change::TookFresh { peer, name, .. } | Change::TookSwap { peer, name, .. } => {
-                Ok(Entering::AddsOwner(Owner::Peer(*peer), *name))
-            }
-            Change::LetGo { peer, name, .. } | Change::LetGoBack { peer, name, .. } => {
-                Ok(Entering::DropsOwner(Owner::Peer(*peer), *name))
-            }
+            Change::Kept(x) => Ok(Entering::AddsOwner(Owner::Own, x.name)),
+            Change::Forgot(x) => Ok(Entering::MayDropOwn(unlisted_names(alloc, past, x.number)?)),
+            Change::Settled(x) => Ok(Entering::MayDropOwn(deal_names(alloc, past, x.peer)?)),
+            Change::Turned(x) => Ok(Entering::MayDropOwn(deal_names(alloc, past, x.peer)?)),
+            Change::TookFresh(x) => Ok(Entering::AddsOwner(Owner::Peer(x.peer), x.name)),
+            Change::TookSwap(x) => Ok(Entering::AddsOwner(Owner::Peer(x.peer), x.name)),
+            Change::LetGo(x) => Ok(Entering::DropsOwner(Owner::Peer(x.peer), x.name)),
+            Change::LetGoBack(x) => Ok(Entering::DropsOwner(Owner::Peer(x.peer), x.name)),
             _ => Ok(Entering::Nothing),
         }
     }

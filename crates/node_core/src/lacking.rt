@@ -105,6 +105,6 @@ impl Lacking {
     {
         self.slots
             .iter()
-            .any(|at| ledger.is_direct(PeerId(at.peer), at.slot))
+            .any(|at| ledger.row(PeerId(at.peer)).is_direct(at.slot))
     }
 }

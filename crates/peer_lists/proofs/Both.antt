@@ -1,11 +1,11 @@
 -- Chunks, and slots behind them.
-use Rattle.std.proofs.Common.{◌≡◌, ℕ, zero, suc, ◌+◌, ◌-◌, ◌^◌, ◌<◌, ◌≤◌, Bool, true, false, not, List, [], ◌∷◌, ◌++◌, length, take, map, filter, get_or, Option, Some, None, refl, sym, ap, ◌∙◌, subst, arith}
-use Rattle.std.specs.Prelude.{nat_le, nat_lt, ◌&&◌, ◌||◌, ◌==◌, if◌then◌else◌, option_map}
+use Rattle.std.proofs.Common.{◌≡◌, ℕ, zero, suc, ◌+◌, ◌-◌, ◌^◌, ◌<◌, ◌≤◌, Bool, true, false, not, List, [], ◌∷◌, ◌++◌, map, filter, Option, Some, None, refl, sym, ap, ◌∙◌, subst, arith}
+use Rattle.std.specs.Prelude.{nat_le, nat_lt, ◌&&◌, ◌==◌, option_map}
 use Rattle.std.specs.List.{list_all, list_any, flat_map, prefix_len}
 use Rattle.std.specs.Ordering.{is_lt, nat_cmp}
 use Rattle.std.proofs.lemmas.Bool.{and_parts, false≢true, leb-true, le-leb, eqb-true, eq-eqb, ltb-true, ltb-false, lt-ltb}
 use Rattle.std.proofs.lemmas.Bool.Decides.{nat_tests}
-use Rattle.std.proofs.lemmas.List.{take_more, append_assoc}
+use Rattle.std.proofs.lemmas.List.{append_assoc}
 use Rattle.psb_bytes.specs.Objects.{object_eq, object_cmp}
 use Rattle.psb_bytes.specs.declared.ids.Object.{Object}
 use Rattle.psb_bytes.specs.declared.ids.Object.TheVariants.{Chunk, Slot}
@@ -15,19 +15,19 @@ use Rattle.psb_model.proofs.ByObject.{by_cases}
 use Rattle.psb_model.proofs.Built.{neither}
 use Rattle.peer_lists.specs.Chunks.{is_chunk}
 use Rattle.peer_lists.specs.Entries.{in_order, find_at, from_object, lacks_all}
-use Rattle.peer_lists.specs.declared.run.Run.{Run}
-use Rattle.peer_lists.specs.Runs.{covers, times, rest_in, AreRuns, IsNext}
+use Rattle.slot_runs.specs.declared.run.Run.{Run}
+use Rattle.slot_runs.specs.Runs.{covers, rest_in, AreRuns, IsNext}
 use Rattle.peer_lists.specs.Walks.{IsSlotFrom}
 use Rattle.peer_lists.specs.Slots.{slots_from, expand, slot_items}
 use Rattle.peer_lists.specs.declared.entry_list.EntryList.{EntryList}
 use Rattle.peer_lists.specs.Trees.{tree_items}
-use Rattle.peer_lists.specs.SlotRuns.{runs}
+use Rattle.slot_runs.specs.SlotRuns.{runs}
 use Rattle.peer_lists.specs.EntryLists.{items, IsList}
 use Rattle.peer_lists.proofs.Ordered.{is_false}
 use Rattle.peer_lists.proofs.Found.{lacks_find, rest_ordered}
 use Rattle.peer_lists.proofs.Trees.{IsJoin}
-use Rattle.peer_lists.proofs.Runs.{either, times-append, times_none, rest-append, full-append}
-use Rattle.peer_lists.proofs.Slots.{find-append}
+use Rattle.slot_runs.proofs.Runs.{are_more, single, either, rest-append}
+use Rattle.slot_runs.proofs.Slots.{find-append}
 use Rattle.peer_lists.proofs.Tables.{is_slot, IsTable, no_chunk, table_of, slots_more, none_before}
 
 abbrev pub chunks : {E : Type 0} → (E → Object) → List E → Bool
@@ -135,19 +135,6 @@ none_said {R = R} key joined s f n h lacks = of (f n) (sym (h.at n) ∙ lacks_fi
     of None h = refl
     of (Some x) h = absurd (cc)
 
-pub are_more : {R : Type 0} (l : List (Run R)) (r : Run R) → AreRuns l → nat_le r.first r.last ≡ true → nat_lt r.last (2 ^ 32) ≡ true → ((m : ℕ) → covers r m ≡ true → rest_in l m ≡ None) → AreRuns (l ++ r ∷ [])
-are_more {R = R} l r are full small none = record {
-  apart = λ m. each m (times-append l (r ∷ []) m) (are.apart m);
-  full = full-append (λ (x : Run R). nat_le x.first x.last) l (r ∷ []) are.full (rw full refl);
-  small = full-append (λ (x : Run R). nat_lt x.last (2 ^ 32)) l (r ∷ []) are.small (rw small refl);
-}
-  where
-    each : (m : ℕ) → times (l ++ r ∷ []) m ≡ times l m + times (r ∷ []) m → times l m ≤ 1 → times (l ++ r ∷ []) m ≤ 1
-    each m sum few =
-        by_cases (covers r m)
-        (λ k. let sum' = rw k at sum in omega (arith, sum', times_none l m (none m k)))
-        (λ k. let sum' = rw k at sum in omega (arith, sum', few))
-
 slots_lacked : {E R : Type 0} (key : E → Object) (joined : Object → R → E) → IsJoin key joined → (x : R) (n u m : ℕ) (l : List E) → lacks_all key (slots_from joined x n u) l ≡ true → n ≤ m → m < n + u → has key l (Slot m) ≡ false
 slots_lacked key joined join x n zero m l h from to = absurd (omega (arith, from, to))
 slots_lacked key joined join x n (suc u) m l h from to =
@@ -184,9 +171,6 @@ run_in {E = E} {R = R} key joined join c rs ts x first count h are some fits lac
     nothing_behind (y ∷ ys) = ap (λ l. y ∷ l) (nothing_behind ys)
 
 -- slots that come one by one
-abbrev pub single : {R : Type 0} → R → ℕ → Run R
-single x n = record { first = n; last = n; rest = x }
-
 abbrev one_of : List ℕ → ℕ → Bool
 one_of ns m = list_any (λ (n : ℕ). n == m) ns
 
@@ -247,40 +231,6 @@ each_in key joined join c rs ts x ns h are up low lacks is =
           ∙ ap (λ l. c ++ l) (slots_more key joined rs (map (single x) ns) ∙ ap (λ l. with_all key l (slot_items key joined rs)) (each_expands joined x ns))
           ∙ slots_in key (map (λ n. joined (Slot n) x) ns) c (slot_items key joined rs) (each_slot key joined join x ns) h,
     )
-
-pub one_more : {R : Type 0} (x : R) (ns : List ℕ) (i d : ℕ) (a b c : List (Run R)) (r : Run R) → i < length ns → b ≡ a ++ map (single x) (take i ns) → c ≡ b ++ r ∷ [] → r ≡ single x (get_or ns i d) → c ≡ a ++ map (single x) (take (i + 1) ns)
-one_more x ns i d a b c r lt before now is =
-    now ∙ (λ j. before j ++ is j ∷ []) ∙ append_assoc a (map (single x) (take i ns)) (single x (get_or ns i d) ∷ [])
-    ∙ ap (λ l. a ++ l) (sym (map_more x (take i ns) (get_or ns i d)) ∙ ap (map (single x)) (sym (take_more ns i d lt)))
-  where
-    map_more : {R : Type 0} (x : R) (l : List ℕ) (n : ℕ) → map (single x) (l ++ n ∷ []) ≡ map (single x) l ++ single x n ∷ []
-    map_more x [] n = refl
-    map_more x (y ∷ ys) n = ap (λ l. single x y ∷ l) (map_more x ys n)
-
--- SLOTS THAT GO
-
-listed_more : (ns : List ℕ) (n m : ℕ) → listed (slots (ns ++ n ∷ [])) (Slot m) ≡ (listed (slots ns) (Slot m) || (n == m))
-listed_more [] n m = or_false (n == m)
-  where
-    or_false : (b : Bool) → (b || false) ≡ b
-    or_false true = refl
-    or_false false = refl
-listed_more (x ∷ xs) n m = by_cases (x == m) (λ k. rw k refl) (λ k. rw k (listed_more xs n m))
-
-eq_swap : (a b : ℕ) → (a == b) ≡ (b == a)
-eq_swap a b = grind (arith, nat_tests)
-
-pub gone_more : {R : Type 0} (ns : List ℕ) (i d : ℕ) (a b c : ℕ → Option R) → i < length ns → ((m : ℕ) → b m ≡ (if listed (slots (take i ns)) (Slot m) then None else a m)) → ((m : ℕ) → c m ≡ (if m == get_or ns i d then None else b m)) → (m : ℕ) → c m ≡ (if listed (slots (take (i + 1) ns)) (Slot m) then None else a m)
-gone_more ns i d a b c lt before now m =
-    let n = get_or ns i d in
-    let more : listed (slots (take (i + 1) ns)) (Slot m) ≡ (listed (slots (take i ns)) (Slot m) || (m == n)) = ap (λ l. listed (slots l) (Slot m)) (take_more ns i d lt) ∙ listed_more (take i ns) n m ∙ ap (λ x. listed (slots (take i ns)) (Slot m) || x) (eq_swap n m) in
-    now m ∙ ap (λ x. if m == n then None else x) (before m) ∙ both (m == n) (listed (slots (take i ns)) (Slot m)) (a m) ∙ sym (ap (λ x. if x then None else a m) more)
-  where
-    both : {A : Type 0} (p q : Bool) (o : Option A) → (if p then None else (if q then None else o)) ≡ (if q || p then None else o)
-    both true true o = refl
-    both true false o = refl
-    both false true o = refl
-    both false false o = refl
 
 -- THE FIRST SLOT FROM A NUMBER ON
 
@@ -424,7 +374,7 @@ both_ordered {E = E} key (x ∷ xs) s h k i j =
 
 pub list_ordered : {E R : Type 0} (key : E → Object) (joined : Object → R → E) → IsJoin key joined → (l : EntryList E R) → IsList key joined l → in_order key (items key joined l) ≡ true
 list_ordered key joined join l h =
-    let table = table_of key joined join (runs l.slots) h.runs in
+    let table = table_of key joined join (runs l.slots) h.slots.are in
     both_ordered key (tree_items key joined l.chunks) (slot_items key joined (runs l.slots)) h.ordered h.chunks table.ordered table.slots
 
 -- no slot has a number of more than four bytes

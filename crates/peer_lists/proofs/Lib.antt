@@ -1,11 +1,9 @@
 pub mod Ordered
 pub mod Found
 pub mod Trees
-pub mod Runs
-pub mod TreeRuns
-pub mod Slots
-pub mod Nexts
 pub mod Tables
 pub mod Both
+pub mod States
 pub mod Walks
 pub mod Parts
+pub mod Counts

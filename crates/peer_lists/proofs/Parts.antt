@@ -1,27 +1,23 @@
 -- Slots that are sought, as the runs of a list give them.
-use Rattle.std.proofs.Common.{◌≡◌, ℕ, zero, suc, ◌+◌, ◌-◌, ◌^◌, ◌<◌, ◌≤◌, Bool, true, false, not, List, [], ◌∷◌, ◌++◌, length, take, map, get_or, append-nil, Option, Some, None, refl, sym, ap, ◌∙◌, arith}
-use Rattle.std.specs.Prelude.{find, nat_le, nat_lt, min, ◌==◌, if◌then◌else◌, option_map}
+use Rattle.std.proofs.Common.{◌≡◌, ℕ, zero, suc, ◌+◌, ◌-◌, ◌<◌, ◌≤◌, Bool, true, false, not, List, [], ◌∷◌, ◌++◌, length, take, map, append-nil, Option, Some, None, refl, sym, ap, ◌∙◌, arith}
+use Rattle.std.specs.Prelude.{min, if◌then◌else◌, option_map}
 use Rattle.std.specs.List.{slice_get}
-use Rattle.std.specs.List.Sorted.{IsNonDecreasingBy, IsPartitionPoint}
-use Rattle.std.proofs.lemmas.Bool.{and_parts, true≢false, leb-true, leb-false, le-leb, ltb-true, ltb-false}
-use Rattle.std.proofs.lemmas.Bool.Decides.{nat_tests}
+use Rattle.std.proofs.lemmas.Bool.{and_parts}
 use Rattle.std.proofs.lemmas.List.{append_assoc, length-append, map-append}
 use Rattle.std.proofs.lemmas.List.Elements.{filter-append}
-use Rattle.psb_bytes.specs.Objects.{object_eq}
 use Rattle.psb_bytes.specs.declared.ids.Object.{Object}
 use Rattle.psb_bytes.specs.declared.ids.Object.TheVariants.{Slot}
 use Rattle.psb_model.specs.Words.{listed, slots}
-use Rattle.psb_model.specs.Grammar.{ascend}
 use Rattle.psb_model.proofs.ByObject.{by_cases}
 use Rattle.peer_lists.specs.Chunks.{is_chunk}
 use Rattle.peer_lists.specs.Entries.{in_order, find_at, from_object}
-use Rattle.peer_lists.specs.declared.run.Run.{Run}
-use Rattle.peer_lists.specs.declared.part.Part.{Part}
-use Rattle.peer_lists.specs.Runs.{rest_in, AreRuns, IsNext}
+use Rattle.slot_runs.specs.declared.run.Run.{Run}
+use Rattle.slot_runs.specs.declared.part.Part.{Part}
+use Rattle.slot_runs.specs.Runs.{rest_in, AreRuns, IsNext}
 use Rattle.peer_lists.specs.Walks.{IsRunFrom}
 use Rattle.peer_lists.specs.Slots.{slots_from, expand, slot_items}
-use Rattle.peer_lists.specs.Sought.{is_sought, sought, found, IsPart, count_up}
-use Rattle.peer_lists.proofs.Runs.{found_passes}
+use Rattle.slot_runs.specs.Runs.{count_up}
+use Rattle.peer_lists.specs.Sought.{is_sought, sought, found, IsPart}
 use Rattle.peer_lists.proofs.Trees.{IsJoin}
 use Rattle.peer_lists.proofs.Tables.{IsTable, table_of}
 use Rattle.peer_lists.proofs.Both.{chunks, are_slots, past_chunks, first_at, none_from, from_start}
@@ -103,95 +99,6 @@ part_passes {E = E} {R = R} key joined join test but l n r p b run says passes f
       (λ i from to. with_test key joined join test but p.run.rest i p.is_sought (ap (λ (x : R). test (joined (Slot i) x)) rest ∙ sym (says (Slot i)) ∙ passes) (others i (omega (arith, from, first)) to)),
 )
 
--- NUMBERS THAT ASCEND
-
-at_slot : (a n : ℕ) → object_eq (Slot a) (Slot n) ≡ (a == n)
-at_slot a n = refl
-
-above_all : (a : ℕ) (ns : List ℕ) (n : ℕ) → ascend (a ∷ ns) ≡ true → n ≤ a → listed (slots ns) (Slot n) ≡ false
-above_all a [] n up le = refl
-above_all a (x ∷ xs) n up le =
-    let h = and_parts (nat_lt a x) (ascend (x ∷ xs)) up in
-    let lt = ltb-true a x h.0 in
-    rw (apart x n (omega (arith, lt, le))) (above_all x xs n h.1 (omega (arith, lt, le)))
-  where
-    apart : (x n : ℕ) → n < x → (x == n) ≡ false
-    apart x n h = grind (arith, nat_tests)
-
-behind_first : (a : ℕ) (ns : List ℕ) → ascend (a ∷ ns) ≡ true → ascend ns ≡ true
-behind_first a [] up = refl
-behind_first a (x ∷ xs) up = (and_parts (nat_lt a x) (ascend (x ∷ xs)) up).1
-
-not_after : (a : ℕ) (ns : List ℕ) (j d : ℕ) → ascend (a ∷ ns) ≡ true → j < length ns → a ≤ get_or ns j d
-not_after a [] j d up lt = absurd (omega (arith, lt))
-not_after a (x ∷ xs) zero d up lt = omega (arith, ltb-true a x (and_parts (nat_lt a x) (ascend (x ∷ xs)) up).0)
-not_after a (x ∷ xs) (suc j) d up lt = let h = and_parts (nat_lt a x) (ascend (x ∷ xs)) up in omega (arith, ltb-true a x h.0, not_after x xs j d h.1 (omega (arith, lt)))
-
-pub ascending : (ns : List ℕ) → ascend ns ≡ true → IsNonDecreasingBy (λ n. n) ns
-ascending [] up = λ i j d le lt. absurd (omega (arith, lt))
-ascending (x ∷ xs) up = step (ascending xs (behind_first x xs up))
-  where
-    step : IsNonDecreasingBy (λ n. n) xs → (i j : ℕ) (d : ℕ) → i ≤ j → j < length (x ∷ xs) → get_or (x ∷ xs) i d ≤ get_or (x ∷ xs) j d
-    step later zero zero d le lt = omega arith
-    step later zero (suc j) d le lt = not_after x xs j d up (omega (arith, lt))
-    step later (suc i) zero d le lt = absurd (omega (arith, le))
-    step later (suc i) (suc j) d le lt = later i j d (omega (arith, le)) (omega (arith, lt))
-
--- where the numbers that are below one end, the first of the others stands
-pub found_at : (ns : List ℕ) (f i : ℕ) → IsPartitionPoint (λ n. nat_lt n f ≡ true) (λ n. nat_lt n f ≡ false) ns i → slice_get ns i ≡ find (λ n. nat_le f n) ns
-found_at [] f i point = refl
-found_at (x ∷ xs) f zero point = let here : nat_le f x ≡ true = le-leb f x (ltb-false x f (point.1 0 x (omega arith) (omega arith))) in rw here refl
-found_at (x ∷ xs) f (suc i) point =
-    let below : nat_le f x ≡ false = not_le f x (ltb-true x f (point.0 0 x (omega arith) (omega arith))) in
-    rw below (found_at xs f i (λ k d lo hi. point.0 (suc k) d (omega arith) (omega (arith, hi)), λ k d lo hi. point.1 (suc k) d (omega (arith, lo)) (omega (arith, hi))))
-  where
-    not_le : (f x : ℕ) → x < f → nat_le f x ≡ false
-    not_le f x h = grind (arith, nat_tests)
-
--- in front of the first that is not below a number, there is none
-pub none_listed : (ns : List ℕ) (f n : ℕ) (o : Option ℕ) → ascend ns ≡ true → o ≡ find (λ m. nat_le f m) ns → f ≤ n → ((m : ℕ) → o ≡ Some m → n < m) → listed (slots ns) (Slot n) ≡ false
-none_listed [] f n o up is le before = refl
-none_listed (x ∷ xs) f n o up is le before =
-    by_cases (nat_le f x)
-    (λ k.
-    let is' : o ≡ Some x = rw k at is in
-    let lt = before x is' in
-    rw (apart x n (omega (arith, lt))) (above_all x xs n up (omega (arith, lt))))
-    (λ k.
-    let is' : o ≡ find (λ m. nat_le f m) xs = rw k at is in
-    rw (apart' x n (omega (arith, leb-false f x k, le))) (none_listed xs f n o (behind_first x xs up) is' le before))
-  where
-    apart : (x n : ℕ) → n < x → (x == n) ≡ false
-    apart x n h = grind (arith, nat_tests)
-
-    apart' : (x n : ℕ) → x < n → (x == n) ≡ false
-    apart' x n h = grind (arith, nat_tests)
-
-one_listed : (ns : List ℕ) (f m : ℕ) → Some m ≡ find (λ m. nat_le f m) ns → listed (slots ns) (Slot m) ≡ true
-one_listed [] f m is = absurd (cc)
-one_listed (x ∷ xs) f m is =
-    by_cases (x == m)
-    (λ j. rw j refl)
-    (λ j.
-    by_cases (nat_le f x)
-    (λ k. let is' : Some m ≡ Some x = rw k at is in let e : x ≡ m = cc in absurd (true≢false (sym (here x m e) ∙ j)))
-    (λ k. let is' = rw k at is in rw j (one_listed xs f m is')))
-  where
-    here : (x m : ℕ) → x ≡ m → (x == m) ≡ true
-    here x m e = grind (arith, nat_tests)
-
-pub found_from : (ns : List ℕ) (f m : ℕ) → Some m ≡ find (λ m. nat_le f m) ns → f ≤ m
-found_from ns f m is = leb-true f m (found_passes (λ m. nat_le f m) ns m (sym is))
-
-pub first_listed : (ns : List ℕ) (f n m : ℕ) → Some m ≡ find (λ m. nat_le f m) ns → n ≡ m → listed (slots ns) (Slot n) ≡ true
-first_listed ns f n m is same = ap (λ i. listed (slots ns) (Slot i)) same ∙ one_listed ns f m is
-
-pub none_up_to : (ns : List ℕ) (f n m : ℕ) → ascend ns ≡ true → Some m ≡ find (λ m. nat_le f m) ns → f ≤ n → n < m → listed (slots ns) (Slot n) ≡ false
-none_up_to ns f n m up is le lt = none_listed ns f n (Some m) up is le (λ k e. let same : m ≡ k = cc in omega (arith, same, lt))
-
-pub none_after : (ns : List ℕ) (f n : ℕ) → ascend ns ≡ true → None ≡ find (λ m. nat_le f m) ns → f ≤ n → listed (slots ns) (Slot n) ≡ false
-none_after ns f n up is le = none_listed ns f n None up is le (λ k e. absurd (cc))
-
 -- THE WHOLE LIST
 
 no_chunk_sought : {E : Type 0} (key : E → Object) (test : E → Bool) (but : List ℕ) (c : List E) → chunks key c ≡ true → sought key test but c ≡ []
@@ -214,10 +121,6 @@ next_is key joined test but l n p i part last = part.2 ∙ ap (λ j. found joine
 pub few_more : (b : Bool) (f l n count from : ℕ) → count ≤ from → from ≤ f → f ≤ l → n ≡ (if b then l + 1 - f else 0) → count + n ≤ l + 1
 few_more true f l n count from few le ends size = omega (arith, few, le, ends, size)
 few_more false f l n count from few le ends size = omega (arith, few, le, ends, size)
-
-pub part_fits : (b : Bool) (f l n m room : ℕ) → f ≤ l → l < 2 ^ 32 → n ≡ (if b then l + 1 - f else 0) → m ≡ min n room → f + m ≤ 2 ^ 32
-part_fits true f l n m room ends low size least = omega (arith, ends, low, size, least)
-part_fits false f l n m room ends low size least = omega (arith, ends, low, size, least)
 
 slots_length : {E R : Type 0} (joined : Object → R → E) (x : R) (f u : ℕ) → length (slots_from joined x f u) ≡ u
 slots_length joined x f zero = refl
@@ -260,13 +163,6 @@ is_behind joined p s s' all n left left' place is size le now same =
 
 -- THE LEAST
 
-pub count_more : (f n : ℕ) → count_up f (n + 1) ≡ count_up f n ++ (f + n) ∷ []
-count_more f zero = let same : f ≡ f + 0 = omega arith in ap (λ i. i ∷ []) same
-count_more f (suc n) =
-    let same : f + 1 + n ≡ f + suc n = omega arith in
-    let more : suc n + 1 ≡ suc (n + 1) = omega arith in
-    ap (count_up f) more ∙ ap (λ l. f ∷ l) (count_more (f + 1) n ∙ ap (λ i. count_up (f + 1) n ++ i ∷ []) same)
-
 keys_of : {E R : Type 0} (key : E → Object) (joined : Object → R → E) → IsJoin key joined → (x : R) (f u : ℕ) → map key (slots_from joined x f u) ≡ slots (count_up f u)
 keys_of key joined join x f zero = refl
 keys_of key joined join x f (suc u) = (λ i. join (Slot f) x i ∷ keys_of key joined join x (f + 1) u i)
@@ -300,10 +196,6 @@ pushed {E = E} key joined join p s s' numbers numbers' most all is now before =
     ∙ append_assoc (slots numbers) (slots (count_up p.run.first (min u room))) (take (room - u) (map key s'))
     ∙ ap (λ l. slots numbers ++ l) (sym (ap (take room) keys ∙ taken p.run.first u room (map key s')))
     ∙ before
-
-pub pushed_one : (a b c : List ℕ) (f n m : ℕ) → b ≡ a ++ count_up f n → c ≡ b ++ m ∷ [] → m ≡ f + n → c ≡ a ++ count_up f (n + 1)
-pushed_one a b c f n m before now is =
-    now ∙ (λ j. before j ++ is j ∷ []) ∙ append_assoc a (count_up f n) ((f + n) ∷ []) ∙ ap (λ l. a ++ l) (sym (count_more f n))
 
 pub none_pushed : {E : Type 0} (key : E → Object) (numbers : List ℕ) (s all : List E) (most : ℕ) → numbers ≡ [] → s ≡ all → slots numbers ++ take (most - length numbers) (map key s) ≡ take most (map key all)
 none_pushed key numbers s all most none same = let whole : most - 0 ≡ most = omega arith in (λ i. slots (none i) ++ take (most - length (none i)) (map key (same i))) ∙ ap (λ n. take n (map key all)) whole

@@ -16,13 +16,13 @@ use Rattle.psb_model.proofs.ByObject.{object_eq-same, object_eq-refl, object_eq-
 use Rattle.psb_model.proofs.Built.{neither}
 use Rattle.psb_model.proofs.ObjectOrder.{object_total, same_object, less_then}
 use Rattle.peer_lists.specs.Entries.{in_order, find_at}
-use Rattle.peer_lists.specs.declared.run.Run.{Run}
-use Rattle.peer_lists.specs.Runs.{covers, times, rest_in, AreRuns}
+use Rattle.slot_runs.specs.declared.run.Run.{Run}
+use Rattle.slot_runs.specs.Runs.{covers, times, rest_in, AreRuns}
 use Rattle.peer_lists.specs.Slots.{slots_from, expand, slot_items}
 use Rattle.peer_lists.proofs.Ordered.{before_all, in_order_with, in_order_kept}
 use Rattle.peer_lists.proofs.Found.{lacks_find, rest_ordered}
 use Rattle.peer_lists.proofs.Trees.{with_more, IsJoin}
-use Rattle.peer_lists.proofs.Runs.{either}
+use Rattle.slot_runs.proofs.Runs.{either}
 
 -- TWO LISTS IN ORDER THAT HAVE THE SAME
 

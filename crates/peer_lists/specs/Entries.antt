@@ -5,11 +5,7 @@ use Rattle.std.specs.Ordering.{is_lt}
 use Rattle.psb_bytes.specs.Objects.{object_cmp}
 use Rattle.psb_bytes.specs.declared.ids.Object.{Object}
 use Rattle.psb_model.specs.Words.{object_eq, has}
-
--- each object comes before all later ones
-abbrev pub in_order : {E : Type 0} → (E → Object) → List E → Bool
-in_order key [] = true
-in_order key (e ∷ es) = list_all (λ x. is_lt (object_cmp (key e) (key x))) es && in_order key es
+pub use Rattle.psb_model.specs.Words.{in_order}
 
 -- none of the entries is there
 abbrev pub lacks_all : {E : Type 0} → (E → Object) → List E → List E → Bool

@@ -6,8 +6,7 @@ use Rattle.peer_lists.specs.declared.entry_list.EntryList.{EntryList}
 use Rattle.peer_lists.specs.Entries.{in_order}
 use Rattle.peer_lists.specs.Trees.{tree_items, tree_room}
 use Rattle.peer_lists.specs.Chunks.{is_chunk}
-use Rattle.peer_lists.specs.Runs.{AreRuns}
-use Rattle.peer_lists.specs.SlotRuns.{runs, runs_room}
+use Rattle.slot_runs.specs.SlotRuns.{runs, runs_room, IsKept}
 use Rattle.peer_lists.specs.Slots.{slot_items}
 
 -- in object order: chunks, and then slots
@@ -18,8 +17,8 @@ items key joined l = tree_items key joined l.chunks ++ slot_items key joined (ru
 abbrev pub room : {E R : Type 0} → EntryList E R → ℕ
 room l = min (tree_room l.chunks) (runs_room l.slots)
 
--- the chunks are chunks, in order, and the runs are runs
+-- the chunks are chunks, in order; and the slots are runs, in their tree each as long as it can be
 pub record IsList {E R : Type 0} (key : E → Object) (joined : Object → R → E) (l : EntryList E R) : Type 0 where
   pub ordered : in_order key (tree_items key joined l.chunks) ≡ true
   pub chunks : list_all (λ e. is_chunk (key e)) (tree_items key joined l.chunks) ≡ true
-  pub runs : AreRuns (runs l.slots)
+  pub slots : IsKept l.slots

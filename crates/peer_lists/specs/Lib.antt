@@ -3,9 +3,8 @@ pub mod Chunks
 pub mod Joined
 pub mod ListViews
 pub mod Trees
-pub mod Runs
-pub mod SlotRuns
 pub mod Slots
 pub mod EntryLists
 pub mod Walks
 pub mod Sought
+pub mod Debts

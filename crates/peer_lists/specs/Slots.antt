@@ -4,7 +4,7 @@ use Rattle.std.specs.List.{flat_map}
 use Rattle.psb_bytes.specs.declared.ids.Object.{Object}
 use Rattle.psb_bytes.specs.declared.ids.Object.TheVariants.{Slot}
 use Rattle.psb_model.specs.Words.{with_all}
-use Rattle.peer_lists.specs.declared.run.Run.{Run}
+use Rattle.slot_runs.specs.declared.run.Run.{Run}
 
 -- u slots from a number on, of which the same is said
 abbrev pub slots_from : {E R : Type 0} → (Object → R → E) → R → ℕ → ℕ → List E

@@ -1,5 +1,5 @@
 -- Slots that are sought: their entries pass a test, and their numbers are not among others.
-use Rattle.std.specs.Prelude.{◌≡◌, ◌≤◌, ℕ, zero, suc, ◌+◌, Bool, not, ◌&&◌, if◌then◌else◌, List, [], ◌∷◌, ◌++◌, filter, Option, Some, None}
+use Rattle.std.specs.Prelude.{◌≡◌, ◌≤◌, ℕ, ◌+◌, Bool, not, ◌&&◌, if◌then◌else◌, List, [], ◌++◌, filter, Option, Some, None}
 use Rattle.psb_bytes.specs.declared.ids.Object.{Object}
 use Rattle.psb_bytes.specs.declared.ids.Object.TheVariants.{Slot}
 use Rattle.psb_model.specs.Words.{listed, slots}
@@ -10,7 +10,7 @@ use Rattle.peer_lists.specs.declared.entry.InTest.{InTest}
 use Rattle.peer_lists.specs.declared.entry.InTest.TheVariants.{Direct, DirectOrHome}
 use Rattle.peer_lists.specs.declared.entry.OutTest.{OutTest}
 use Rattle.peer_lists.specs.declared.entry.OutTest.TheVariants.{Own, Loose}
-use Rattle.peer_lists.specs.declared.part.Part.{Part}
+use Rattle.slot_runs.specs.declared.part.Part.{Part}
 use Rattle.peer_lists.specs.Chunks.{is_chunk}
 use Rattle.peer_lists.specs.Entries.{from_object}
 use Rattle.peer_lists.specs.Slots.{expand}
@@ -38,8 +38,3 @@ found joined p = if p.is_sought then expand joined p.run else []
 abbrev pub IsPart : {E R : Type 0} → (E → Object) → (Object → R → E) → (E → Bool) → List ℕ → List E → ℕ → Option (Part R) → Type 0
 IsPart key joined test but l n None = sought key test but (from_object key (Slot n) l) ≡ []
 IsPart key joined test but l n (Some p) = (n ≤ p.run.first) × (p.run.first ≤ p.run.last) × (sought key test but (from_object key (Slot n) l) ≡ found joined p ++ sought key test but (from_object key (Slot (p.run.last + 1)) l))
-
--- so many numbers from one on
-abbrev pub count_up : ℕ → ℕ → List ℕ
-count_up n zero = []
-count_up n (suc u) = n ∷ count_up (n + 1) u

@@ -6,7 +6,7 @@ use Rattle.psb_bytes.specs.declared.ids.Object.{Object}
 use Rattle.psb_bytes.specs.declared.ids.Object.TheVariants.{Chunk, Slot}
 use Rattle.peer_lists.specs.Chunks.{is_chunk}
 use Rattle.peer_lists.specs.Entries.{from_object}
-use Rattle.peer_lists.specs.declared.run.Run.{Run}
+use Rattle.slot_runs.specs.declared.run.Run.{Run}
 use Rattle.peer_lists.specs.Slots.{slots_from}
 
 -- the first slot from a number on, and its own number; those behind it come from the next number on

@@ -3,9 +3,9 @@
 ghost use Rattle.std.specs.Prelude.{◌≡◌, Bool};
 ghost use Rattle.psb_bytes.specs.declared.ids.Object.{Object};
 
-use crate::run::Said;
 use psb_bytes::Object;
 use psb_model::{InEntry, InState, OutEntry, OutState};
+use slot_runs::Said;
 
 /// What an entry says of its object: its units, and where it stands.
 #[derive(Clone, Copy)]

@@ -1,8 +1,8 @@
 //! A list of entries in object order: chunks in a tree, and slots as runs.
 
-ghost use Rattle.std.specs.Prelude.{◌≡◌, ◌≤◌, ◌<◌, ◌+◌, ◌*◌, ◌^◌, ◌∷◌, ◌++◌, [], true, false, length, map, OnOk, IfSome};
+ghost use Rattle.std.specs.Prelude.{◌≡◌, ◌≤◌, ◌<◌, ◌+◌, ◌*◌, ◌^◌, ◌∷◌, ◌++◌, [], true, false, length, map, if◌then◌else◌, OnOk, IfSome};
 ghost use Rattle.psb_bytes.specs.declared.ids.Object.TheVariants.{Slot};
-ghost use Rattle.psb_model.specs.Words.{has, slots, with_one, with_all, without};
+ghost use Rattle.psb_model.specs.Words.{has, object_eq, slots, with_one, with_all, without};
 ghost use Rattle.peer_lists.specs.Entries.{find_at, lacks_all};
 ghost use Rattle.peer_lists.specs.Slots.{slots_from};
 ghost use Rattle.peer_lists.specs.Chunks.{is_chunk};
@@ -11,9 +11,8 @@ ghost use Rattle.psb_model.specs.Grammar.{ascend};
 
 use crate::entry::Entry;
 use crate::entry_tree::EntryTree;
-use crate::run::Run;
-use crate::slot_runs::SlotRuns;
 use psb_bytes::{Digest, Memory, Object};
+use slot_runs::{Run, SlotRuns};
 use std::alloc::Global;
 
 /// Chunks and slots. What is said of a slot is said of runs of them.
@@ -124,6 +123,18 @@ impl<E: Entry> EntryList<E, E::Rest> {
         ensures room { room self.old ≤ room self.new + 2 * length numbers.now }
     {
         self.slots.remove_each(numbers);
+    }
+
+    /// Says this of the slot, which is there. That takes the room of two runs.
+    pub fn set_slot(&mut self, number: u32, rest: E::Rest)
+        requires room { 2 ≤ room self.old }
+        requires there { has E.key (items E.key E.joined self.old) (Slot number) ≡ true }
+        requires list { IsList E.key E.joined self.old }
+        ensures list { IsList E.key E.joined self.new }
+        ensures items { items E.key E.joined self.new ≡ map (λ e. if object_eq (E.key e) (Slot number) then E.joined (Slot number) rest else e) (items E.key E.joined self.old) }
+        ensures room { room self.old ≤ room self.new + 2 }
+    {
+        self.slots.put(number, rest);
     }
 
     /// The first slot from the number on.

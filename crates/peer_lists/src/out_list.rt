@@ -1,9 +1,9 @@
 //! What the node has on a peer.
 
-ghost use Rattle.std.specs.Prelude.{◌≡◌, ◌≤◌, ◌<◌, ◌+◌, ◌*◌, ◌^◌, ◌∷◌, [], true, false, length, map, take, OnOk, IfOk};
+ghost use Rattle.std.specs.Prelude.{◌≡◌, ◌≤◌, ◌<◌, ◌+◌, ◌*◌, ◌^◌, ◌∷◌, [], true, false, length, map, take, if◌then◌else◌, OnOk, IfOk};
 ghost use Rattle.std.specs.List.{slice_get};
-ghost use Rattle.psb_bytes.specs.declared.ids.Object.TheVariants.{Chunk};
-ghost use Rattle.psb_model.specs.Words.{has, slots, with_one, with_all, without};
+ghost use Rattle.psb_bytes.specs.declared.ids.Object.TheVariants.{Chunk, Slot};
+ghost use Rattle.psb_model.specs.Words.{has, object_eq, slots, with_one, with_all, without};
 ghost use Rattle.psb_model.specs.Grammar.{ascend};
 ghost use Rattle.psb_model.specs.State.{out_key};
 ghost use Rattle.psb_model.specs.Effects.{chunk_out, own_slots};
@@ -39,6 +39,8 @@ impl Model for OutList {
 }
 
 impl OutList {
+    ghost use Rattle.psb_model.specs.declared.entries.OutEntry.{OutEntry};
+
     /// Takes no memory.
     pub fn new(alloc: Global) -> OutList
         ensures { result.items ≡ [] }
@@ -153,5 +155,16 @@ impl OutList {
         ensures room { self.old.room ≤ self.new.room + 2 * length numbers.now }
     {
         self.list.remove_slots(numbers);
+    }
+    /// Sets the state of the slot, if it is there. That takes the room of two runs.
+    pub fn set_state(&mut self, slot: u32, state: OutState)
+        requires room { 2 ≤ self.old.room }
+        ensures items { self.new.items ≡ map (λ (e : OutEntry). if object_eq e.object (Slot slot) then record e { state = state } else e) self.old.items }
+        ensures room { self.old.room ≤ self.new.room + 2 }
+    {
+        if let Some(entry) = self.list.get(&Object::Slot(slot)) {
+            let units = entry.units;
+            self.list.set_slot(slot, Holding { units, state });
+        }
     }
 }

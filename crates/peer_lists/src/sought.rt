@@ -9,9 +9,8 @@ ghost use Rattle.peer_lists.specs.Sought.{IsPart, sought};
 
 use crate::entry::Entry;
 use crate::entry_list::EntryList;
-use crate::part::{Part, part_of};
-use crate::run::Run;
 use psb_bytes::{Memory, Object, SlotList};
+use slot_runs::{Part, Run, part_of};
 use std::alloc::Global;
 
 impl<E: Entry> EntryList<E, E::Rest> {

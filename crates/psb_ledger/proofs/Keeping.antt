@@ -6,10 +6,10 @@ use Rattle.std.specs.Ordering.{nat_cmp, is_lt}
 use Rattle.std.specs.Cmp.Lexicographic.{slice_cmp}
 use Rattle.std.proofs.lemmas.Bool.{and_parts, lt-ltb}
 use Rattle.psb_model.specs.declared.entries.OwnEntry.{OwnEntry}
-use Rattle.psb_model.specs.declared.entries.Snapshot.{Snapshot}
+use Rattle.psb_model.specs.declared.snapshots.Snapshot.{Snapshot}
 use Rattle.psb_model.specs.declared.entries.SnapMark.{SnapMark}
 use Rattle.psb_model.specs.declared.change.Change.{Change}
-use Rattle.psb_model.specs.declared.change.Change.TheVariants.{Kept, Forgot, Chose}
+use Rattle.psb_model.specs.declared.change.Change.TheVariants.{Snapped, Forgot, Chose}
 use Rattle.psb_model.specs.declared.entries.Candidate.{Candidate}
 use Rattle.psb_model.specs.Words.{all_of, name_listed}
 use Rattle.psb_model.specs.State.{Row, State, own_has, used}
@@ -21,15 +21,18 @@ use Rattle.psb_model.proofs.Steps.{parts}
 use Rattle.psb_model.proofs.Own.{own_after_keeps, keeps_then, named_keeps}
 use Rattle.psb_model.proofs.Built.{allows, KeepsNamed, use_kept, rows_use, is_kept}
 use Rattle.psb_model.proofs.ByObject.{by_cases}
-use Rattle.psb_ledger.specs.declared.fields.KeptFields.{KeptFields}
-use Rattle.psb_ledger.specs.declared.book.Book.TheInside.{Inside}
-use Rattle.psb_ledger.specs.View.{LedgerView, Mine, named_row, plain_state, in_order, own_key, IsMine, IsReached, IsSound}
-use Rattle.psb_ledger.specs.OwnList.{lifts, marks}
-use Rattle.psb_ledger.specs.OwnTree.{own_items}
+use Rattle.psb_model.specs.declared.change.Change.TheVariants as change
+use Rattle.psb_model.specs.declared.kinds.Kept.{Kept}
+use Rattle.psb_model.specs.declared.kinds.Snapped.{Snapped as MadeSnapshot}
+use Rattle.psb_ledger.specs.declared.ledger.Ledger.TheInside.{Inside}
+use Rattle.psb_ledger.specs.View.{LedgerView, Mine, plain_state, IsMine, IsReached, IsSound}
+use Rattle.peer_account.specs.View.{named_row}
+use Rattle.peer_lists.specs.Entries.{in_order}
+use Rattle.own_chunks.specs.OwnList.{own_key, lifts, marks}
 use Rattle.psb_ledger.specs.Snapping.{change_of, count_of}
 use Rattle.psb_ledger.proofs.Spelled.{all_end}
 use Rattle.peer_lists.proofs.Ordered.{is_false}
-use Rattle.psb_ledger.proofs.OwnTrees.{ordered_with, ordered_kept, ordered_marks}
+use Rattle.own_chunks.proofs.OwnTrees.{ordered_with, ordered_kept, ordered_marks}
 use Rattle.psb_ledger.proofs.Sound.{mine, state_of, view_of, plain_of, reached_after}
 use Rattle.psb_ledger.proofs.OwnStays.{all_stay}
 
@@ -64,10 +67,7 @@ makes l v c m view sound built grammar may rows is part =
 
 -- A CHUNK
 
-abbrev pub keeping : KeptFields → Change
-keeping x = Kept x.name x.len x.new None
-
-abbrev pub new_entry : KeptFields → OwnEntry
+abbrev pub new_entry : Kept → OwnEntry
 new_entry x = record { name = x.name; len = x.len; marked = false }
 
 -- a chunk that comes without a mark stays, as all others do
@@ -77,18 +77,18 @@ kept_with_one rows e (x ∷ xs) k h =
     let two = and_parts (is_kept rows x) (list_all (is_kept rows) xs) h in
     by_cases (is_lt (slice_cmp nat_cmp e.name x.name)) (λ j. rw (j, k) h) (λ j. rw (j, two.0) (kept_with_one rows e xs k two.1))
 
-pub kept_one : (l : Inside) (v : LedgerView) (x : KeptFields) (own : List OwnEntry) → view_of l ≡ v → IsSound l.used (state_of l) → IsMine (mine l) → in_grammar (keeping x) ≡ true → allowed v.state (keeping x) ≡ true → own ≡ own_with (new_entry x) (own_items l.own) → Makes l v (keeping x) (record { own = own; kept = l.kept.items; snapped = l.snapped; chosen = l.chosen.items })
+pub kept_one : (l : Inside) (v : LedgerView) (x : Kept) (own : List OwnEntry) → view_of l ≡ v → IsSound l.used (state_of l) → IsMine (mine l) → in_grammar (change.Kept x) ≡ true → allowed v.state (change.Kept x) ≡ true → own ≡ own_with (new_entry x) l.own.items → Makes l v (change.Kept x) (record { own = own; kept = l.kept.items; snapped = l.snapped; chosen = l.chosen.items })
 kept_one l v x own view sound part grammar may is =
     let s = state_of l in
-    let c = keeping x in
+    let c = change.Kept x in
     let may' : allowed s c ≡ true = ap (λ (w : LedgerView). allowed w.state c) view ∙ may in
     let ts = parts (tests s c) (allows s c may').tests in
-    let absent : own_has (own_items l.own) x.name ≡ false = is_false (own_has (own_items l.own) x.name) ts.0 in
-    let more = own_with (new_entry x) (own_items l.own) in
-    let next : own ≡ given_up s.rows more = is ∙ sym (all_stay s.rows more (kept_with_one s.rows (new_entry x) (own_items l.own) refl (plain_of s sound.reached).named)) in
+    let absent : own_has l.own.items x.name ≡ false = is_false (own_has l.own.items x.name) ts.0 in
+    let more = own_with (new_entry x) l.own.items in
+    let next : own ≡ given_up s.rows more = is ∙ sym (all_stay s.rows more (kept_with_one s.rows (new_entry x) l.own.items refl (plain_of s sound.reached).named)) in
     makes l v c (record { own = own; kept = l.kept.items; snapped = l.snapped; chosen = l.chosen.items }) view sound refl grammar may' refl
     (λ i. record { changes = l.changes + 1; settings = l.settings; rows = s.rows; issued = l.issued; own = next i; kept = l.kept.items; snapped = l.snapped; chosen = l.chosen.items })
-    (record { own_ordered = subst (λ (o : List OwnEntry). in_order own_key o ≡ true) (sym is) (ordered_with (new_entry x) (own_items l.own) part.own_ordered absent); names_ordered = part.names_ordered })
+    (record { own_ordered = subst (λ (o : List OwnEntry). in_order own_key o ≡ true) (sym is) (ordered_with (new_entry x) l.own.items part.own_ordered absent); names_ordered = part.names_ordered })
 
 -- MARKS
 
@@ -109,17 +109,17 @@ kept_lifted rows names (x ∷ xs) h =
 abbrev ascends : Snapshot → Bool
 ascends k = names_ascend k.names
 
-pub snapped_one : (l : Inside) (v : LedgerView) (k : Snapshot) (kept : List Snapshot) (own : List OwnEntry) → view_of l ≡ v → IsSound l.used (state_of l) → IsMine (mine l) → in_grammar (change_of k) ≡ true → allowed v.state (change_of k) ≡ true → kept ≡ l.kept.items ++ k ∷ [] → own ≡ set_marks (lifts k.names) (own_items l.own) → Makes l v (change_of k) (record { own = own; kept = kept; snapped = Some (record { number = k.number; change = l.changes }); chosen = l.chosen.items })
+pub snapped_one : (l : Inside) (v : LedgerView) (k : Snapshot) (kept : List Snapshot) (own : List OwnEntry) → view_of l ≡ v → IsSound l.used (state_of l) → IsMine (mine l) → in_grammar (change_of k) ≡ true → allowed v.state (change_of k) ≡ true → kept ≡ l.kept.items ++ k ∷ [] → own ≡ set_marks (lifts k.names) l.own.items → Makes l v (change_of k) (record { own = own; kept = kept; snapped = Some (record { number = k.number; change = l.changes }); chosen = l.chosen.items })
 snapped_one l v k kept own view sound part grammar may is own_is =
     let s = state_of l in
     let c = change_of k in
     let may' : allowed s c ≡ true = ap (λ (w : LedgerView). allowed w.state c) view ∙ may in
     let ts = parts (tests s c) (allows s c may').tests in
-    let lifted = set_marks (lifts k.names) (own_items l.own) in
-    let next : own ≡ given_up s.rows lifted = own_is ∙ sym (all_stay s.rows lifted (kept_lifted s.rows k.names (own_items l.own) (plain_of s sound.reached).named)) in
+    let lifted = set_marks (lifts k.names) l.own.items in
+    let next : own ≡ given_up s.rows lifted = own_is ∙ sym (all_stay s.rows lifted (kept_lifted s.rows k.names l.own.items (plain_of s sound.reached).named)) in
     makes l v c (record { own = own; kept = kept; snapped = Some (record { number = k.number; change = l.changes }); chosen = l.chosen.items }) view sound refl grammar may' refl
     (λ i. record { changes = l.changes + 1; settings = l.settings; rows = s.rows; issued = l.issued; own = next i; kept = is i; snapped = Some (record { number = k.number; change = l.changes }); chosen = l.chosen.items })
-    (record { own_ordered = ap (in_order own_key) own_is ∙ ordered_marks (lifts k.names) (own_items l.own) ∙ part.own_ordered; names_ordered = ap (list_all ascends) is ∙ all_end ascends l.kept.items k part.names_ordered ts.1.0 })
+    (record { own_ordered = ap (in_order own_key) own_is ∙ ordered_marks (lifts k.names) l.own.items ∙ part.own_ordered; names_ordered = ap (list_all ascends) is ∙ all_end ascends l.kept.items k part.names_ordered ts.1.0 })
 
 -- its names ascend
 pub ascending : (l : Inside) (v : LedgerView) (k : Snapshot) → view_of l ≡ v → allowed v.state (change_of k) ≡ true → names_ascend k.names ≡ true
@@ -129,14 +129,14 @@ ascending l v k view may =
 
 -- A CHOICE OF BUDDIES
 
-pub chosen_one : (l : Inside) (v : LedgerView) (cs : List Candidate) (chosen : List ℕ) → view_of l ≡ v → IsSound l.used (state_of l) → IsMine (mine l) → in_grammar (Chose cs) ≡ true → allowed v.state (Chose cs) ≡ true → chosen ≡ chosen_after v.state (Chose cs) → Makes l v (Chose cs) (record { own = own_items l.own; kept = l.kept.items; snapped = l.snapped; chosen = chosen })
+pub chosen_one : (l : Inside) (v : LedgerView) (cs : List Candidate) (chosen : List ℕ) → view_of l ≡ v → IsSound l.used (state_of l) → IsMine (mine l) → in_grammar (Chose (record { candidates = cs })) ≡ true → allowed v.state (Chose (record { candidates = cs })) ≡ true → chosen ≡ chosen_after v.state (Chose (record { candidates = cs })) → Makes l v (Chose (record { candidates = cs })) (record { own = l.own.items; kept = l.kept.items; snapped = l.snapped; chosen = chosen })
 chosen_one l v cs chosen view sound part grammar may is =
     let s = state_of l in
-    let c = Chose cs in
+    let c = Chose (record { candidates = cs }) in
     let may' : allowed s c ≡ true = ap (λ (w : LedgerView). allowed w.state c) view ∙ may in
     let is' : chosen ≡ chosen_after s c = is ∙ ap (λ (w : LedgerView). chosen_after w.state c) (sym view) in
-    let next : own_items l.own ≡ given_up s.rows (own_items l.own) = sym (all_stay s.rows (own_items l.own) (plain_of s sound.reached).named) in
-    makes l v c (record { own = own_items l.own; kept = l.kept.items; snapped = l.snapped; chosen = chosen }) view sound refl grammar may' refl
+    let next : l.own.items ≡ given_up s.rows l.own.items = sym (all_stay s.rows l.own.items (plain_of s sound.reached).named) in
+    makes l v c (record { own = l.own.items; kept = l.kept.items; snapped = l.snapped; chosen = chosen }) view sound refl grammar may' refl
     (λ i. record { changes = l.changes + 1; settings = l.settings; rows = s.rows; issued = l.issued; own = next i; kept = l.kept.items; snapped = l.snapped; chosen = is' i })
     (record { own_ordered = part.own_ordered; names_ordered = part.names_ordered })
 
@@ -151,31 +151,31 @@ all_less n (x ∷ xs) h =
 pub less_ordered : (l : Inside) (n : ℕ) (kept : List Snapshot) → IsMine (mine l) → kept ≡ kept_without n l.kept.items → list_all ascends kept ≡ true
 less_ordered l n kept part is = ap (list_all ascends) is ∙ all_less n l.kept.items part.names_ordered
 
-pub forgot_one : (l : Inside) (v : LedgerView) (n : ℕ) (kept : List Snapshot) (own : List OwnEntry) → view_of l ≡ v → IsSound l.used (state_of l) → IsMine (mine l) → allowed v.state (Forgot n) ≡ true → kept ≡ kept_without n l.kept.items → own ≡ given_up (map named_row l.accounts.items) (set_marks (marks kept) (own_items l.own)) → Makes l v (Forgot n) (record { own = own; kept = kept; snapped = l.snapped; chosen = l.chosen.items })
+pub forgot_one : (l : Inside) (v : LedgerView) (n : ℕ) (kept : List Snapshot) (own : List OwnEntry) → view_of l ≡ v → IsSound l.used (state_of l) → IsMine (mine l) → allowed v.state (Forgot (record { number = n })) ≡ true → kept ≡ kept_without n l.kept.items → own ≡ given_up (map named_row l.accounts.items) (set_marks (marks kept) l.own.items) → Makes l v (Forgot (record { number = n })) (record { own = own; kept = kept; snapped = l.snapped; chosen = l.chosen.items })
 forgot_one l v n kept own view sound part may less is =
     let s = state_of l in
-    let c = Forgot n in
+    let c = Forgot (record { number = n }) in
     let may' : allowed s c ≡ true = ap (λ (w : LedgerView). allowed w.state c) view ∙ may in
-    let next : own ≡ given_up s.rows (own_after s c) = is ∙ ap (λ (ks : List Snapshot). given_up s.rows (set_marks (marks ks) (own_items l.own))) less in
+    let next : own ≡ given_up s.rows (own_after s c) = is ∙ ap (λ (ks : List Snapshot). given_up s.rows (set_marks (marks ks) l.own.items)) less in
     makes l v c (record { own = own; kept = kept; snapped = l.snapped; chosen = l.chosen.items }) view sound refl refl may' refl
     (λ i. record { changes = l.changes + 1; settings = l.settings; rows = s.rows; issued = l.issued; own = next i; kept = less i; snapped = l.snapped; chosen = l.chosen.items })
-    (record { own_ordered = subst (λ (o : List OwnEntry). in_order own_key o ≡ true) (sym is) (ordered_kept (is_kept s.rows) (set_marks (marks kept) (own_items l.own)) (ordered_marks (marks kept) (own_items l.own) ∙ part.own_ordered)); names_ordered = less_ordered l n kept part less })
+    (record { own_ordered = subst (λ (o : List OwnEntry). in_order own_key o ≡ true) (sym is) (ordered_kept (is_kept s.rows) (set_marks (marks kept) l.own.items) (ordered_marks (marks kept) l.own.items ∙ part.own_ordered)); names_ordered = less_ordered l n kept part less })
 
 -- THE CONDITIONS
 
-pub allowed_snapped : (l : Inside) (v : LedgerView) (k : Snapshot) (b : Bool) → view_of l ≡ v → (l.changes ≡ 0 → ⊥) → b ≡ all_of ((k.number == count_of l.snapped + 1) ∷ names_ascend k.names ∷ list_all (own_has (own_items l.own)) k.names ∷ []) → b ≡ allowed v.state (change_of k)
-allowed_snapped l v k b view begun is =
-    let later : nat_lt 0 l.changes ≡ true = lt-ltb 0 l.changes (omega arith) in
-    is ∙ counted l.snapped ∙ sym (rw later refl) ∙ ap (λ (w : LedgerView). allowed w.state (change_of k)) view
-  where
-    counted : (o : Option SnapMark) → all_of ((k.number == count_of o + 1) ∷ names_ascend k.names ∷ list_all (own_has (own_items l.own)) k.names ∷ []) ≡ all_of ((k.number == elim o [ None ↦ 0 | Some mark ↦ mark.number ] + 1) ∷ names_ascend k.names ∷ list_all (own_has (own_items l.own)) k.names ∷ [])
-    counted None = refl
-    counted (Some mark) = refl
+pub counted : (o : Option SnapMark) → count_of o ≡ elim o [ None ↦ 0 | Some mark ↦ mark.number ]
+counted None = refl
+counted (Some mark) = refl
 
-pub allowed_forgot : (l : Inside) (v : LedgerView) (n : ℕ) (b : Bool) → view_of l ≡ v → (l.changes ≡ 0 → ⊥) → b ≡ list_any (λ (k : Snapshot). k.number == n) l.kept.items → b ≡ allowed v.state (Forgot n)
+pub allowed_snapped : (l : Inside) (v : LedgerView) (x : MadeSnapshot) (b : Bool) → view_of l ≡ v → (l.changes ≡ 0 → ⊥) → b ≡ all_of ((x.number == count_of l.snapped + 1) ∷ names_ascend x.names ∷ list_all (own_has l.own.items) x.names ∷ []) → b ≡ allowed v.state (Snapped x)
+allowed_snapped l v x b view begun is =
+    let later : nat_lt 0 l.changes ≡ true = lt-ltb 0 l.changes (omega arith) in
+    is ∙ ap (λ n. all_of ((x.number == n + 1) ∷ names_ascend x.names ∷ list_all (own_has l.own.items) x.names ∷ [])) (counted l.snapped) ∙ sym (rw later refl) ∙ ap (λ (w : LedgerView). allowed w.state (Snapped x)) view
+
+pub allowed_forgot : (l : Inside) (v : LedgerView) (n : ℕ) (b : Bool) → view_of l ≡ v → (l.changes ≡ 0 → ⊥) → b ≡ list_any (λ (k : Snapshot). k.number == n) l.kept.items → b ≡ allowed v.state (Forgot (record { number = n }))
 allowed_forgot l v n b view begun is =
     let later : nat_lt 0 l.changes ≡ true = lt-ltb 0 l.changes (omega arith) in
-    is ∙ sym (and_true (list_any (λ (k : Snapshot). k.number == n) l.kept.items)) ∙ sym (rw later refl) ∙ ap (λ (w : LedgerView). allowed w.state (Forgot n)) view
+    is ∙ sym (and_true (list_any (λ (k : Snapshot). k.number == n) l.kept.items)) ∙ sym (rw later refl) ∙ ap (λ (w : LedgerView). allowed w.state (Forgot (record { number = n }))) view
   where
     and_true : (b : Bool) → (b && true) ≡ b
     and_true true = refl

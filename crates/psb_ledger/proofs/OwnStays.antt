@@ -1,7 +1,7 @@
 -- Own chunks through a change of the rows: what the rows name stays, and what a deal with its reply named may leave.
-use Rattle.std.proofs.Common.{◌≡◌, ℕ, Bool, true, false, not, ◌&&◌, ◌||◌, List, [], ◌∷◌, map, Option, Some, None, refl, sym, ap, ◌∙◌}
+use Rattle.std.proofs.Common.{◌≡◌, ℕ, Bool, true, false, not, ◌&&◌, ◌||◌, List, [], ◌∷◌, Option, Some, None, refl, sym, ap, ◌∙◌}
 use Rattle.std.specs.Prelude.{◌==◌}
-use Rattle.std.specs.List.{list_any, list_all}
+use Rattle.std.specs.List.{list_all}
 use Rattle.std.proofs.lemmas.Bool.{and_parts, false≢true}
 use Rattle.psb_bytes.specs.declared.ids.Object.{Object}
 use Rattle.psb_bytes.specs.declared.ids.Object.TheVariants.{Chunk}
@@ -14,9 +14,9 @@ use Rattle.psb_model.proofs.Own.{name_same}
 use Rattle.psb_model.proofs.Held.{any_more, or_true}
 use Rattle.psb_model.proofs.Built.{is_kept}
 use Rattle.psb_model.proofs.ByObject.{by_cases}
-use Rattle.psb_ledger.specs.View.{AccountView, named_row, in_order, own_key}
-use Rattle.psb_ledger.specs.OwnList.{without_name, released}
-use Rattle.psb_ledger.specs.OwnDeals.{row_names}
+use Rattle.own_chunks.specs.OwnList.{own_key, without_name, released}
+use Rattle.peer_lists.specs.Entries.{in_order}
+use Rattle.peer_account.specs.OwnDeals.{row_names}
 use Rattle.peer_lists.proofs.Found.{none_behind, rest_ordered}
 
 -- what the rows name, others name too; but for one name, if there is one
@@ -158,8 +158,3 @@ has_with_one e l o h = any_more out_key (λ x. object_eq (out_key x) o) e l ∙ 
 pub has_with_all : (es l : List OutEntry) (o : Object) → has out_key l o ≡ true → has out_key (with_all out_key es l) o ≡ true
 has_with_all [] l o h = h
 has_with_all (e ∷ es) l o h = has_with_all es (with_one out_key e l) o (has_with_one e l o h)
-
--- whose rows name a chunk
-pub named_in : (vs : List AccountView) (n : List ℕ) → list_any (λ (v : AccountView). row_names v.row n) vs ≡ is_named (map named_row vs) n
-named_in [] n = refl
-named_in (v ∷ vs) n = ap (λ b. row_names v.row n || b) (named_in vs n)

@@ -1,15 +1,15 @@
 -- The place of a peer, and what the state has there.
-use Rattle.std.proofs.Common.{◌≡◌, ℕ, zero, suc, ◌+◌, ◌<◌, Bool, true, false, List, [], ◌∷◌, ◌++◌, length, map, get_or, set, Some, None, refl, sym, ap, ◌∙◌, subst, arith}
-use Rattle.std.specs.Prelude.{◌==◌, find, position, ◌↔◌, IsTrue, IsSome, IfSome, Result, Ok, Err, OnOk}
-use Rattle.std.specs.Bool.{then_some}
-use Rattle.std.specs.List.{position_from}
+use Rattle.std.proofs.Common.{◌≡◌, ℕ, zero, suc, ◌+◌, ◌<◌, true, false, List, [], ◌∷◌, ◌++◌, length, map, get_or, set, Some, None, refl, sym, ap, ◌∙◌, subst, arith}
+use Rattle.std.specs.Prelude.{◌==◌, ◌||◌, find, position, is_some, Option, Result, Ok, Err, OnOk}
+use Rattle.std.specs.List.{position_from, list_any}
 use Rattle.std.proofs.lemmas.Bool.{eqb-true, false≢true}
 use Rattle.std.proofs.lemmas.Iterator.Adapters.{position_from-zero}
 use Rattle.psb_model.specs.State.{Row, blank, row_in, has_row, at_row}
 use Rattle.psb_model.proofs.ByObject.{by_cases}
 use Rattle.psb_settings.specs.declared.settings.PeerRow.{PeerRow}
 use Rattle.psb_model.specs.Effects.{blank_rows}
-use Rattle.psb_ledger.specs.View.{AccountView, named_row, account_in, row_of}
+use Rattle.peer_account.specs.View.{AccountView, named_row}
+use Rattle.psb_ledger.specs.View.{account_in}
 
 -- the first peer with the id stands at place i, and is v
 abbrev pub Found : List AccountView → ℕ → ℕ → AccountView → Type 0
@@ -116,16 +116,25 @@ pub on_ok_both : {T E : Type 0} (r : Result T E) (P Q R : Type 0) → (P → Q �
 on_ok_both (Ok x) P Q R f p q = f p q
 on_ok_both (Err e) P Q R f p q = tt
 
+-- the row of an account that was looked for
+abbrev pub row_of : Option AccountView → Row
+row_of None = blank
+row_of (Some v) = v.row
+
 -- the account that a search by id finds
 pub row_found : (vs : List AccountView) (p : ℕ) → row_of (find (λ (v : AccountView). v.id == p) vs) ≡ row_in (map named_row vs) p
 row_found [] p = refl
 row_found (x ∷ xs) p = by_cases (x.id == p) (λ k. rw k refl) (λ k. rw k (row_found xs p))
 
--- A place that is answered where a test holds.
-pub when_then : (a b : Bool) (i : ℕ) → a ≡ b → IsTrue a ↔ IsSome (then_some b i)
-when_then a true i h = ((λ _. refl), (λ _. h))
-when_then a false i h = ((λ k. sym h ∙ k), (λ k. absurd (false≢true k)))
+-- a peer has a place
+pub some_there : (vs : List AccountView) (p : ℕ) → has_row (map named_row vs) p ≡ true → is_some (position (λ (v : AccountView). v.id == p) vs) ≡ true
+some_there vs p h = of_place (position (λ (v : AccountView). v.id == p) vs) refl
+  where
+    of_place : (o : Option ℕ) → position (λ (v : AccountView). v.id == p) vs ≡ o → is_some o ≡ true
+    of_place None e = absurd (false≢true (sym (none vs p e).1 ∙ h))
+    of_place (Some i) e = refl
 
-pub place_then : (b : Bool) (i : ℕ) (P : ℕ → Type 0) → P i → IfSome (then_some b i) P
-place_then true i P p = p
-place_then false i P p = tt
+-- whose row is looked for by id
+pub peers_in : (vs : List AccountView) (p : ℕ) → list_any (λ (v : AccountView). v.id == p) vs ≡ has_row (map named_row vs) p
+peers_in [] p = refl
+peers_in (v ∷ vs) p = ap (λ b. (v.id == p) || b) (peers_in vs p)

@@ -1,5 +1,6 @@
 -- What every book keeps: a state that a history gives, at the beginning and after a change.
 use Rattle.std.proofs.Common.{◌≡◌, ℕ, ◌+◌, ◌<◌, ◌^◌, true, List, [], ◌∷◌, ◌++◌, map, set, Option, Some, None, refl, sym, ap, ◌∙◌, subst, arith}
+use Rattle.std.proofs.lemmas.Bool.{eqb-true}
 use Rattle.std.specs.Prelude.{◌==◌, ◌-◌, sum_by, is_some, vec_len, vec_capacity}
 use Rattle.psb_settings.specs.declared.settings.Settings.{Settings}
 use Rattle.psb_settings.specs.declared.settings.PeerRow.{PeerRow}
@@ -9,27 +10,28 @@ use Rattle.psb_model.specs.declared.change.Change.{Change}
 use Rattle.psb_model.specs.declared.change.Change.TheVariants.{Begun}
 use Rattle.psb_model.specs.State.{Row, State, at_row, held_units, coming}
 use Rattle.psb_model.specs.Grammar.{in_grammar}
-use Rattle.psb_model.specs.Conditions.{capacity, allowed, settings_of_body}
+use Rattle.psb_model.specs.Conditions.{capacity, allowed, tests, settings_of_body}
 use Rattle.psb_model.specs.Effects.{after, blank_rows, first_rows, given_up}
 use Rattle.psb_model.proofs.Balance.{Good, good_state}
 use Rattle.psb_model.proofs.Prefixes.{state_snoc, lawful_snoc, all_snoc, changes_counted}
-use Rattle.psb_model.proofs.Built.{IsPlain, plain_state as plain_history}
+use Rattle.psb_model.proofs.Steps.{parts}
+use Rattle.psb_model.proofs.Built.{allows, IsPlain, plain_state as plain_history}
 use Rattle.psb_model.specs.History.{state, is_built}
 use Rattle.psb_model.proofs.ByObject.{by_cases}
-use Rattle.psb_ledger.specs.declared.book.Book.TheInside.{Inside}
-use Rattle.psb_ledger.specs.OwnTree.{own_room, mine_of}
-use Rattle.psb_ledger.specs.View.{AccountView, LedgerView, Mine, named_row, plain_state, IsReached, IsSound}
+use Rattle.psb_ledger.specs.declared.ledger.Ledger.TheInside.{Inside}
+use Rattle.psb_ledger.specs.View.{mine_of, LedgerView, Mine, plain_state, IsReached, IsSound}
+use Rattle.peer_account.specs.View.{AccountView, named_row}
 use Rattle.psb_ledger.proofs.Places.{Found, found_set}
 
 -- what the parts of a book are for its view
 abbrev pub mine : Inside → Mine
-mine l = mine_of l.own l.kept.items l.snapped l.chosen.items
+mine l = mine_of l.own.items l.kept.items l.snapped l.chosen.items
 
 abbrev pub state_of : Inside → State
 state_of l = plain_state l.changes l.settings l.accounts.items l.issued (mine l)
 
 abbrev pub view_of : Inside → LedgerView
-view_of l = record { state = state_of l; accounts = l.accounts.items; next = l.next; next_accounts = l.next_accounts.items; next_chosen = l.next_chosen.items; own_room = own_room l.own; kept_room = vec_capacity l.kept - vec_len l.kept }
+view_of l = record { state = state_of l; accounts = l.accounts.items; next = l.next; next_accounts = l.next_accounts.items; next_chosen = l.next_chosen.items; own_room = l.own.room; kept_room = vec_capacity l.kept - vec_len l.kept }
 
 -- a state that a history gives is good, and so is each that a lawful change makes of it
 pub good_of : (s : State) → IsReached s → Good s
@@ -68,19 +70,20 @@ text_there : (body : Option (List ℕ)) → is_some (settings_of_body body) ≡ 
 text_there None h = h
 text_there (Some text) h = refl
 
-pub begun_sound : (m : Mine) (ch : ℕ) (st : Option Settings) (vs : List AccountView) (is total : ℕ) (body : Option (List ℕ)) (nst : Option Settings) (nvs : List AccountView) → ch ≡ 0 → IsSound total (plain_state ch st vs is m) → nst ≡ settings_of_body body → is_some (settings_of_body body) ≡ true → map named_row nvs ≡ first_rows (settings_of_body body) → capacity nst < 2 ^ 32 → (plain_state 1 nst nvs is m ≡ after (plain_state ch st vs is m) (Begun body)) × IsSound 0 (plain_state 1 nst nvs is m)
-begun_sound m ch st vs is total body nst nvs none_yet sound same some rows small =
+pub begun_sound : (m : Mine) (ch : ℕ) (st : Option Settings) (vs : List AccountView) (is total : ℕ) (body : Option (List ℕ)) (nst : Option Settings) (nvs : List AccountView) → allowed (plain_state ch st vs is m) (Begun (record { body = body })) ≡ true → IsSound total (plain_state ch st vs is m) → nst ≡ settings_of_body body → map named_row nvs ≡ first_rows (settings_of_body body) → capacity nst < 2 ^ 32 → (plain_state 1 nst nvs is m ≡ after (plain_state ch st vs is m) (Begun (record { body = body }))) × IsSound 0 (plain_state 1 nst nvs is m)
+begun_sound m ch st vs is total body nst nvs may sound same rows small =
     let s = plain_state ch st vs is m in
     let n = plain_state 1 nst nvs is m in
-    let one : 1 ≡ ch + 1 = omega arith in
+    let ts = parts (tests s (Begun (record { body = body }))) (allows s (Begun (record { body = body })) may).tests in
+    let none_yet : ch ≡ 0 = eqb-true ch 0 ts.0 in
+    let one : 1 ≡ ch + 1 = omega (arith, none_yet) in
     let none : m.own ≡ [] = own_none s sound.reached none_yet in
-    let mine : m.own ≡ (after s (Begun body)).own = none ∙ ap (given_up (first_rows (settings_of_body body))) (sym none) in
-    let is_after : n ≡ after s (Begun body) = λ i. record { changes = one i; settings = same i; rows = rows i; issued = is; own = mine i; kept = m.kept; snapped = m.snapped; chosen = m.chosen } in
-    let may : allowed s (Begun body) ≡ true = rw (none_yet, some) refl in (
+    let mine : m.own ≡ (after s (Begun (record { body = body }))).own = none ∙ ap (given_up (first_rows (settings_of_body body))) (sym none) in
+    let is_after : n ≡ after s (Begun (record { body = body })) = λ i. record { changes = one i; settings = same i; rows = rows i; issued = is; own = mine i; kept = m.kept; snapped = m.snapped; chosen = m.chosen } in (
       is_after,
       record {
         used_is = sym (no_units n (settings_of_body body)) ∙ ap (sum_by (λ (y : ℕ × Row). held_units y.1 + coming n y.1.pending)) (sym rows);
-        reached = subst IsReached (sym is_after) (reached_after s (Begun body) sound.reached refl (text_there body some) may);
+        reached = subst IsReached (sym is_after) (reached_after s (Begun (record { body = body })) sound.reached refl (text_there body ts.1.0) may);
         small = small;
       },
     )

@@ -1,7 +1,3 @@
-pub mod OwnDeals
-pub mod OwnList
-pub mod OwnTree
-pub mod Passed
-pub mod Settling
+pub mod Moves
 pub mod Snapping
 pub mod View

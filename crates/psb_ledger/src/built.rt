@@ -16,13 +16,13 @@ pub fn is_built(change: &Change) -> bool
     ensures { result ≡ is_built change.now }
 {
     match change {
-        Change::Proposed { what, .. } => is_built_deal(what),
-        Change::Replaced { .. }
-        | Change::Asked { .. }
-        | Change::Passed { .. }
-        | Change::Failed { .. }
-        | Change::Declined { .. }
-        | Change::Discarded { .. } => false,
+        Change::Proposed(x) => is_built_deal(&x.what),
+        Change::Replaced(_)
+        | Change::Asked(_)
+        | Change::Passed(_)
+        | Change::Failed(_)
+        | Change::Declined(_)
+        | Change::Discarded(_) => false,
         _ => true,
     }
 }

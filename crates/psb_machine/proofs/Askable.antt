@@ -28,7 +28,7 @@ use Rattle.model_laws.proofs.Fitting.{IsFit, is_small, few_units, len_fits, fit_
 use Rattle.model_laws.proofs.Widths.{AreWide, pending_fits, wide_state}
 use Rattle.model_laws.proofs.RowOrder.{sorted_row}
 use Rattle.model_laws.proofs.Proposable.{MayBe, proposable}
-use Rattle.wire_codec.specs.Fields.{within, ascends, are_slots}
+use Rattle.wire_codec.specs.Fields.{within, are_slots}
 use Rattle.wire_codec.specs.declared.limits.TheConstants.{MOST_SLOTS}
 use Rattle.psb_machine.specs.Proposals.{propose_facts, units_there, is_askable}
 use Rattle.psb_machine.proofs.Framed.{ascend_same}

@@ -1,5 +1,5 @@
 -- What is asked before buddies are chosen, and what is chosen at a tick: it may be made.
-use Rattle.std.proofs.Common.{◌≡◌, ◌≤◌, ◌^◌, ℕ, zero, suc, ◌+◌, ◌/◌, Bool, true, false, not, ◌||◌, ◌&&◌, ◌==◌, nat_le, nat_lt, List, [], ◌∷◌, ◌++◌, length, map, take, option_map, Option, Some, None, refl, sym, ap, subst, ◌∙◌, arith}
+use Rattle.std.proofs.Common.{◌≡◌, ◌≤◌, ◌^◌, ℕ, zero, suc, ◌/◌, Bool, true, false, not, ◌||◌, ◌&&◌, ◌==◌, nat_le, nat_lt, List, [], ◌∷◌, ◌++◌, length, map, take, option_map, Option, Some, None, refl, sym, ap, subst, ◌∙◌, arith}
 use Rattle.std.specs.List.{All, list_any, list_all}
 use Rattle.std.proofs.lemmas.Bool.{and_parts, eqb-true, eq-eqb, lt-ltb, ltb-true, le-leb, false≢true}
 use Rattle.std.proofs.lemmas.List.{length-map, length-take}
@@ -193,7 +193,7 @@ choice_cases P settings n p cs is found_so =
         (λ j. let none : None ≡ Some cs = rw j at k in absurd (cc (none)))
 
 -- those that are found may be chosen, in their order
-found_may : (settings : Settings) (h : List Change) (samples : List (ℕ × ℕ)) (n : ℕ) → IsValid h → (state h).settings ≡ Some settings → 1 ≤ n → n ≤ 32 → 1 ≤ length (candidates settings.peers samples n) → MayTake (state h) (Chose (put_all [] (candidates settings.peers samples n)))
+found_may : (settings : Settings) (h : List Change) (samples : List (ℕ × ℕ)) (n : ℕ) → IsValid h → (state h).settings ≡ Some settings → 1 ≤ n → n ≤ 32 → 1 ≤ length (candidates settings.peers samples n) → MayTake (state h) (Chose (record { candidates = put_all [] (candidates settings.peers samples n) }))
 found_may settings h samples n v is some few found =
     let s = state h in
     let read = settings_read h settings v.built is in
@@ -221,8 +221,8 @@ found_may settings h samples n v is some few found =
     }
 
 -- what is chosen at a tick may be made
-pub choice_may : (settings : Settings) (n : Situation) (p : ℕ) (cs : List Candidate) → IsValid n.history → (state n.history).settings ≡ Some settings → choice_at settings n p ≡ Some cs → MayTake (state n.history) (Chose cs)
+pub choice_may : (settings : Settings) (n : Situation) (p : ℕ) (cs : List Candidate) → IsValid n.history → (state n.history).settings ≡ Some settings → choice_at settings n p ≡ Some cs → MayTake (state n.history) (Chose (record { candidates = cs }))
 choice_may settings n p cs v is chosen =
-    choice_cases (MayTake (state n.history) (Chose cs)) settings n p cs chosen
-    (λ q f. subst (λ (l : List Candidate). MayTake (state n.history) (Chose l)) f.order
+    choice_cases (MayTake (state n.history) (Chose (record { candidates = cs }))) settings n p cs chosen
+    (λ q f. subst (λ (l : List Candidate). MayTake (state n.history) (Chose (record { candidates = l }))) f.order
     (found_may settings n.history n.volatile.samples (length q.names) v is f.asked.some_names (few_asked (state n.history) q f.asked.asked) f.some))

@@ -1,5 +1,5 @@
 -- Which changes leave the question that is asked before buddies are chosen.
-use Rattle.std.proofs.Common.{◌≡◌, ℕ, true, false, List, map, option_map, Option, Some, None, refl, sym, ◌∙◌, ap}
+use Rattle.std.proofs.Common.{◌≡◌, ℕ, true, List, map, option_map, Option, Some, None, refl, sym, ◌∙◌, ap}
 use Rattle.std.specs.Prelude.{filter}
 use Rattle.std.specs.List.{list_any}
 use Rattle.std.proofs.lemmas.Bool.{false≢true}
@@ -11,7 +11,7 @@ use Rattle.psb_model.specs.History.{is_built}
 use Rattle.psb_model.specs.declared.change.Change.{Change}
 use Rattle.psb_model.specs.declared.change.Change.TheVariants.{Begun, Kept, Snapped, Forgot, TookFresh, TookSwap, LetGo, LetGoBack, Refused, Proposed, Settled, Turned, Chose}
 use Rattle.psb_model.specs.declared.entries.OwnEntry.{OwnEntry}
-use Rattle.psb_model.specs.declared.entries.Snapshot.{Snapshot}
+use Rattle.psb_model.specs.declared.snapshots.Snapshot.{Snapshot}
 use Rattle.psb_model.specs.declared.entries.SnapMark.{SnapMark}
 use Rattle.psb_settings.specs.declared.settings.Settings.{Settings}
 use Rattle.psb_model.proofs.Built.{IsPlain}
@@ -41,17 +41,17 @@ same_own s t settings own kept snapped =
     ∙ same_by s t s.settings s.snapped (ap (λ (l : List OwnEntry). wanted_by l t.kept) own ∙ ap (λ (l : List Snapshot). wanted_by s.own l) kept) snapped refl
 
 pub question_stays : (s : State) (c : Change) → IsPlain s → is_built c ≡ true → allowed s c ≡ true → keeps_question c ≡ true → question_of (after s c) ≡ question_of s
-question_stays s (TookFresh p deal name first len new body) plain b h k = same_own s (after s (TookFresh p deal name first len new body)) refl (own_stays s (TookFresh p deal name first len new body) plain b h refl) refl refl
-question_stays s (TookSwap p deal name numbers len new body) plain b h k = same_own s (after s (TookSwap p deal name numbers len new body)) refl (own_stays s (TookSwap p deal name numbers len new body) plain b h refl) refl refl
-question_stays s (LetGo p deal name numbers) plain b h k = same_own s (after s (LetGo p deal name numbers)) refl (own_stays s (LetGo p deal name numbers) plain b h refl) refl refl
-question_stays s (LetGoBack p deal name numbers body) plain b h k = same_own s (after s (LetGoBack p deal name numbers body)) refl (own_stays s (LetGoBack p deal name numbers body) plain b h refl) refl refl
-question_stays s (Refused p deal why detail) plain b h k = same_own s (after s (Refused p deal why detail)) refl (own_stays s (Refused p deal why detail) plain b h refl) refl refl
-question_stays s (Proposed p deal what) plain b h k = same_own s (after s (Proposed p deal what)) refl (own_stays s (Proposed p deal what) plain b h refl) refl refl
-question_stays s (Chose candidates) plain b h k = same_own s (after s (Chose candidates)) refl (own_stays s (Chose candidates) plain b h refl) refl refl
-question_stays s (Begun body) plain b h k = absurd (false≢true k)
-question_stays s (Kept name len new body) plain b h k = absurd (false≢true k)
-question_stays s (Snapped number ticket files folders bytes left names) plain b h k = absurd (false≢true k)
-question_stays s (Forgot number) plain b h k = absurd (false≢true k)
-question_stays s (Settled p deal numbers body) plain b h k = absurd (false≢true k)
-question_stays s (Turned p deal why detail) plain b h k = absurd (false≢true k)
+question_stays s (TookFresh x) plain b h k = same_own s (after s (TookFresh x)) refl (own_stays s (TookFresh x) plain b h refl) refl refl
+question_stays s (TookSwap x) plain b h k = same_own s (after s (TookSwap x)) refl (own_stays s (TookSwap x) plain b h refl) refl refl
+question_stays s (LetGo x) plain b h k = same_own s (after s (LetGo x)) refl (own_stays s (LetGo x) plain b h refl) refl refl
+question_stays s (LetGoBack x) plain b h k = same_own s (after s (LetGoBack x)) refl (own_stays s (LetGoBack x) plain b h refl) refl refl
+question_stays s (Refused x) plain b h k = same_own s (after s (Refused x)) refl (own_stays s (Refused x) plain b h refl) refl refl
+question_stays s (Proposed x) plain b h k = same_own s (after s (Proposed x)) refl (own_stays s (Proposed x) plain b h refl) refl refl
+question_stays s (Chose x) plain b h k = same_own s (after s (Chose x)) refl (own_stays s (Chose x) plain b h refl) refl refl
+question_stays s (Begun x) plain b h k = absurd (false≢true k)
+question_stays s (Kept x) plain b h k = absurd (false≢true k)
+question_stays s (Snapped x) plain b h k = absurd (false≢true k)
+question_stays s (Forgot x) plain b h k = absurd (false≢true k)
+question_stays s (Settled x) plain b h k = absurd (false≢true k)
+question_stays s (Turned x) plain b h k = absurd (false≢true k)
 question_stays s _ plain b h k = absurd (false≢true b)

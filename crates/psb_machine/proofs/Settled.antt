@@ -23,7 +23,7 @@ use Rattle.psb_machine.proofs.Taken.{MayTake, begun_here, counted, joined_long, 
 allows_change : (s : State) (c : Change) → nat_lt 0 s.changes ≡ true → of_a_peer s (peer_of c) ≡ true → all_of (tests s c) ≡ true → allowed s c ≡ true
 allows_change s c some peer passed = by_cases (is_begun c) (λ k. rw (k, peer, passed) refl) (λ k. rw (k, some, peer, passed) refl)
 
-brings_settled : (p number : ℕ) (numbers bytes : List ℕ) → brings_right (Settled p number numbers (Some bytes)) ≡ true
+brings_settled : (p number : ℕ) (numbers bytes : List ℕ) → brings_right (Settled (record { peer = p; deal = number; slots = numbers; body = Some bytes })) ≡ true
 brings_settled p number numbers bytes = by_cases (no_slots numbers) (λ k. rw k refl) (λ k. rw k refl)
 
 pub reply_may : (h : List Change) (p number : ℕ) (reply : Reply) → 1 ≤ length h → is_peer (state h) p ≡ true → is_u32 p ≡ true → is_u64 number ≡ true → ReplyFits reply

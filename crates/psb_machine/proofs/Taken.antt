@@ -74,7 +74,7 @@ body_of_bytes false bytes h = h
 
 -- ---- each kind of deal
 
-brings_fresh : (p number first : ℕ) (name bytes : List ℕ) (held : Bool) → name_eq (sha bytes) name ≡ true → brings_right (TookFresh p number name first (length bytes) (not held) (sealed_part (not held) bytes)) ≡ true
+brings_fresh : (p number first : ℕ) (name bytes : List ℕ) (held : Bool) → name_eq (sha bytes) name ≡ true → brings_right (TookFresh (record { peer = p; deal = number; name = name; first = first; len = length bytes; new = not held; body = sealed_part (not held) bytes })) ≡ true
 brings_fresh p number first name bytes true h = refl
 brings_fresh p number first name bytes false h = h
 
@@ -106,7 +106,7 @@ fresh_may settings h p number name bytes clash n f t =
 pub counted : (numbers : List ℕ) → SlotsFit numbers → is_count (length numbers) ≡ true
 counted numbers f = lt-ltb (length numbers) (2 ^ 32) (omega (arith, f.few))
 
-brings_swap : (p number : ℕ) (name numbers bytes : List ℕ) (held : Bool) → name_eq (sha bytes) name ≡ true → brings_right (TookSwap p number name numbers (length bytes) (not held) (sealed_part (not held) bytes)) ≡ true
+brings_swap : (p number : ℕ) (name numbers bytes : List ℕ) (held : Bool) → name_eq (sha bytes) name ≡ true → brings_right (TookSwap (record { peer = p; deal = number; name = name; slots = numbers; len = length bytes; new = not held; body = sealed_part (not held) bytes })) ≡ true
 brings_swap p number name numbers bytes true h = refl
 brings_swap p number name numbers bytes false h = h
 
@@ -184,7 +184,7 @@ joined_bytes (c ∷ cs) h =
     let bytes : list_all is_u8 c.bytes ≡ true = (and_parts (length c.bytes == CLAIM_BYTES) (are_wire_bytes c.bytes) fit.1).1 in
     list_all-append is_u8 c.bytes (claims_joined cs) ∙ rw (bytes, joined_bytes cs two.1) refl
 
-brings_back : (p number : ℕ) (name numbers bytes : List ℕ) → brings_right (LetGoBack p number name numbers (Some bytes)) ≡ true
+brings_back : (p number : ℕ) (name numbers bytes : List ℕ) → brings_right (LetGoBack (record { peer = p; deal = number; name = name; slots = numbers; body = Some bytes })) ≡ true
 brings_back p number name numbers bytes = by_cases (no_slots numbers) (λ k. rw k refl) (λ k. rw k refl)
 
 put_back_may : (settings : Settings) (h : List Change) (p number : ℕ) (name : List ℕ) (claims : List SlotClaim) (clash : Bool) → IsNext settings h p number → PutBackFits p number name claims

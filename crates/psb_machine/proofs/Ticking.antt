@@ -66,7 +66,7 @@ asking_askable settings n p a v is h =
 -- ---- the deal that is proposed next, where none is pending, may be made
 
 pub proposed_may : (h : List Change) (settings : Settings) (p : ℕ) (what : DealWhat) → IsValid h → (state h).settings ≡ Some settings → is_peer (state h) p ≡ true → TickFits (state h) p → (row (state h) p).pending ≡ None
-    → proposal (state h) p [] (propose_facts settings (state h)) ≡ Some what → MayTake (state h) (Proposed p ((row (state h) p).mine + 1) what)
+    → proposal (state h) p [] (propose_facts settings (state h)) ≡ Some what → MayTake (state h) (Proposed (record { peer = p; deal = (row (state h) p).mine + 1; what = what }))
 proposed_may h settings p what v is peer f idle next =
     let s = state h in
     let number = (row s p).mine + 1 in
@@ -82,10 +82,10 @@ proposed_may h settings p what v is peer f idle next =
     }
 
 proposed_valid : (h : List Change) (settings : Settings) (p : ℕ) (what : DealWhat) → IsValid h → (state h).settings ≡ Some settings → is_peer (state h) p ≡ true → TickFits (state h) p → (row (state h) p).pending ≡ None
-    → proposal (state h) p [] (propose_facts settings (state h)) ≡ Some what → IsValid (h ++ Proposed p ((row (state h) p).mine + 1) what ∷ [])
+    → proposal (state h) p [] (propose_facts settings (state h)) ≡ Some what → IsValid (h ++ Proposed (record { peer = p; deal = (row (state h) p).mine + 1; what = what }) ∷ [])
 proposed_valid h settings p what v is peer f idle next =
     let m = proposed_may h settings p what v is peer f idle next in
-    valid_snoc h (Proposed p ((row (state h) p).mine + 1) what) v m.grammar m.may m.widths m.built m.brings
+    valid_snoc h (Proposed (record { peer = p; deal = (row (state h) p).mine + 1; what = what })) v m.grammar m.may m.widths m.built m.brings
 
 asking_valid : (settings : Settings) (n : Situation) (p : ℕ) (key : List ℕ) (o : Option Asking) → asking_at settings n p ≡ o → IsValid n.history → (state n.history).settings ≡ Some settings → is_peer (state n.history) p ≡ true → TickFits (state n.history) p
     → IsValid (n.history ++ changes_of (by_asking settings n p key o))
@@ -99,7 +99,7 @@ choice_valid : (settings : Settings) (n : Situation) (p : ℕ) (key : List ℕ) 
     → IsValid (n.history ++ changes_of (by_choice settings n p key o))
 choice_valid settings n p key (Some candidates) chosen v is peer f =
     let m = choice_may settings n p candidates v is chosen in
-    valid_snoc n.history (Chose candidates) v m.grammar m.may m.widths m.built m.brings
+    valid_snoc n.history (Chose (record { candidates = candidates })) v m.grammar m.may m.widths m.built m.brings
 choice_valid settings n p key None chosen v is peer f =
     let valid = asking_valid settings n p key (asking_at settings n p) refl v is peer f in
     too_same (λ (r : Reaction). IsValid (n.history ++ changes_of r)) (questions settings (state n.history) p key) (by_asking settings n p key (asking_at settings n p)) valid valid

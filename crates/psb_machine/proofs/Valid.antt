@@ -62,16 +62,16 @@ codes_are Full = (refl, refl, refl)
 codes_are Spent = (refl, refl, refl)
 
 -- a refusal answers the next deal of a peer
-pub allows_refused : (h : List Change) (p number : ℕ) (r : Refusal) → 1 ≤ length h → is_peer (state h) p ≡ true → is_next_deal (state h) p number ≡ true → allowed (state h) (Refused p number (code_of r.why) r.detail) ≡ true
+pub allows_refused : (h : List Change) (p number : ℕ) (r : Refusal) → 1 ≤ length h → is_peer (state h) p ≡ true → is_next_deal (state h) p number ≡ true → allowed (state h) (Refused (record { peer = p; deal = number; why = code_of r.why; detail = r.detail })) ≡ true
 allows_refused h p number r some peer next_deal =
     let code = codes_are r.why in
     rw (begun_here h some, peer, next_deal, code.0, code.1) refl
 
 refused_valid : (h : List Change) (p number : ℕ) (r : Refusal) → IsValid h → is_peer (state h) p ≡ true → is_u32 p ≡ true → is_u64 number ≡ true → is_next_deal (state h) p number ≡ true → is_u64 r.detail ≡ true
-    → IsValid (h ++ Refused p number (code_of r.why) r.detail ∷ [])
+    → IsValid (h ++ Refused (record { peer = p; deal = number; why = code_of r.why; detail = r.detail }) ∷ [])
 refused_valid h p number r v peer p_fits number_fits next_deal small =
     let code = codes_are r.why in
-    valid_snoc h (Refused p number (code_of r.why) r.detail) v refl (allows_refused h p number r v.some peer next_deal) (rw (p_fits, number_fits, code.2, small) refl) refl refl
+    valid_snoc h (Refused (record { peer = p; deal = number; why = code_of r.why; detail = r.detail })) v refl (allows_refused h p number r v.some peer next_deal) (rw (p_fits, number_fits, code.2, small) refl) refl refl
 
 -- ---- the details of what is looked at fit their field
 
@@ -200,7 +200,7 @@ datagram_valid n x (Some settings) is v f = read_valid settings n (read_frame se
 
 -- ---- the node's own chunks and snapshots
 
-brings_kept : (name bytes : List ℕ) (held : Bool) → name_eq (sha bytes) name ≡ true → brings_right (Kept name (length bytes) (not held) (Some (cond (not held) bytes []))) ≡ true
+brings_kept : (name bytes : List ℕ) (held : Bool) → name_eq (sha bytes) name ≡ true → brings_right (Kept (record { name = name; len = length bytes; new = not held; body = Some (cond (not held) bytes []) })) ≡ true
 brings_kept name bytes true h = refl
 brings_kept name bytes false h = h
 
@@ -245,11 +245,11 @@ snap_valid n note v f =
     let may = snapped_may n.history note v.some f in
     valid_snoc n.history (snapped_with s note) v may.0 may.1 (rw number f.widths) refl refl
 
-pub forgot_may : (h : List Change) (number : ℕ) → 1 ≤ length h → has_snapshot (state h) number ≡ true → allowed (state h) (Forgot number) ≡ true
+pub forgot_may : (h : List Change) (number : ℕ) → 1 ≤ length h → has_snapshot (state h) number ≡ true → allowed (state h) (Forgot (record { number = number })) ≡ true
 forgot_may h number some k = rw (begun_here h some, k) refl
 
-pub forgot_valid : (h : List Change) (number : ℕ) → IsValid h → is_u32 number ≡ true → has_snapshot (state h) number ≡ true → IsValid (h ++ Forgot number ∷ [])
-forgot_valid h number v fit k = valid_snoc h (Forgot number) v refl (forgot_may h number v.some k) fit refl refl
+pub forgot_valid : (h : List Change) (number : ℕ) → IsValid h → is_u32 number ≡ true → has_snapshot (state h) number ≡ true → IsValid (h ++ Forgot (record { number = number }) ∷ [])
+forgot_valid h number v fit k = valid_snoc h (Forgot (record { number = number })) v refl (forgot_may h number v.some k) fit refl refl
 
 pub forget_valid : (n : Situation) (number : ℕ) → IsValid n.history → is_u32 number ≡ true → IsValid (n.history ++ changes_of (on_forget n number))
 forget_valid n number v fit = by_cases (has_snapshot (state n.history) number)

@@ -153,7 +153,7 @@ too_little settings n p key (Some a) =
     (both_little n (grown_by p a) (ticked p n.volatile) (asked_for settings n p key a.deal) (asked_besides settings n p key))
 
 choice_little : (settings : Settings) (n : Situation) (p : ℕ) (key : List ℕ) (o : Option (List Candidate)) → Little n (by_choice settings n p key o)
-choice_little settings n p key (Some candidates) = grows_little n (Chose candidates) (ticked p n.volatile)
+choice_little settings n p key (Some candidates) = grows_little n (Chose (record { candidates = candidates })) (ticked p n.volatile)
 choice_little settings n p key None = too_little settings n p key (asking_at settings n p)
 
 key_little : (settings : Settings) (n : Situation) (p : ℕ) (o : Option (List ℕ)) → Little n (by_key settings n p o)
@@ -172,7 +172,7 @@ little n (Keep name bytes) = by_cases (own_has (state n.history).own name || mee
     (λ k. rw k (grows_little n (kept_with (state n.history) name bytes) n.volatile))
 little n (Snap note) = grows_little n (snapped_with (state n.history) note) n.volatile
 little n (Forget number) = by_cases (has_snapshot (state n.history) number)
-    (λ k. rw k (grows_little n (Forgot number) n.volatile))
+    (λ k. rw k (grows_little n (Forgot (record { number = number })) n.volatile))
     (λ k. rw k (quiet_little n n.volatile))
 
 pub tells_little : AllTellLittle

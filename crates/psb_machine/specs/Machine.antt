@@ -4,7 +4,7 @@ use Rattle.std.specs.Prelude.{ℕ, ◌+◌, ◌^◌, Bool, false, not, ◌||◌,
 use Rattle.std.specs.List.{list_any}
 use Rattle.psb_settings.specs.declared.settings.PeerRow.{PeerRow}
 use Rattle.psb_settings.specs.declared.settings.Settings.{Settings}
-use Rattle.psb_model.specs.declared.entries.Snapshot.{Snapshot}
+use Rattle.psb_model.specs.declared.snapshots.Snapshot.{Snapshot}
 use Rattle.psb_model.specs.State.{State, row, own_has, is_held, snaps_made}
 use Rattle.psb_model.specs.Needed.{last_brought}
 use Rattle.psb_model.specs.History.{state}
@@ -63,9 +63,9 @@ noted (Some x) v = record v { samples = with_sample x.0 x.1 v.samples }
 -- What a change does to it, whatever input made the change; the state is the one before it. After a snapshot, or
 -- without one, other names are wanted, and what was answered tells nothing of them.
 abbrev pub by_change : State → Change → Volatile → Volatile
-by_change s (Snapped number ticket files folders bytes left names) v = record v { samples = [] }
-by_change s (Forgot number) v = record v { samples = [] }
-by_change s (Turned p deal why detail) v = record v { waits = waits_after s.settings p v.waits }
+by_change s (Snapped x) v = record v { samples = [] }
+by_change s (Forgot x) v = record v { samples = [] }
+by_change s (Turned x) v = record v { waits = waits_after s.settings x.peer v.waits }
 by_change s _ v = v
 
 abbrev pub by_changes : State → Option Change → Volatile → Volatile
@@ -211,11 +211,11 @@ on_datagram (Some settings) n x = on_read settings n (read_frame settings.id (ke
 
 -- the change that keeps sealed bytes under their name: its body part carries them where none are held
 abbrev pub kept_with : State → List ℕ → List ℕ → Change
-kept_with s name bytes = let new = not (is_held s name) in Kept name (length bytes) new (Some (if new then bytes else []))
+kept_with s name bytes = let new = not (is_held s name) in Kept (record { name = name; len = length bytes; new = new; body = Some (if new then bytes else []) })
 
 -- the change that a snapshot is
 abbrev pub snapped_with : State → SnapNote → Change
-snapped_with s note = Snapped (snaps_made s + 1) note.ticket note.files note.folders note.bytes note.left note.names
+snapped_with s note = Snapped (record { number = snaps_made s + 1; ticket = note.ticket; files = note.files; folders = note.folders; bytes = note.bytes; left = note.left; names = note.names })
 
 -- a kept snapshot has the number
 abbrev pub has_snapshot : State → ℕ → Bool
@@ -233,13 +233,13 @@ on_snap n note = grows (snapped_with (state n.history) note) n.volatile
 
 -- a number that no kept snapshot has is refused
 abbrev pub on_forget : Situation → ℕ → Reaction
-on_forget n number = if has_snapshot (state n.history) number then grows (Forgot number) n.volatile else quiet n.volatile
+on_forget n number = if has_snapshot (state n.history) number then grows (Forgot (record { number = number })) n.volatile else quiet n.volatile
 
 -- ---- ticks
 
 -- what comes of a tick that asks for a deal: one that was not pending yet is proposed
 abbrev pub grown_by : ℕ → Asking → Option Change
-grown_by p a = if a.is_new then Some (Proposed p a.deal.number a.deal.what) else None
+grown_by p a = if a.is_new then Some (Proposed (record { peer = p; deal = a.deal.number; what = a.deal.what })) else None
 
 abbrev pub by_asking : Settings → Situation → ℕ → List ℕ → Option Asking → Reaction
 by_asking settings n p key None = quiet (ticked p n.volatile)
@@ -263,9 +263,13 @@ abbrev pub choice_at : Settings → Situation → ℕ → Option (List Candidate
 choice_at settings n p =
     if is_last settings.peers p then choice_by settings.peers n.volatile.samples (later (clock_in n.volatile.clocks p)) (open_question (state n.history)) else None
 
+-- the change that notes these candidates
+abbrev pub choice_of : List Candidate → Change
+choice_of candidates = Chose (record { candidates = candidates })
+
 -- A choice is made before anything else.
 abbrev pub by_choice : Settings → Situation → ℕ → List ℕ → Option (List Candidate) → Reaction
-by_choice settings n p key (Some candidates) = grows (Chose candidates) (ticked p n.volatile)
+by_choice settings n p key (Some candidates) = grows (choice_of candidates) (ticked p n.volatile)
 by_choice settings n p key None = asks_too (questions settings (state n.history) p key) (by_asking settings n p key (asking_at settings n p))
 
 -- a tick of one that is no peer does nothing but that a clock goes on

@@ -49,12 +49,12 @@ question_of s = question_by s.settings s
 
 -- After these the names may be others: after any other change the question is the same.
 abbrev pub keeps_question : Change → Bool
-keeps_question (Begun body) = false
-keeps_question (Kept name len new body) = false
-keeps_question (Snapped number ticket files folders bytes left names) = false
-keeps_question (Forgot number) = false
-keeps_question (Settled p deal numbers body) = false
-keeps_question (Turned p deal why detail) = false
+keeps_question (Begun x) = false
+keeps_question (Kept x) = false
+keeps_question (Snapped x) = false
+keeps_question (Forgot x) = false
+keeps_question (Settled x) = false
+keeps_question (Turned x) = false
 keeps_question _ = true
 
 -- It is asked while nothing was chosen and some name is wanted.

@@ -25,8 +25,8 @@ replied_by _ = None
 
 -- The change that a reply to the deal of this number makes, where it fits: the claims' bytes come with it.
 abbrev pub answers_deal : ℕ → ℕ → Reply → Change
-answers_deal p number (Accepts claims) = Settled p number (slots_of claims) (Some (claims_joined claims))
-answers_deal p number (Refuses why detail) = Turned p number why detail
+answers_deal p number (Accepts claims) = Settled (record { peer = p; deal = number; slots = slots_of claims; body = Some (claims_joined claims) })
+answers_deal p number (Refuses why detail) = Turned (record { peer = p; deal = number; why = why; detail = detail })
 
 -- A reply fits where that deal is pending with the peer and, where it was taken, as many claims came as it
 -- asks for: one in each of as many new slots for a chunk that is stored fresh, and none for any other.

@@ -24,17 +24,17 @@ made_near issued capacity name bytes = judge (facts_near issued capacity) nothin
 -- The claims number up to 4,294,967,295. Two units take the last two; with one left they are refused as
 -- spent, and so is one unit with none left. What is held is looked at first.
 pub record SpentWorked (name bytes : List ℕ) : Type 0 where
-  pub takes_the_last : length bytes ≡ 513 → made_near 4294967293 2 name bytes ≡ TookFresh 2 1 name 4294967293 513 true (Some bytes)
-  pub one_is_left : length bytes ≡ 513 → made_near 4294967294 2 name bytes ≡ Refused 2 1 9 4294967294
-  pub none_is_left : length bytes ≡ 1 → made_near 4294967295 2 name bytes ≡ Refused 2 1 9 4294967295
-  pub full_comes_first : length bytes ≡ 513 → made_near 4294967294 1 name bytes ≡ Refused 2 1 8 0
+  pub takes_the_last : length bytes ≡ 513 → made_near 4294967293 2 name bytes ≡ TookFresh (record { peer = 2; deal = 1; name = name; first = 4294967293; len = 513; new = true; body = Some bytes })
+  pub one_is_left : length bytes ≡ 513 → made_near 4294967294 2 name bytes ≡ Refused (record { peer = 2; deal = 1; why = 9; detail = 4294967294 })
+  pub none_is_left : length bytes ≡ 1 → made_near 4294967295 2 name bytes ≡ Refused (record { peer = 2; deal = 1; why = 9; detail = 4294967295 })
+  pub full_comes_first : length bytes ≡ 513 → made_near 4294967294 1 name bytes ≡ Refused (record { peer = 2; deal = 1; why = 8; detail = 0 })
 
 -- a node with one peer, which has this row; and after that peer's first Store of one unit
 abbrev pub with_row : Row → State
 with_row r = record nothing_yet { changes = 1; rows = (2, r) ∷ [] }
 
 abbrev pub after_store : List ℕ → List ℕ → State
-after_store name bytes = after (with_row blank) (TookFresh 2 1 name 0 512 true (Some bytes))
+after_store name bytes = after (with_row blank) (TookFresh (record { peer = 2; deal = 1; name = name; first = 0; len = 512; new = true; body = Some bytes }))
 
 -- what a release of that peer, as its second deal, is looked at with, and the change that it makes
 abbrev pub released : List ℕ → List ℕ → Deal → Change
@@ -43,9 +43,9 @@ released name bytes deal = judge (facts_near 1 1) (after_store name bytes) 2 2 d
 -- The peer lets its chunk go with the slot that the node has for it, or against a claim in another slot
 -- here. Of two slots the first that the node does not have is told.
 pub record ReleaseWorked (name bytes claim : List ℕ) : Type 0 where
-  pub cancelled : released name bytes (Cancel name (0 ∷ [])) ≡ LetGo 2 2 name (0 ∷ [])
-  pub put_back : released name bytes (PutBack name (record { slot = 9; bytes = claim } ∷ [])) ≡ LetGoBack 2 2 name (9 ∷ []) (Some claim)
-  pub not_there : released name bytes (Cancel name (0 ∷ 1 ∷ [])) ≡ Refused 2 2 5 1
+  pub cancelled : released name bytes (Cancel name (0 ∷ [])) ≡ LetGo (record { peer = 2; deal = 2; name = name; slots = 0 ∷ [] })
+  pub put_back : released name bytes (PutBack name (record { slot = 9; bytes = claim } ∷ [])) ≡ LetGoBack (record { peer = 2; deal = 2; name = name; slots = 9 ∷ []; body = Some claim })
+  pub not_there : released name bytes (Cancel name (0 ∷ 1 ∷ [])) ≡ Refused (record { peer = 2; deal = 2; why = 5; detail = 1 })
 
 -- the change that peer 2's first deal makes, where its bytes have the name or not, and others are held
 -- under it or not
@@ -63,11 +63,11 @@ busy_row what = record blank {
 
 -- A tied slot is told before a bad name, and one that carries a claim before one that is not there.
 pub record BusyWorked (name other bytes : List ℕ) : Type 0 where
-  pub swap : made_with (busy_row (own.Cancel other (9 ∷ []))) true false 9 (StoreSwap name (8 ∷ 9 ∷ []) bytes) ≡ Refused 2 1 1 9
-  pub bad_name_later : made_with (busy_row (own.Cancel other (9 ∷ []))) false false 9 (StoreSwap name (9 ∷ []) bytes) ≡ Refused 2 1 1 9
-  pub cancel : made_with (busy_row (own.Return 0)) true false 9 (Cancel name (0 ∷ [])) ≡ Refused 2 1 1 0
-  pub carries : made_with (busy_row (own.Return 0)) true false 9 (Cancel name (1 ∷ [])) ≡ Refused 2 1 1 1
-  pub not_there_later : made_with (busy_row (own.Return 0)) true false 9 (Cancel name (1 ∷ 5 ∷ [])) ≡ Refused 2 1 1 1
+  pub swap : made_with (busy_row (own.Cancel other (9 ∷ []))) true false 9 (StoreSwap name (8 ∷ 9 ∷ []) bytes) ≡ Refused (record { peer = 2; deal = 1; why = 1; detail = 9 })
+  pub bad_name_later : made_with (busy_row (own.Cancel other (9 ∷ []))) false false 9 (StoreSwap name (9 ∷ []) bytes) ≡ Refused (record { peer = 2; deal = 1; why = 1; detail = 9 })
+  pub cancel : made_with (busy_row (own.Return 0)) true false 9 (Cancel name (0 ∷ [])) ≡ Refused (record { peer = 2; deal = 1; why = 1; detail = 0 })
+  pub carries : made_with (busy_row (own.Return 0)) true false 9 (Cancel name (1 ∷ [])) ≡ Refused (record { peer = 2; deal = 1; why = 1; detail = 1 })
+  pub not_there_later : made_with (busy_row (own.Return 0)) true false 9 (Cancel name (1 ∷ 5 ∷ [])) ≡ Refused (record { peer = 2; deal = 1; why = 1; detail = 1 })
 
 -- the peer has slot 9 here, and lost two units
 abbrev pub debt_row : Row
@@ -78,11 +78,11 @@ debt_row = record blank {
 
 -- Debt is told behind a clash and before what is used, and behind slots that are too few.
 pub record DebtWorked (name bytes : List ℕ) : Type 0 where
-  pub fresh : made_with debt_row true false 9 (StoreFresh name bytes) ≡ Refused 2 1 7 2
-  pub clash_first : made_with debt_row true true 9 (StoreFresh name bytes) ≡ Refused 2 1 4 0
-  pub full_later : length bytes ≡ 512 → made_with debt_row true false 1 (StoreFresh name bytes) ≡ Refused 2 1 7 2
-  pub swap : length bytes ≡ 512 → made_with debt_row true false 9 (StoreSwap name (9 ∷ []) bytes) ≡ Refused 2 1 7 2
-  pub unequal_first : length bytes ≡ 513 → made_with debt_row true false 9 (StoreSwap name (9 ∷ []) bytes) ≡ Refused 2 1 6 2
+  pub fresh : made_with debt_row true false 9 (StoreFresh name bytes) ≡ Refused (record { peer = 2; deal = 1; why = 7; detail = 2 })
+  pub clash_first : made_with debt_row true true 9 (StoreFresh name bytes) ≡ Refused (record { peer = 2; deal = 1; why = 4; detail = 0 })
+  pub full_later : length bytes ≡ 512 → made_with debt_row true false 1 (StoreFresh name bytes) ≡ Refused (record { peer = 2; deal = 1; why = 7; detail = 2 })
+  pub swap : length bytes ≡ 512 → made_with debt_row true false 9 (StoreSwap name (9 ∷ []) bytes) ≡ Refused (record { peer = 2; deal = 1; why = 7; detail = 2 })
+  pub unequal_first : length bytes ≡ 513 → made_with debt_row true false 9 (StoreSwap name (9 ∷ []) bytes) ≡ Refused (record { peer = 2; deal = 1; why = 6; detail = 2 })
 
 -- The node has an own chunk of one unit, and slot 5 of peer 2 is in use here or not; its deal of number 1 with
 -- that peer is pending.
@@ -98,13 +98,13 @@ one_claim claim = record { slot = 5; bytes = claim } ∷ []
 -- A chunk that is stored fresh wants one claim, in a slot that is not in use, and a swap none. A reply to
 -- another number, with too few claims or too many, or with a slot in use, makes nothing.
 pub record RepliesWorked (name claim : List ℕ) : Type 0 where
-  pub settled : settle (pending_state name [] (own.Fresh name)) 2 1 (Accepts (one_claim claim)) ≡ Some (Settled 2 1 (5 ∷ []) (Some claim))
-  pub turned : settle (pending_state name [] (own.Fresh name)) 2 1 (Refuses 8 3) ≡ Some (Turned 2 1 8 3)
+  pub settled : settle (pending_state name [] (own.Fresh name)) 2 1 (Accepts (one_claim claim)) ≡ Some (Settled (record { peer = 2; deal = 1; slots = 5 ∷ []; body = Some claim }))
+  pub turned : settle (pending_state name [] (own.Fresh name)) 2 1 (Refuses 8 3) ≡ Some (Turned (record { peer = 2; deal = 1; why = 8; detail = 3 }))
   pub other_number : settle (pending_state name [] (own.Fresh name)) 2 2 (Refuses 8 3) ≡ None
   pub other_accepted : settle (pending_state name [] (own.Fresh name)) 2 2 (Accepts (one_claim claim)) ≡ None
   pub too_few : settle (pending_state name [] (own.Fresh name)) 2 1 (Accepts []) ≡ None
   pub in_use : settle (pending_state name (direct_slot 5 ∷ []) (own.Fresh name)) 2 1 (Accepts (one_claim claim)) ≡ None
-  pub swapped : settle (pending_state name [] (own.Swap name (0 ∷ []))) 2 1 (Accepts []) ≡ Some (Settled 2 1 [] (Some []))
+  pub swapped : settle (pending_state name [] (own.Swap name (0 ∷ []))) 2 1 (Accepts []) ≡ Some (Settled (record { peer = 2; deal = 1; slots = []; body = Some [] }))
   pub too_many : settle (pending_state name [] (own.Swap name (0 ∷ []))) 2 1 (Accepts (one_claim claim)) ≡ None
   pub none_pending : settle (with_row blank) 2 1 (Refuses 8 3) ≡ None
   pub lesser_waits : ticks_to_wait 1 2 ≡ 2

@@ -10,7 +10,7 @@ use Rattle.psb_model.specs.declared.deals.DealWhat.TheVariants.{Fresh, Swap, Can
 use Rattle.psb_model.specs.declared.change.Change.{Change}
 use Rattle.psb_model.specs.declared.change.Change.TheVariants.{Begun, Kept, Snapped, Forgot, TookFresh, TookSwap, LetGo, LetGoBack, Replaced, Refused, Proposed, Settled, Turned, Asked, Passed, Failed, Declined, Discarded, Chose}
 use Rattle.psb_model.specs.Conditions.{settings_of_body, allowed, asked_objects, at_places, declined_objects, is_begun, of_a_peer, peer_of, tests}
-use Rattle.psb_model.specs.Effects.{after, all_rows_after, deal_name, disturbed, given_up, issued_after, kept_lists, loosen, move_of, note_of, own_after, rows_after, states_of}
+use Rattle.psb_model.specs.Effects.{after, all_rows_after, deal_name, disturbed, given_up, issued_after, issued_with, kept_lists, loosen, move_of, note_of, own_after, rows_after, states_of}
 use Rattle.psb_model.specs.Grammar.{numbers_listed, ascend, body_fits, in_grammar}
 use Rattle.psb_model.specs.History.{Balances, is_lawful, lawful_from, state, state_from}
 use Rattle.psb_model.specs.Move.{after_move, still}
@@ -97,72 +97,76 @@ ForPeer P None = Unit {0}
 ForPeer P (Some p) = P p
 
 pub steps : (s : State) (c : Change) → Good s → in_grammar c ≡ true → all_of (tests s c) ≡ true → ForPeer (Step s c) (peer_of c)
-steps s (Begun body) g gr h = tt
-steps s (Kept name len new body) g gr h = tt
-steps s (Snapped number ticket files folders bytes left names) g gr h = tt
-steps s (Forgot number) g gr h = tt
-steps s (Chose candidates) g gr h = tt
-steps s (TookFresh p deal name first len new body) g gr h = step_fresh s p deal name first len new body (g.rows p) h
-steps s (TookSwap p deal name numbers len new body) g gr h = step_swap s p deal name numbers len new body (g.rows p) gr h
-steps s (LetGo p deal name numbers) g gr h = step_let_go s p deal name numbers (g.rows p) (numbers_ascend numbers gr) h
-steps s (LetGoBack p deal name numbers body) g gr h = step_let_go_back s p deal name numbers body (g.rows p) (numbers_ascend numbers (and_parts (body_fits (512 * length numbers) body) (numbers_listed numbers) gr).1) h
-steps s (Replaced p deal slot place home body) g gr h = let x = still_step s p (g.rows p) in record { weighs = x.2; tidy = x.0; stands = x.1 }
-steps s (Refused p deal why detail) g gr h = let x = still_step s p (g.rows p) in record { weighs = x.2; tidy = x.0; stands = x.1 }
-steps s (Proposed p deal what) g gr h = step_proposes s p deal what (g.rows p) gr (λ n w. (g.wanted n w).has) h
-steps s (Settled p deal numbers body) g gr h = step_settles s p deal numbers body (g.rows p) (numbers_ascend numbers (and_parts (body_fits (512 * length numbers) body) (numbers_listed numbers) gr).1) h
-steps s (Turned p deal why detail) g gr h = let x = still_step s p (g.rows p) in record { weighs = x.2; tidy = x.0; stands = λ d e. cc }
-steps s (Asked p objects) g gr h = let x = still_step s p (g.rows p) in record { weighs = x.2; tidy = x.0; stands = x.1 }
-steps s (Passed p asked objects) g gr h = let x = step_gives_back s p objects (g.rows p) in record { weighs = x.2; tidy = x.0; stands = by_cases (asked == 0) (λ k. rw k x.1) (λ k. rw k x.1) }
-steps s (Failed p asked how got objects) g gr h =
-    let ts = parts (tests s (Failed p asked how got objects)) h in
-    let x = step_loses s p false objects (g.rows p) (objects_apart objects gr) (λ o. each-listed (λ y. not (tied_out s p y)) objects o ts.1.1.1.1.0) in
+steps s (Begun x) g gr h = tt
+steps s (Kept x) g gr h = tt
+steps s (Snapped x) g gr h = tt
+steps s (Forgot x) g gr h = tt
+steps s (Chose x) g gr h = tt
+steps s (TookFresh x) g gr h = step_fresh s x.peer x.deal x.name x.first x.len x.new x.body (g.rows x.peer) h
+steps s (TookSwap x) g gr h = step_swap s x.peer x.deal x.name x.slots x.len x.new x.body (g.rows x.peer) gr h
+steps s (LetGo x) g gr h = step_let_go s x.peer x.deal x.name x.slots (g.rows x.peer) (numbers_ascend x.slots gr) h
+steps s (LetGoBack x) g gr h = step_let_go_back s x.peer x.deal x.name x.slots x.body (g.rows x.peer) (numbers_ascend x.slots (and_parts (body_fits (512 * length x.slots) x.body) (numbers_listed x.slots) gr).1) h
+steps s (Replaced y) g gr h = let x = still_step s y.peer (g.rows y.peer) in record { weighs = x.2; tidy = x.0; stands = x.1 }
+steps s (Refused y) g gr h = let x = still_step s y.peer (g.rows y.peer) in record { weighs = x.2; tidy = x.0; stands = x.1 }
+steps s (Proposed x) g gr h = step_proposes s x.peer x.deal x.what (g.rows x.peer) gr (λ n w. (g.wanted n w).has) h
+steps s (Settled x) g gr h = step_settles s x.peer x.deal x.slots x.body (g.rows x.peer) (numbers_ascend x.slots (and_parts (body_fits (512 * length x.slots) x.body) (numbers_listed x.slots) gr).1) h
+steps s (Turned y) g gr h = let x = still_step s y.peer (g.rows y.peer) in record { weighs = x.2; tidy = x.0; stands = λ d e. cc }
+steps s (Asked y) g gr h = let x = still_step s y.peer (g.rows y.peer) in record { weighs = x.2; tidy = x.0; stands = x.1 }
+steps s (Passed y) g gr h = let x = step_gives_back s y.peer y.objects (g.rows y.peer) in record { weighs = x.2; tidy = x.0; stands = by_cases (y.asked == 0) (λ k. rw k x.1) (λ k. rw k x.1) }
+steps s (Failed z) g gr h =
+    let ts = parts (tests s (Failed z)) h in
+    let x = step_loses s z.peer false z.objects (g.rows z.peer) (objects_apart z.objects gr) (λ o. each-listed (λ y. not (tied_out s z.peer y)) z.objects o ts.1.1.1.1.0) in
     record { weighs = x.2; tidy = x.0; stands = x.1 }
-steps s (Declined p asked places) g gr h =
-    let ts = parts (tests s (Declined p asked places)) h in
-    let os = declined_objects s p asked places in
-    let x = step_loses s p true os (g.rows p) (declined_distinct s p asked places (g.asked p) (numbers_ascend places gr)) (λ o. each-listed (λ y. not (tied_out s p y)) os o ts.1.1.0) in
+steps s (Declined z) g gr h =
+    let ts = parts (tests s (Declined z)) h in
+    let os = declined_objects s z.peer z.asked z.places in
+    let x = step_loses s z.peer true os (g.rows z.peer) (declined_distinct s z.peer z.asked z.places (g.asked z.peer) (numbers_ascend z.places gr)) (λ o. each-listed (λ y. not (tied_out s z.peer y)) os o ts.1.1.0) in
     record { weighs = x.2; tidy = x.0; stands = x.1 }
-steps s (Discarded p objects) g gr h = step_discards s p objects (g.rows p) (objects_apart objects gr) h
+steps s (Discarded x) g gr h = step_discards s x.peer x.objects (g.rows x.peer) (objects_apart x.objects gr) h
 
 -- what a note says of the pending deal depends on it alone
 note_pending : (s : State) (c : Change) (r r' : Row) → r.pending ≡ r'.pending → (note_of s c r).pending ≡ (note_of s c r').pending
-note_pending s (TookFresh p deal name first len new body) r r' e = e
-note_pending s (TookSwap p deal name numbers len new body) r r' e = e
-note_pending s (LetGo p deal name numbers) r r' e = e
-note_pending s (LetGoBack p deal name numbers body) r r' e = e
-note_pending s (Replaced p deal slot place home body) r r' e = e
-note_pending s (Refused p deal why detail) r r' e = e
-note_pending s (Proposed p deal what) r r' e = refl
-note_pending s (Settled p deal numbers body) r r' e = refl
-note_pending s (Turned p deal why detail) r r' e = refl
-note_pending s (Asked p objects) r r' e = e
-note_pending s (Passed p asked objects) r r' e = by_cases (asked == 0) (λ k. rw k e) (λ k. rw k e)
-note_pending s (Failed p asked how got objects) r r' e = e
-note_pending s (Declined p asked places) r r' e = e
-note_pending s (Discarded p objects) r r' e = e
+note_pending s (TookFresh x) r r' e = e
+note_pending s (TookSwap x) r r' e = e
+note_pending s (LetGo x) r r' e = e
+note_pending s (LetGoBack x) r r' e = e
+note_pending s (Replaced x) r r' e = e
+note_pending s (Refused x) r r' e = e
+note_pending s (Proposed x) r r' e = refl
+note_pending s (Settled x) r r' e = refl
+note_pending s (Turned x) r r' e = refl
+note_pending s (Asked x) r r' e = e
+note_pending s (Passed x) r r' e = by_cases (x.asked == 0) (λ k. rw k e) (λ k. rw k e)
+note_pending s (Failed x) r r' e = e
+note_pending s (Declined x) r r' e = e
+note_pending s (Discarded x) r r' e = e
 note_pending s _ r r' e = e
 
 -- what is asked is in the grammar
 note_asked : (s : State) (c : Change) (r : Row) → in_grammar c ≡ true → ((a : ℕ × List Object) → r.asked ≡ Some a → objects_distinct a.1 ≡ true) → (a : ℕ × List Object) → (note_of s c r).asked ≡ Some a → objects_distinct a.1 ≡ true
-note_asked s (TookFresh p deal name first len new body) r gr f = f
-note_asked s (TookSwap p deal name numbers len new body) r gr f = f
-note_asked s (LetGo p deal name numbers) r gr f = f
-note_asked s (LetGoBack p deal name numbers body) r gr f = f
-note_asked s (Replaced p deal slot place home body) r gr f = f
-note_asked s (Refused p deal why detail) r gr f = f
-note_asked s (Proposed p deal what) r gr f = f
-note_asked s (Settled p deal numbers body) r gr f = f
-note_asked s (Turned p deal why detail) r gr f = f
-note_asked s (Asked p objects) r gr f = λ a e. let pair : ℕ × List Object = (s.changes, objects) in let same : pair ≡ a = cc in ap (λ (x : ℕ × List Object). objects_distinct x.1) (sym same) ∙ objects_apart objects gr
-note_asked s (Passed p asked objects) r gr f = by_cases (asked == 0) (λ k. rw k f) (λ k. rw k (λ a e. cc))
-note_asked s (Failed p asked how got objects) r gr f = by_cases (asked == 0) (λ k. rw k f) (λ k. rw k (λ a e. cc))
-note_asked s (Declined p asked places) r gr f = λ a e. cc
-note_asked s (Discarded p objects) r gr f = f
+note_asked s (TookFresh x) r gr f = f
+note_asked s (TookSwap x) r gr f = f
+note_asked s (LetGo x) r gr f = f
+note_asked s (LetGoBack x) r gr f = f
+note_asked s (Replaced x) r gr f = f
+note_asked s (Refused x) r gr f = f
+note_asked s (Proposed x) r gr f = f
+note_asked s (Settled x) r gr f = f
+note_asked s (Turned x) r gr f = f
+note_asked s (Asked y) r gr f = λ a e. let pair : ℕ × List Object = (s.changes, y.objects) in let same : pair ≡ a = cc in ap (λ (x : ℕ × List Object). objects_distinct x.1) (sym same) ∙ objects_apart y.objects gr
+note_asked s (Passed x) r gr f = by_cases (x.asked == 0) (λ k. rw k f) (λ k. rw k (λ a e. cc))
+note_asked s (Failed x) r gr f = by_cases (x.asked == 0) (λ k. rw k f) (λ k. rw k (λ a e. cc))
+note_asked s (Declined x) r gr f = λ a e. cc
+note_asked s (Discarded x) r gr f = f
 note_asked s _ r gr f = f
 
 issued_grows : (s : State) (c : Change) → s.issued ≤ issued_after s c
-issued_grows s (TookFresh p deal name first len new body) = omega arith
-issued_grows s (Proposed p deal (PutBack name first)) = omega arith
+issued_grows s (TookFresh x) = omega arith
+issued_grows s (Proposed x) = by_what x.what
+  where
+    by_what : (what : DealWhat) → s.issued ≤ issued_with s.issued (row s x.peer) what
+    by_what (PutBack name first) = omega arith
+    by_what _ = omega arith
 issued_grows s _ = omega arith
 
 -- the deal stands where own keeps its name
@@ -241,25 +245,25 @@ blank_after : (s : State) (c : Change) → RowAfter s c blank
 blank_after s c = record { tidy = tidy_blank (issued_after s c); stands = λ d e. cc; asked = λ a e. cc }
 
 each_row : (s : State) (c : Change) → Good s → in_grammar c ≡ true → of_a_peer s (peer_of c) ≡ true → all_of (tests s c) ≡ true → (q : ℕ) → RowAfter s c (row_in (all_rows_after s c) q)
-each_row s (Begun body) g gr pe h q = subst (RowAfter s (Begun body)) (sym (row_in-first_rows (settings_of_body body) q)) (blank_after s (Begun body))
-each_row s (Kept name len new body) g gr pe h q = unchanged s (Kept name len new body) g q
-each_row s (Snapped number ticket files folders bytes left names) g gr pe h q = unchanged s (Snapped number ticket files folders bytes left names) g q
-each_row s (Forgot number) g gr pe h q = unchanged s (Forgot number) g q
-each_row s (Chose candidates) g gr pe h q = unchanged s (Chose candidates) g q
-each_row s (TookFresh p deal name first len new body) g gr pe h q = let c : Change = TookFresh p deal name first len new body in of_peer s c p g gr h pe (steps s c g gr h) q
-each_row s (TookSwap p deal name numbers len new body) g gr pe h q = let c : Change = TookSwap p deal name numbers len new body in of_peer s c p g gr h pe (steps s c g gr h) q
-each_row s (LetGo p deal name numbers) g gr pe h q = let c : Change = LetGo p deal name numbers in of_peer s c p g gr h pe (steps s c g gr h) q
-each_row s (LetGoBack p deal name numbers body) g gr pe h q = let c : Change = LetGoBack p deal name numbers body in of_peer s c p g gr h pe (steps s c g gr h) q
-each_row s (Replaced p deal slot place home body) g gr pe h q = let c : Change = Replaced p deal slot place home body in of_peer s c p g gr h pe (steps s c g gr h) q
-each_row s (Refused p deal why detail) g gr pe h q = let c : Change = Refused p deal why detail in of_peer s c p g gr h pe (steps s c g gr h) q
-each_row s (Proposed p deal what) g gr pe h q = let c : Change = Proposed p deal what in of_peer s c p g gr h pe (steps s c g gr h) q
-each_row s (Settled p deal numbers body) g gr pe h q = let c : Change = Settled p deal numbers body in of_peer s c p g gr h pe (steps s c g gr h) q
-each_row s (Turned p deal why detail) g gr pe h q = let c : Change = Turned p deal why detail in of_peer s c p g gr h pe (steps s c g gr h) q
-each_row s (Asked p objects) g gr pe h q = let c : Change = Asked p objects in of_peer s c p g gr h pe (steps s c g gr h) q
-each_row s (Passed p asked objects) g gr pe h q = let c : Change = Passed p asked objects in of_peer s c p g gr h pe (steps s c g gr h) q
-each_row s (Failed p asked how got objects) g gr pe h q = let c : Change = Failed p asked how got objects in of_peer s c p g gr h pe (steps s c g gr h) q
-each_row s (Declined p asked places) g gr pe h q = let c : Change = Declined p asked places in of_peer s c p g gr h pe (steps s c g gr h) q
-each_row s (Discarded p objects) g gr pe h q = let c : Change = Discarded p objects in of_peer s c p g gr h pe (steps s c g gr h) q
+each_row s (Begun x) g gr pe h q = subst (RowAfter s (Begun x)) (sym (row_in-first_rows (settings_of_body x.body) q)) (blank_after s (Begun x))
+each_row s (Kept x) g gr pe h q = unchanged s (Kept x) g q
+each_row s (Snapped x) g gr pe h q = unchanged s (Snapped x) g q
+each_row s (Forgot x) g gr pe h q = unchanged s (Forgot x) g q
+each_row s (Chose x) g gr pe h q = unchanged s (Chose x) g q
+each_row s (TookFresh x) g gr pe h q = let c : Change = TookFresh x in of_peer s c x.peer g gr h pe (steps s c g gr h) q
+each_row s (TookSwap x) g gr pe h q = let c : Change = TookSwap x in of_peer s c x.peer g gr h pe (steps s c g gr h) q
+each_row s (LetGo x) g gr pe h q = let c : Change = LetGo x in of_peer s c x.peer g gr h pe (steps s c g gr h) q
+each_row s (LetGoBack x) g gr pe h q = let c : Change = LetGoBack x in of_peer s c x.peer g gr h pe (steps s c g gr h) q
+each_row s (Replaced x) g gr pe h q = let c : Change = Replaced x in of_peer s c x.peer g gr h pe (steps s c g gr h) q
+each_row s (Refused x) g gr pe h q = let c : Change = Refused x in of_peer s c x.peer g gr h pe (steps s c g gr h) q
+each_row s (Proposed x) g gr pe h q = let c : Change = Proposed x in of_peer s c x.peer g gr h pe (steps s c g gr h) q
+each_row s (Settled x) g gr pe h q = let c : Change = Settled x in of_peer s c x.peer g gr h pe (steps s c g gr h) q
+each_row s (Turned x) g gr pe h q = let c : Change = Turned x in of_peer s c x.peer g gr h pe (steps s c g gr h) q
+each_row s (Asked x) g gr pe h q = let c : Change = Asked x in of_peer s c x.peer g gr h pe (steps s c g gr h) q
+each_row s (Passed x) g gr pe h q = let c : Change = Passed x in of_peer s c x.peer g gr h pe (steps s c g gr h) q
+each_row s (Failed x) g gr pe h q = let c : Change = Failed x in of_peer s c x.peer g gr h pe (steps s c g gr h) q
+each_row s (Declined x) g gr pe h q = let c : Change = Declined x in of_peer s c x.peer g gr h pe (steps s c g gr h) q
+each_row s (Discarded x) g gr pe h q = let c : Change = Discarded x in of_peer s c x.peer g gr h pe (steps s c g gr h) q
 
 pub good_after : (s : State) (c : Change) → Good s → in_grammar c ≡ true → allowed s c ≡ true → Good (after s c)
 good_after s c g gr al =

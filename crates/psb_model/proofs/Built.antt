@@ -243,24 +243,24 @@ at_peer s c q p e h = let same : q ≡ p = cc in subst (λ x. all_rows_after s c
 
 -- after a change of a peer of a kind that is built
 pub rows_one : (s : State) (c : Change) (p : ℕ) → AllPlain s.own s.rows → is_built c ≡ true → peer_of c ≡ Some p → all_rows_after s c ≡ at_row p (changed s c) s.rows
-rows_one s (Begun body) p h b e = absurd (cc (e))
-rows_one s (Kept name len new body) p h b e = absurd (cc (e))
-rows_one s (Snapped number ticket files folders bytes left names) p h b e = absurd (cc (e))
-rows_one s (Forgot number) p h b e = absurd (cc (e))
-rows_one s (Chose candidates) p h b e = absurd (cc (e))
-rows_one s (TookFresh q deal name first len new body) p h b e = let c : Change = TookFresh q deal name first len new body in at_peer s c q p e (rows_still s c q [] h refl)
-rows_one s (TookSwap q deal name numbers len new body) p h b e = let c : Change = TookSwap q deal name numbers len new body in at_peer s c q p e (rows_still s c q (slots numbers) h refl)
-rows_one s (LetGo q deal name numbers) p h b e = let c : Change = LetGo q deal name numbers in at_peer s c q p e (rows_still s c q (Chunk name ∷ []) h refl)
-rows_one s (LetGoBack q deal name numbers body) p h b e = let c : Change = LetGoBack q deal name numbers body in at_peer s c q p e (rows_still s c q (Chunk name ∷ []) h refl)
-rows_one s (Refused q deal why detail) p h b e = let c : Change = Refused q deal why detail in at_peer s c q p e (rows_still s c q [] h refl)
-rows_one s (Proposed q deal what) p h b e = let c : Change = Proposed q deal what in at_peer s c q p e (rows_still s c q [] h refl)
-rows_one s (Turned q deal why detail) p h b e = let c : Change = Turned q deal why detail in at_peer s c q p e (rows_still s c q [] h refl)
-rows_one s (Settled q deal numbers body) p h b e =
-    let c : Change = Settled q deal numbers body in
-    let first = at_row q (after_move (move_of s c)) s.rows in
-    at_peer s c q p e
-    (ap (λ l. at_row q (note_of s c) (loosen (disturbed s c) l)) (states_still q (row s q).pending first (plain_row_in s.own s.rows q h).deal)
-    ∙ rows_still s c q (move_of s c).in_gone h refl)
+rows_one s (Begun x) p h b e = absurd (cc (e))
+rows_one s (Kept x) p h b e = absurd (cc (e))
+rows_one s (Snapped x) p h b e = absurd (cc (e))
+rows_one s (Forgot x) p h b e = absurd (cc (e))
+rows_one s (Chose x) p h b e = absurd (cc (e))
+rows_one s (TookFresh x) p h b e = let c : Change = TookFresh x in at_peer s c x.peer p e (rows_still s c x.peer [] h refl)
+rows_one s (TookSwap x) p h b e = let c : Change = TookSwap x in at_peer s c x.peer p e (rows_still s c x.peer (slots x.slots) h refl)
+rows_one s (LetGo x) p h b e = let c : Change = LetGo x in at_peer s c x.peer p e (rows_still s c x.peer (Chunk x.name ∷ []) h refl)
+rows_one s (LetGoBack x) p h b e = let c : Change = LetGoBack x in at_peer s c x.peer p e (rows_still s c x.peer (Chunk x.name ∷ []) h refl)
+rows_one s (Refused x) p h b e = let c : Change = Refused x in at_peer s c x.peer p e (rows_still s c x.peer [] h refl)
+rows_one s (Proposed x) p h b e = let c : Change = Proposed x in at_peer s c x.peer p e (rows_still s c x.peer [] h refl)
+rows_one s (Turned x) p h b e = let c : Change = Turned x in at_peer s c x.peer p e (rows_still s c x.peer [] h refl)
+rows_one s (Settled x) p h b e =
+    let c : Change = Settled x in
+    let first = at_row x.peer (after_move (move_of s c)) s.rows in
+    at_peer s c x.peer p e
+    (ap (λ l. at_row x.peer (note_of s c) (loosen (disturbed s c) l)) (states_still x.peer (row s x.peer).pending first (plain_row_in s.own s.rows x.peer h).deal)
+    ∙ rows_still s c x.peer (move_of s c).in_gone h refl)
 rows_one s _ p h b e = absurd (false≢true b)
 
 -- the row of each peer after a change of one
@@ -281,25 +281,25 @@ all_direct (n ∷ ns) l h = all_direct ns (with_one in_key (direct_slot n) l) (a
 here_less : (objects : List Object) (l : List InEntry) → list_all is_here l ≡ true → list_all is_here (without in_key objects l) ≡ true
 here_less objects l h = all_kept is_here (λ e. not (listed objects (in_key e))) l h
 
-plain_fresh : (s : State) (p deal : ℕ) (name : List ℕ) (first len : ℕ) (new : Bool) (body : Option (List ℕ)) (r : Row) → IsPlainRow s.own r → IsPlainRow s.own (changed s (TookFresh p deal name first len new body) r)
+plain_fresh : (s : State) (p deal : ℕ) (name : List ℕ) (first len : ℕ) (new : Bool) (body : Option (List ℕ)) (r : Row) → IsPlainRow s.own r → IsPlainRow s.own (changed s (TookFresh (record { peer = p; deal = deal; name = name; first = first; len = len; new = new; body = body })) r)
 plain_fresh s p deal name first len new body r h = record { deal = h.deal; coming = h.coming; debts = rw h.debts refl; asked = h.asked; fails = h.fails; due = h.due; here = all_with_one in_key is_here (chunk_in name (units len)) (without in_key [] r.ins) refl (here_less [] r.ins h.here) }
 
-plain_swap : (s : State) (p deal : ℕ) (name numbers : List ℕ) (len : ℕ) (new : Bool) (body : Option (List ℕ)) (r : Row) → IsPlainRow s.own r → IsPlainRow s.own (changed s (TookSwap p deal name numbers len new body) r)
+plain_swap : (s : State) (p deal : ℕ) (name numbers : List ℕ) (len : ℕ) (new : Bool) (body : Option (List ℕ)) (r : Row) → IsPlainRow s.own r → IsPlainRow s.own (changed s (TookSwap (record { peer = p; deal = deal; name = name; slots = numbers; len = len; new = new; body = body })) r)
 plain_swap s p deal name numbers len new body r h = record { deal = h.deal; coming = h.coming; debts = rw h.debts refl; asked = h.asked; fails = h.fails; due = h.due; here = all_with_one in_key is_here (chunk_in name (units len)) (without in_key (slots numbers) r.ins) refl (here_less (slots numbers) r.ins h.here) }
 
-plain_let_go : (s : State) (p deal : ℕ) (name numbers : List ℕ) (r : Row) → IsPlainRow s.own r → IsPlainRow s.own (changed s (LetGo p deal name numbers) r)
+plain_let_go : (s : State) (p deal : ℕ) (name numbers : List ℕ) (r : Row) → IsPlainRow s.own r → IsPlainRow s.own (changed s (LetGo (record { peer = p; deal = deal; name = name; slots = numbers })) r)
 plain_let_go s p deal name numbers r h = record { deal = h.deal; coming = h.coming; debts = rw h.debts refl; asked = h.asked; fails = h.fails; due = h.due; here = here_less (Chunk name ∷ []) r.ins h.here }
 
-plain_put_back : (s : State) (p deal : ℕ) (name numbers : List ℕ) (body : Option (List ℕ)) (r : Row) → IsPlainRow s.own r → IsPlainRow s.own (changed s (LetGoBack p deal name numbers body) r)
+plain_put_back : (s : State) (p deal : ℕ) (name numbers : List ℕ) (body : Option (List ℕ)) (r : Row) → IsPlainRow s.own r → IsPlainRow s.own (changed s (LetGoBack (record { peer = p; deal = deal; name = name; slots = numbers; body = body })) r)
 plain_put_back s p deal name numbers body r h = record { deal = h.deal; coming = h.coming; debts = rw h.debts refl; asked = h.asked; fails = h.fails; due = h.due; here = all_direct numbers (without in_key (Chunk name ∷ []) r.ins) (here_less (Chunk name ∷ []) r.ins h.here) }
 
-plain_refused : (s : State) (p deal why detail : ℕ) (r : Row) → IsPlainRow s.own r → IsPlainRow s.own (changed s (Refused p deal why detail) r)
+plain_refused : (s : State) (p deal why detail : ℕ) (r : Row) → IsPlainRow s.own r → IsPlainRow s.own (changed s (Refused (record { peer = p; deal = deal; why = why; detail = detail })) r)
 plain_refused s p deal why detail r h = record { deal = h.deal; coming = h.coming; debts = rw h.debts refl; asked = h.asked; fails = h.fails; due = h.due; here = here_less [] r.ins h.here }
 
-plain_proposed : (s : State) (p deal : ℕ) (what : DealWhat) (r : Row) → is_built_deal what ≡ true → has_coming s.own (Some (record { number = deal; what = what })) ≡ true → IsPlainRow s.own r → IsPlainRow s.own (changed s (Proposed p deal what) r)
+plain_proposed : (s : State) (p deal : ℕ) (what : DealWhat) (r : Row) → is_built_deal what ≡ true → has_coming s.own (Some (record { number = deal; what = what })) ≡ true → IsPlainRow s.own r → IsPlainRow s.own (changed s (Proposed (record { peer = p; deal = deal; what = what })) r)
 plain_proposed s p deal what r built own h = record { deal = built; coming = own; debts = rw h.debts refl; asked = h.asked; fails = h.fails; due = h.due; here = here_less [] r.ins h.here }
 
-plain_turned : (s : State) (p deal why detail : ℕ) (r : Row) → IsPlainRow s.own r → IsPlainRow s.own (changed s (Turned p deal why detail) r)
+plain_turned : (s : State) (p deal why detail : ℕ) (r : Row) → IsPlainRow s.own r → IsPlainRow s.own (changed s (Turned (record { peer = p; deal = deal; why = why; detail = detail })) r)
 plain_turned s p deal why detail r h = record { deal = refl; coming = refl; debts = rw h.debts refl; asked = h.asked; fails = h.fails; due = h.due; here = here_less [] r.ins h.here }
 
 -- what a settled deal moves
@@ -327,7 +327,7 @@ settle_here s r (Some d) numbers r' h = by_what d.what
     by_what (Forward slot entry) = here_less [] r'.ins h
     by_what (Return slot) = here_less [] r'.ins h
 
-plain_settled : (s : State) (p deal : ℕ) (numbers : List ℕ) (body : Option (List ℕ)) (r : Row) → IsPlainRow s.own r → IsPlainRow s.own (changed s (Settled p deal numbers body) r)
+plain_settled : (s : State) (p deal : ℕ) (numbers : List ℕ) (body : Option (List ℕ)) (r : Row) → IsPlainRow s.own r → IsPlainRow s.own (changed s (Settled (record { peer = p; deal = deal; slots = numbers; body = body })) r)
 plain_settled s p deal numbers body r h = record { deal = refl; coming = refl; debts = settle_debts s (row s p) (row s p).pending numbers r h.debts; asked = h.asked; fails = h.fails; due = h.due; here = settle_here s (row s p) (row s p).pending numbers r h.here }
 
 -- WHAT A CHANGE USES MORE
@@ -426,9 +426,9 @@ with_apart e (x ∷ xs) lacks h =
     (λ j. rw (j, with_lacks e xs x.name other (not_true (own_has xs x.name) two.0)) (with_apart e xs none.1 two.1))
 
 own_after_apart : (s : State) (c : Change) → all_of (tests s c) ≡ true → names_apart s.own ≡ true → names_apart (own_after s c) ≡ true
-own_after_apart s (Kept name len new body) h a = with_apart (record { name = name; len = len; marked = false }) s.own (not_true (own_has s.own name) (parts (tests s (Kept name len new body)) h).0) a
-own_after_apart s (Snapped number ticket files folders bytes left names) h a = marks_apart (λ e. e.marked && not (name_listed names e.name)) s.own a
-own_after_apart s (Forgot number) h a = marks_apart (λ e. e.marked || not (kept_lists (kept_without number s.kept) e.name)) s.own a
+own_after_apart s (Kept x) h a = with_apart (record { name = x.name; len = x.len; marked = false }) s.own (not_true (own_has s.own x.name) (parts (tests s (Kept x)) h).0) a
+own_after_apart s (Snapped x) h a = marks_apart (λ e. e.marked && not (name_listed x.names e.name)) s.own a
+own_after_apart s (Forgot x) h a = marks_apart (λ e. e.marked || not (kept_lists (kept_without x.number s.kept) e.name)) s.own a
 own_after_apart s _ h a = a
 
 -- own keeps what the rows after a change name
@@ -482,56 +482,56 @@ proposes s p deal (Forward slot entry) was h = record { own = refl; fits = omega
 proposes s p deal (Return slot) was h = record { own = refl; fits = omega (arith, was.used) }
 
 pub plain_after : (s : State) (c : Change) → IsPlain s → is_built c ≡ true → in_grammar c ≡ true → allowed s c ≡ true → IsPlain (after s c)
-plain_after s (Begun body) p b g h = plain_step s (Begun body) p g h (plain_first_rows s.own (settings_of_body body)) (omega (arith, use_first_rows s (settings_of_body body)))
-plain_after s (Kept name len new body) p b g h = plain_step s (Kept name len new body) p g h p.rows p.used
-plain_after s (Snapped number ticket files folders bytes left names) p b g h = plain_step s (Snapped number ticket files folders bytes left names) p g h p.rows p.used
-plain_after s (Forgot number) p b g h = plain_step s (Forgot number) p g h p.rows p.used
-plain_after s (Chose candidates) p b g h = plain_step s (Chose candidates) p g h p.rows p.used
-plain_after s (TookFresh q deal name first len new body) p b g h =
-    let c : Change = TookFresh q deal name first len new body in
+plain_after s (Begun x) p b g h = plain_step s (Begun x) p g h (plain_first_rows s.own (settings_of_body x.body)) (omega (arith, use_first_rows s (settings_of_body x.body)))
+plain_after s (Kept x) p b g h = plain_step s (Kept x) p g h p.rows p.used
+plain_after s (Snapped x) p b g h = plain_step s (Snapped x) p g h p.rows p.used
+plain_after s (Forgot x) p b g h = plain_step s (Forgot x) p g h p.rows p.used
+plain_after s (Chose x) p b g h = plain_step s (Chose x) p g h p.rows p.used
+plain_after s (TookFresh x) p b g h =
+    let c : Change = TookFresh x in
     let ts = parts (tests s c) (allows s c h).tests in
-    plain_peer s c q (units len) p g h refl refl (allows s c h).peer refl (plain_fresh s q deal name first len new body)
-    (omega (arith, held_moved (row s q) (move_of s c)))
-    (leb-true (used s + units len) (capacity s.settings) ts.1.1.1.1.0)
-plain_after s (TookSwap q deal name numbers len new body) p b g h =
-    let c : Change = TookSwap q deal name numbers len new body in
-    let plain = plain_swap s q deal name numbers len new body in
-    plain_peer s c q 0 p g h refl refl (allows s c h).peer refl plain
-    (omega (arith, even_peer s c q p g h refl refl (allows s c h).peer plain (back_moved (row s q) (move_of s c))))
+    plain_peer s c x.peer (units x.len) p g h refl refl (allows s c h).peer refl (plain_fresh s x.peer x.deal x.name x.first x.len x.new x.body)
+    (omega (arith, held_moved (row s x.peer) (move_of s c)))
+    (leb-true (used s + units x.len) (capacity s.settings) ts.1.1.1.1.0)
+plain_after s (TookSwap x) p b g h =
+    let c : Change = TookSwap x in
+    let plain = plain_swap s x.peer x.deal x.name x.slots x.len x.new x.body in
+    plain_peer s c x.peer 0 p g h refl refl (allows s c h).peer refl plain
+    (omega (arith, even_peer s c x.peer p g h refl refl (allows s c h).peer plain (back_moved (row s x.peer) (move_of s c))))
     (omega (arith, p.used))
-plain_after s (LetGo q deal name numbers) p b g h =
-    let c : Change = LetGo q deal name numbers in
-    plain_peer s c q 0 p g h refl refl (allows s c h).peer refl (plain_let_go s q deal name numbers)
-    (omega (arith, held_moved (row s q) (move_of s c)))
+plain_after s (LetGo x) p b g h =
+    let c : Change = LetGo x in
+    plain_peer s c x.peer 0 p g h refl refl (allows s c h).peer refl (plain_let_go s x.peer x.deal x.name x.slots)
+    (omega (arith, held_moved (row s x.peer) (move_of s c)))
     (omega (arith, p.used))
-plain_after s (LetGoBack q deal name numbers body) p b g h =
-    let c : Change = LetGoBack q deal name numbers body in
-    let plain = plain_put_back s q deal name numbers body in
-    plain_peer s c q 0 p g h refl refl (allows s c h).peer refl plain
-    (omega (arith, even_peer s c q p g h refl refl (allows s c h).peer plain (back_moved (row s q) (move_of s c))))
+plain_after s (LetGoBack x) p b g h =
+    let c : Change = LetGoBack x in
+    let plain = plain_put_back s x.peer x.deal x.name x.slots x.body in
+    plain_peer s c x.peer 0 p g h refl refl (allows s c h).peer refl plain
+    (omega (arith, even_peer s c x.peer p g h refl refl (allows s c h).peer plain (back_moved (row s x.peer) (move_of s c))))
     (omega (arith, p.used))
-plain_after s (Refused q deal why detail) p b g h =
-    let c : Change = Refused q deal why detail in
-    plain_peer s c q 0 p g h refl refl (allows s c h).peer refl (plain_refused s q deal why detail)
-    (omega (arith, held_moved (row s q) (move_of s c)))
+plain_after s (Refused x) p b g h =
+    let c : Change = Refused x in
+    plain_peer s c x.peer 0 p g h refl refl (allows s c h).peer refl (plain_refused s x.peer x.deal x.why x.detail)
+    (omega (arith, held_moved (row s x.peer) (move_of s c)))
     (omega (arith, p.used))
-plain_after s (Proposed q deal what) p b g h =
-    let c : Change = Proposed q deal what in
+plain_after s (Proposed x) p b g h =
+    let c : Change = Proposed x in
     let ts = parts (tests s c) (allows s c h).tests in
-    let asks = proposes s q deal what p ts.1.1.0 in
-    plain_peer s c q (coming s (Some (record { number = deal; what = what }))) p g h b refl (allows s c h).peer refl (λ r. plain_proposed s q deal what r b asks.own)
-    (omega (arith, held_moved (row s q) (move_of s c)))
+    let asks = proposes s x.peer x.deal x.what p ts.1.1.0 in
+    plain_peer s c x.peer (coming s (Some (record { number = x.deal; what = x.what }))) p g h b refl (allows s c h).peer refl (λ r. plain_proposed s x.peer x.deal x.what r b asks.own)
+    (omega (arith, held_moved (row s x.peer) (move_of s c)))
     asks.fits
-plain_after s (Settled q deal numbers body) p b g h =
-    let c : Change = Settled q deal numbers body in
+plain_after s (Settled x) p b g h =
+    let c : Change = Settled x in
     let ts = parts (tests s c) (allows s c h).tests in
-    plain_peer s c q 0 p g h refl refl (allows s c h).peer refl (plain_settled s q deal numbers body)
-    (omega (arith, settle_uses s q (row s q).pending numbers (row s q) ts.1.0))
+    plain_peer s c x.peer 0 p g h refl refl (allows s c h).peer refl (plain_settled s x.peer x.deal x.slots x.body)
+    (omega (arith, settle_uses s x.peer (row s x.peer).pending x.slots (row s x.peer) ts.1.0))
     (omega (arith, p.used))
-plain_after s (Turned q deal why detail) p b g h =
-    let c : Change = Turned q deal why detail in
-    plain_peer s c q 0 p g h refl refl (allows s c h).peer refl (plain_turned s q deal why detail)
-    (omega (arith, held_moved (row s q) (move_of s c)))
+plain_after s (Turned x) p b g h =
+    let c : Change = Turned x in
+    plain_peer s c x.peer 0 p g h refl refl (allows s c h).peer refl (plain_turned s x.peer x.deal x.why x.detail)
+    (omega (arith, held_moved (row s x.peer) (move_of s c)))
     (omega (arith, p.used))
 plain_after s _ p b g h = absurd (false≢true b)
 

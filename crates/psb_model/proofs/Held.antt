@@ -1,6 +1,6 @@
 -- What is held after a change: by the peers, and of the node's own.
 use Rattle.std.proofs.Common.{◌≡◌, ℕ, ◌≤◌, Bool, true, false, not, ◌&&◌, ◌||◌, cond, List, [], ◌∷◌, filter, Option, Some, None, refl, sym, ap, ◌∙◌, arith}
-use Rattle.std.specs.Prelude.{◌==◌}
+use Rattle.std.specs.Prelude.{◌==◌, if◌then◌else◌}
 use Rattle.std.specs.List.{list_any}
 use Rattle.std.specs.Ordering.{is_lt, nat_cmp}
 use Rattle.std.specs.Cmp.Lexicographic.{slice_cmp}
@@ -106,11 +106,11 @@ direct_chunk (n ∷ ns) l q = direct_chunk ns (with_one in_key (direct_slot n) l
 abbrev pub Gains : (Row → Row) → List ℕ → Bool → Type 0
 Gains f name b = (r : Row) → has in_key (f r).ins (Chunk name) ≡ (has in_key r.ins (Chunk name) || b)
 
-pub fresh_gains : (s : State) (p deal : ℕ) (name : List ℕ) (first len : ℕ) (new : Bool) (body : Option (List ℕ)) (q : List ℕ) → Gains (changed s (TookFresh p deal name first len new body)) q (name_eq name q)
+pub fresh_gains : (s : State) (p deal : ℕ) (name : List ℕ) (first len : ℕ) (new : Bool) (body : Option (List ℕ)) (q : List ℕ) → Gains (changed s (TookFresh (record { peer = p; deal = deal; name = name; first = first; len = len; new = new; body = body }))) q (name_eq name q)
 fresh_gains s p deal name first len new body q r =
     has_more (chunk_in name (units len)) (without in_key [] r.ins) (Chunk q) ∙ ap (λ (b : Bool). b || name_eq name q) (chunk_stays in_key [] r.ins q)
 
-pub swap_gains : (s : State) (p deal : ℕ) (name numbers : List ℕ) (len : ℕ) (new : Bool) (body : Option (List ℕ)) (q : List ℕ) → Gains (changed s (TookSwap p deal name numbers len new body)) q (name_eq name q)
+pub swap_gains : (s : State) (p deal : ℕ) (name numbers : List ℕ) (len : ℕ) (new : Bool) (body : Option (List ℕ)) (q : List ℕ) → Gains (changed s (TookSwap (record { peer = p; deal = deal; name = name; slots = numbers; len = len; new = new; body = body }))) q (name_eq name q)
 swap_gains s p deal name numbers len new body q r =
     has_more (chunk_in name (units len)) (without in_key (slots numbers) r.ins) (Chunk q) ∙ ap (λ (b : Bool). b || name_eq name q) (chunk_stays in_key numbers r.ins q)
 
@@ -121,25 +121,25 @@ Loses f name q = (r : Row) → has in_key (f r).ins (Chunk q) ≡ (has in_key r.
 lone : (name q : List ℕ) → listed (Chunk name ∷ []) (Chunk q) ≡ name_eq name q
 lone name q = or_none (name_eq name q)
 
-pub let_go_loses : (s : State) (p deal : ℕ) (name numbers q : List ℕ) → Loses (changed s (LetGo p deal name numbers)) name q
+pub let_go_loses : (s : State) (p deal : ℕ) (name numbers q : List ℕ) → Loses (changed s (LetGo (record { peer = p; deal = deal; name = name; slots = numbers }))) name q
 let_go_loses s p deal name numbers q r = has_less in_key (Chunk name ∷ []) r.ins (Chunk q) ∙ ap (λ (b : Bool). has in_key r.ins (Chunk q) && not b) (lone name q)
 
-pub put_back_loses : (s : State) (p deal : ℕ) (name numbers : List ℕ) (body : Option (List ℕ)) (q : List ℕ) → Loses (changed s (LetGoBack p deal name numbers body)) name q
+pub put_back_loses : (s : State) (p deal : ℕ) (name numbers : List ℕ) (body : Option (List ℕ)) (q : List ℕ) → Loses (changed s (LetGoBack (record { peer = p; deal = deal; name = name; slots = numbers; body = body }))) name q
 put_back_loses s p deal name numbers body q r =
     direct_chunk numbers (without in_key (Chunk name ∷ []) r.ins) q
     ∙ has_less in_key (Chunk name ∷ []) r.ins (Chunk q) ∙ ap (λ (b : Bool). has in_key r.ins (Chunk q) && not b) (lone name q)
 
-pub refused_gains : (s : State) (p deal why detail : ℕ) (q : List ℕ) → Gains (changed s (Refused p deal why detail)) q false
+pub refused_gains : (s : State) (p deal why detail : ℕ) (q : List ℕ) → Gains (changed s (Refused (record { peer = p; deal = deal; why = why; detail = detail }))) q false
 refused_gains s p deal why detail q r = chunk_stays in_key [] r.ins q ∙ sym (or_none (has in_key r.ins (Chunk q)))
 
-pub proposed_gains : (s : State) (p deal : ℕ) (what : DealWhat) (q : List ℕ) → Gains (changed s (Proposed p deal what)) q false
+pub proposed_gains : (s : State) (p deal : ℕ) (what : DealWhat) (q : List ℕ) → Gains (changed s (Proposed (record { peer = p; deal = deal; what = what }))) q false
 proposed_gains s p deal what q r = chunk_stays in_key [] r.ins q ∙ sym (or_none (has in_key r.ins (Chunk q)))
 
-pub turned_gains : (s : State) (p deal why detail : ℕ) (q : List ℕ) → Gains (changed s (Turned p deal why detail)) q false
+pub turned_gains : (s : State) (p deal why detail : ℕ) (q : List ℕ) → Gains (changed s (Turned (record { peer = p; deal = deal; why = why; detail = detail }))) q false
 turned_gains s p deal why detail q r = chunk_stays in_key [] r.ins q ∙ sym (or_none (has in_key r.ins (Chunk q)))
 
 -- a settled deal brings and takes slots of in(p) alone
-pub settled_gains : (s : State) (p deal : ℕ) (numbers : List ℕ) (body : Option (List ℕ)) (q : List ℕ) → Gains (changed s (Settled p deal numbers body)) q false
+pub settled_gains : (s : State) (p deal : ℕ) (numbers : List ℕ) (body : Option (List ℕ)) (q : List ℕ) → Gains (changed s (Settled (record { peer = p; deal = deal; slots = numbers; body = body }))) q false
 settled_gains s p deal numbers body q r = by_deal (row s p).pending ∙ sym (or_none (has in_key r.ins (Chunk q)))
   where
     by_what : (number : ℕ) (w : DealWhat) → has in_key (after_move (settle_move s (row s p) (Some (record { number = number; what = w })) numbers) r).ins (Chunk q) ≡ has in_key r.ins (Chunk q)
@@ -178,7 +178,7 @@ none_first None q = refl
 none_first (Some x) q = none_blank x.peers q
 
 -- what the peers have here after a change
-pub held_begun : (s : State) (body : Option (List ℕ)) (q : List ℕ) → held_in (after s (Begun body)).rows q ≡ false
+pub held_begun : (s : State) (body : Option (List ℕ)) (q : List ℕ) → held_in (after s (Begun (record { body = body }))).rows q ≡ false
 held_begun s body q = none_first (settings_of_body body) q
 
 -- where a change of a peer brings a chunk, or none
@@ -229,34 +229,39 @@ with_unmarked e (x ∷ xs) lacks free =
     (λ j. rw j (record { has = rw (name_refl e.name) refl; free = rw (name_refl e.name) free }))
     (λ j. rw j (record { has = rw two.0 rest.has; free = rw two.0 rest.free }))
 
-pub kept_is_own : (s : State) (name : List ℕ) (len : ℕ) (new : Bool) (body : Option (List ℕ)) → own_has s.own name ≡ false → own_has (after s (Kept name len new body)).own name ≡ true
+pub kept_is_own : (s : State) (name : List ℕ) (len : ℕ) (new : Bool) (body : Option (List ℕ)) → own_has s.own name ≡ false → own_has (after s (Kept (record { name = name; len = len; new = new; body = body }))).own name ≡ true
 kept_is_own s name len new body lacks =
-    (unmarked_stays s.rows (own_after s (Kept name len new body)) name (with_unmarked (record { name = name; len = len; marked = false }) s.own lacks refl)).has
+    (unmarked_stays s.rows (own_after s (Kept (record { name = name; len = len; new = new; body = body }))) name (with_unmarked (record { name = name; len = len; marked = false }) s.own lacks refl)).has
 
 -- WHAT A CHANGE HOLDS
 
+-- a chunk's bytes are brought where it is new
+brings_when : (new : Bool) (name n : List ℕ) → elim (if new then Some name else None) [ None ↦ false | Some m ↦ name_eq m n ] ≡ (new && name_eq name n)
+brings_when true name n = refl
+brings_when false name n = refl
+
 -- the change's chunk is held after it
 pub brought_held : (s : State) (c : Change) (n : List ℕ) → IsPlain s → is_built c ≡ true → allowed s c ≡ true → brings_name n c ≡ true → is_held (after s c) n ≡ true
-brought_held s (Kept name len true body) n p b h is =
-    let c : Change = Kept name len true body in
+brought_held s (Kept x) n p b h is =
+    let c : Change = Kept x in
     let ts = parts (tests s c) (allows s c h).tests in
-    let here : own_has (after s c).own n ≡ true = ap (own_has (after s c).own) (sym (name_same name n is)) ∙ kept_is_own s name len true body (not_true (own_has s.own name) ts.0) in
+    let name = (and_parts x.new (name_eq x.name n) (sym (brings_when x.new x.name n) ∙ is)).1 in
+    let here : own_has (after s c).own n ≡ true = ap (own_has (after s c).own) (sym (name_same x.name n name)) ∙ kept_is_own s x.name x.len x.new x.body (not_true (own_has s.own x.name) ts.0) in
     rw here refl
   where
     not_true : (b : Bool) → not b ≡ true → b ≡ false
     not_true true k = sym k
     not_true false k = refl
-brought_held s (Kept name len false body) n p b h is = absurd (false≢true is)
-brought_held s (TookFresh q deal name first len true body) n p b h is =
-    let c : Change = TookFresh q deal name first len true body in
-    let here : held_in (after s c).rows n ≡ true = held_more s c q n (name_eq name n) p.rows refl refl (allows s c h).peer (fresh_gains s q deal name first len true body n) ∙ ap (λ x. held_in s.rows n || x) is ∙ or_true (held_in s.rows n) in
+brought_held s (TookFresh y) n p b h is =
+    let c : Change = TookFresh y in
+    let name = (and_parts y.new (name_eq y.name n) (sym (brings_when y.new y.name n) ∙ is)).1 in
+    let here : held_in (after s c).rows n ≡ true = held_more s c y.peer n (name_eq y.name n) p.rows refl refl (allows s c h).peer (fresh_gains s y.peer y.deal y.name y.first y.len y.new y.body n) ∙ ap (λ x. held_in s.rows n || x) name ∙ or_true (held_in s.rows n) in
     ap (λ x. own_has (after s c).own n || x) here ∙ or_true (own_has (after s c).own n)
-brought_held s (TookFresh q deal name first len false body) n p b h is = absurd (false≢true is)
-brought_held s (TookSwap q deal name numbers len true body) n p b h is =
-    let c : Change = TookSwap q deal name numbers len true body in
-    let here : held_in (after s c).rows n ≡ true = held_more s c q n (name_eq name n) p.rows refl refl (allows s c h).peer (swap_gains s q deal name numbers len true body n) ∙ ap (λ x. held_in s.rows n || x) is ∙ or_true (held_in s.rows n) in
+brought_held s (TookSwap y) n p b h is =
+    let c : Change = TookSwap y in
+    let name = (and_parts y.new (name_eq y.name n) (sym (brings_when y.new y.name n) ∙ is)).1 in
+    let here : held_in (after s c).rows n ≡ true = held_more s c y.peer n (name_eq y.name n) p.rows refl refl (allows s c h).peer (swap_gains s y.peer y.deal y.name y.slots y.len y.new y.body n) ∙ ap (λ x. held_in s.rows n || x) name ∙ or_true (held_in s.rows n) in
     ap (λ x. own_has (after s c).own n || x) here ∙ or_true (own_has (after s c).own n)
-brought_held s (TookSwap q deal name numbers len false body) n p b h is = absurd (false≢true is)
 brought_held s _ n p b h is = absurd (false≢true is)
 
 not_new : (held new : Bool) → (cond held (not new) new) ≡ true → new ≡ false → held ≡ true
@@ -269,95 +274,81 @@ held_before s c n f g held = either_was (own_has (after s c).own n) (held_in (af
 
 -- a held name was held before, or the change brings its bytes
 pub was_held : (s : State) (c : Change) (n : List ℕ) → 1 ≤ s.changes → IsPlain s → is_built c ≡ true → allowed s c ≡ true → is_held (after s c) n ≡ true → brings_name n c ≡ false → is_held s n ≡ true
-was_held s (Begun body) n some p b h held none = let ts = parts (tests s (Begun body)) (allows s (Begun body) h).tests in absurd (omega (arith, some, eqb-true s.changes 0 ts.0))
-was_held s (Kept name len new body) n some p b h held none =
-    let c : Change = Kept name len new body in
+was_held s (Begun x) n some p b h held none = let ts = parts (tests s (Begun x)) (allows s (Begun x) h).tests in absurd (omega (arith, some, eqb-true s.changes 0 ts.0))
+was_held s (Kept y) n some p b h held none =
+    let c : Change = Kept y in
     let ts = parts (tests s c) (allows s c h).tests in
-    by_cases (name_eq name n)
-    (λ k. ap (is_held s) (sym (name_same name n k)) ∙ not_new (is_held s name) new ts.1.0 (flag new k none))
+    by_cases (name_eq y.name n)
+    (λ k. ap (is_held s) (sym (name_same y.name n k)) ∙ not_new (is_held s y.name) y.new ts.1.0 (flag y.new k (sym (brings_when y.new y.name n) ∙ none)))
     (λ k. held_before s c n
-    (λ a. sym (own_with_is (record { name = name; len = len; marked = false }) s.own n ∙ ap (λ x. own_has s.own n || x) k ∙ or_none (own_has s.own n)) ∙ a)
+    (λ a. sym (own_with_is (record { name = y.name; len = y.len; marked = false }) s.own n ∙ ap (λ x. own_has s.own n || x) k ∙ or_none (own_has s.own n)) ∙ a)
     (λ a. a) held)
   where
-    flag : (new : Bool) → name_eq name n ≡ true → brings_name n (Kept name len new body) ≡ false → new ≡ false
+    flag : (new : Bool) → name_eq y.name n ≡ true → (new && name_eq y.name n) ≡ false → new ≡ false
     flag true k e = absurd (false≢true (sym e ∙ k))
     flag false k e = refl
-was_held s (Snapped number ticket files folders bytes left names) n some p b h held none =
-    held_before s (Snapped number ticket files folders bytes left names) n (λ a. sym (marks_has (λ e. e.marked && not (name_listed names e.name)) s.own n) ∙ a) (λ a. a) held
-was_held s (Forgot number) n some p b h held none =
-    held_before s (Forgot number) n (λ a. sym (marks_has (λ e. e.marked || not (kept_lists (kept_without number s.kept) e.name)) s.own n) ∙ a) (λ a. a) held
-was_held s (Chose candidates) n some p b h held none = held_before s (Chose candidates) n (λ a. a) (λ a. a) held
-was_held s (TookFresh q deal name first len new body) n some p b h held none =
-    let c : Change = TookFresh q deal name first len new body in
+was_held s (Snapped x) n some p b h held none =
+    held_before s (Snapped x) n (λ a. sym (marks_has (λ e. e.marked && not (name_listed x.names e.name)) s.own n) ∙ a) (λ a. a) held
+was_held s (Forgot x) n some p b h held none =
+    held_before s (Forgot x) n (λ a. sym (marks_has (λ e. e.marked || not (kept_lists (kept_without x.number s.kept) e.name)) s.own n) ∙ a) (λ a. a) held
+was_held s (Chose x) n some p b h held none = held_before s (Chose x) n (λ a. a) (λ a. a) held
+was_held s (TookFresh y) n some p b h held none =
+    let c : Change = TookFresh y in
     let ts = parts (tests s c) (allows s c h).tests in
-    by_cases (name_eq name n)
-    (λ k. ap (is_held s) (sym (name_same name n k)) ∙ not_new (is_held s name) new ts.1.1.0 (flag new k none))
+    by_cases (name_eq y.name n)
+    (λ k. ap (is_held s) (sym (name_same y.name n k)) ∙ not_new (is_held s y.name) y.new ts.1.1.0 (flag y.new k (sym (brings_when y.new y.name n) ∙ none)))
     (λ k. held_before s c n (λ a. a)
-    (λ a. sym (held_more s c q n (name_eq name n) p.rows refl refl (allows s c h).peer (fresh_gains s q deal name first len new body n) ∙ ap (λ x. held_in s.rows n || x) k ∙ or_none (held_in s.rows n)) ∙ a)
+    (λ a. sym (held_more s c y.peer n (name_eq y.name n) p.rows refl refl (allows s c h).peer (fresh_gains s y.peer y.deal y.name y.first y.len y.new y.body n) ∙ ap (λ x. held_in s.rows n || x) k ∙ or_none (held_in s.rows n)) ∙ a)
     held)
   where
-    flag : (new : Bool) → name_eq name n ≡ true → brings_name n (TookFresh q deal name first len new body) ≡ false → new ≡ false
+    flag : (new : Bool) → name_eq y.name n ≡ true → (new && name_eq y.name n) ≡ false → new ≡ false
     flag true k e = absurd (false≢true (sym e ∙ k))
     flag false k e = refl
-was_held s (TookSwap q deal name numbers len new body) n some p b h held none =
-    let c : Change = TookSwap q deal name numbers len new body in
+was_held s (TookSwap y) n some p b h held none =
+    let c : Change = TookSwap y in
     let ts = parts (tests s c) (allows s c h).tests in
-    by_cases (name_eq name n)
-    (λ k. ap (is_held s) (sym (name_same name n k)) ∙ not_new (is_held s name) new ts.1.1.0 (flag new k none))
+    by_cases (name_eq y.name n)
+    (λ k. ap (is_held s) (sym (name_same y.name n k)) ∙ not_new (is_held s y.name) y.new ts.1.1.0 (flag y.new k (sym (brings_when y.new y.name n) ∙ none)))
     (λ k. held_before s c n (λ a. a)
-    (λ a. sym (held_more s c q n (name_eq name n) p.rows refl refl (allows s c h).peer (swap_gains s q deal name numbers len new body n) ∙ ap (λ x. held_in s.rows n || x) k ∙ or_none (held_in s.rows n)) ∙ a)
+    (λ a. sym (held_more s c y.peer n (name_eq y.name n) p.rows refl refl (allows s c h).peer (swap_gains s y.peer y.deal y.name y.slots y.len y.new y.body n) ∙ ap (λ x. held_in s.rows n || x) k ∙ or_none (held_in s.rows n)) ∙ a)
     held)
   where
-    flag : (new : Bool) → name_eq name n ≡ true → brings_name n (TookSwap q deal name numbers len new body) ≡ false → new ≡ false
+    flag : (new : Bool) → name_eq y.name n ≡ true → (new && name_eq y.name n) ≡ false → new ≡ false
     flag true k e = absurd (false≢true (sym e ∙ k))
     flag false k e = refl
-was_held s (LetGo q deal name numbers) n some p b h held none =
-    let c : Change = LetGo q deal name numbers in
-    held_before s c n (λ a. a) (held_less s c q name n p.rows refl refl (let_go_loses s q deal name numbers n)) held
-was_held s (LetGoBack q deal name numbers body) n some p b h held none =
-    let c : Change = LetGoBack q deal name numbers body in
-    held_before s c n (λ a. a) (held_less s c q name n p.rows refl refl (put_back_loses s q deal name numbers body n)) held
-was_held s (Refused q deal why detail) n some p b h held none =
-    let c : Change = Refused q deal why detail in
-    held_before s c n (λ a. a) (λ a. sym (held_as_before s c q n p.rows refl refl (allows s c h).peer (refused_gains s q deal why detail n)) ∙ a) held
-was_held s (Proposed q deal what) n some p b h held none =
-    let c : Change = Proposed q deal what in
-    held_before s c n (λ a. a) (λ a. sym (held_as_before s c q n p.rows b refl (allows s c h).peer (proposed_gains s q deal what n)) ∙ a) held
-was_held s (Settled q deal numbers body) n some p b h held none =
-    let c : Change = Settled q deal numbers body in
-    held_before s c n (λ a. a) (λ a. sym (held_as_before s c q n p.rows refl refl (allows s c h).peer (settled_gains s q deal numbers body n)) ∙ a) held
-was_held s (Turned q deal why detail) n some p b h held none =
-    let c : Change = Turned q deal why detail in
-    held_before s c n (λ a. a) (λ a. sym (held_as_before s c q n p.rows refl refl (allows s c h).peer (turned_gains s q deal why detail n)) ∙ a) held
+was_held s (LetGo x) n some p b h held none =
+    let c : Change = LetGo x in
+    held_before s c n (λ a. a) (held_less s c x.peer x.name n p.rows refl refl (let_go_loses s x.peer x.deal x.name x.slots n)) held
+was_held s (LetGoBack x) n some p b h held none =
+    let c : Change = LetGoBack x in
+    held_before s c n (λ a. a) (held_less s c x.peer x.name n p.rows refl refl (put_back_loses s x.peer x.deal x.name x.slots x.body n)) held
+was_held s (Refused x) n some p b h held none =
+    let c : Change = Refused x in
+    held_before s c n (λ a. a) (λ a. sym (held_as_before s c x.peer n p.rows refl refl (allows s c h).peer (refused_gains s x.peer x.deal x.why x.detail n)) ∙ a) held
+was_held s (Proposed x) n some p b h held none =
+    let c : Change = Proposed x in
+    held_before s c n (λ a. a) (λ a. sym (held_as_before s c x.peer n p.rows b refl (allows s c h).peer (proposed_gains s x.peer x.deal x.what n)) ∙ a) held
+was_held s (Settled x) n some p b h held none =
+    let c : Change = Settled x in
+    held_before s c n (λ a. a) (λ a. sym (held_as_before s c x.peer n p.rows refl refl (allows s c h).peer (settled_gains s x.peer x.deal x.slots x.body n)) ∙ a) held
+was_held s (Turned x) n some p b h held none =
+    let c : Change = Turned x in
+    held_before s c n (λ a. a) (λ a. sym (held_as_before s c x.peer n p.rows refl refl (allows s c h).peer (turned_gains s x.peer x.deal x.why x.detail n)) ∙ a) held
 was_held s _ n some p b h held none = absurd (false≢true b)
+
+-- a name that is brought is new only where it is not held
+held_not_new : (s : State) (name n : List ℕ) (new : Bool) → is_held s n ≡ true → cond (is_held s name) (not new) new ≡ true → (new && name_eq name n) ≡ false
+held_not_new s name n false held t = refl
+held_not_new s name n true held t =
+    by_cases (name_eq name n)
+    (λ k. let here : is_held s name ≡ true = ap (is_held s) (name_same name n k) ∙ held in
+    let bad = rw here at t in
+    absurd (false≢true bad))
+    (λ k. k)
 
 -- a held name is not brought again
 pub brings_none : (s : State) (c : Change) (n : List ℕ) → is_built c ≡ true → allowed s c ≡ true → is_held s n ≡ true → brings_name n c ≡ false
-brings_none s (Kept name len true body) n b h held =
-    let c : Change = Kept name len true body in
-    let ts = parts (tests s c) (allows s c h).tests in
-    by_cases (name_eq name n)
-    (λ k. let here : is_held s name ≡ true = ap (is_held s) (name_same name n k) ∙ held in
-    let bad = rw here at ts.1.0 in
-    absurd (false≢true bad))
-    (λ k. k)
-brings_none s (Kept name len false body) n b h held = refl
-brings_none s (TookFresh q deal name first len true body) n b h held =
-    let c : Change = TookFresh q deal name first len true body in
-    let ts = parts (tests s c) (allows s c h).tests in
-    by_cases (name_eq name n)
-    (λ k. let here : is_held s name ≡ true = ap (is_held s) (name_same name n k) ∙ held in
-    let bad = rw here at ts.1.1.0 in
-    absurd (false≢true bad))
-    (λ k. k)
-brings_none s (TookFresh q deal name first len false body) n b h held = refl
-brings_none s (TookSwap q deal name numbers len true body) n b h held =
-    let c : Change = TookSwap q deal name numbers len true body in
-    let ts = parts (tests s c) (allows s c h).tests in
-    by_cases (name_eq name n)
-    (λ k. let here : is_held s name ≡ true = ap (is_held s) (name_same name n k) ∙ held in
-    let bad = rw here at ts.1.1.0 in
-    absurd (false≢true bad))
-    (λ k. k)
-brings_none s (TookSwap q deal name numbers len false body) n b h held = refl
+brings_none s (Kept x) n b h held = let c : Change = Kept x in brings_when x.new x.name n ∙ held_not_new s x.name n x.new held (parts (tests s c) (allows s c h).tests).1.0
+brings_none s (TookFresh x) n b h held = let c : Change = TookFresh x in brings_when x.new x.name n ∙ held_not_new s x.name n x.new held (parts (tests s c) (allows s c h).tests).1.1.0
+brings_none s (TookSwap x) n b h held = let c : Change = TookSwap x in brings_when x.new x.name n ∙ held_not_new s x.name n x.new held (parts (tests s c) (allows s c h).tests).1.1.0
 brings_none s _ n b h held = refl

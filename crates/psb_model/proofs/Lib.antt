@@ -1,6 +1,7 @@
 pub mod ByObject
 pub mod ObjectOrder
 pub mod Parts
+pub mod Searched
 pub mod Tidy
 pub mod Standing
 pub mod Alone

@@ -5,7 +5,7 @@ use Rattle.std.specs.List.{list_all}
 use Rattle.std.proofs.lemmas.Bool.{false≢true, and_parts}
 use Rattle.psb_bytes.specs.declared.ids.Object.TheVariants.{Chunk}
 use Rattle.psb_model.specs.declared.entries.OwnEntry.{OwnEntry}
-use Rattle.psb_model.specs.declared.entries.Snapshot.{Snapshot}
+use Rattle.psb_model.specs.declared.snapshots.Snapshot.{Snapshot}
 use Rattle.psb_model.specs.declared.deals.Deal.{Deal}
 use Rattle.psb_model.specs.declared.change.Change.{Change}
 use Rattle.psb_model.specs.declared.change.Change.TheVariants.{Kept, Snapped, Forgot}
@@ -96,12 +96,12 @@ apart own a n lacks here = by_cases (name_eq a n) (λ k. absurd (false≢true (s
 
 -- own before what is given up
 pub own_after_keeps : (s : State) (c : Change) (n : List ℕ) → all_of (tests s c) ≡ true → own_has s.own n ≡ true → KeepsName s.own (own_after s c) n
-own_after_keeps s (Kept name len new body) n h here =
-    let ts = parts (tests s (Kept name len new body)) h in
-    let same = own_with_other (record { name = name; len = len; marked = false }) s.own n (apart s.own name n (not_true (own_has s.own name) ts.0) here) in
+own_after_keeps s (Kept x) n h here =
+    let ts = parts (tests s (Kept x)) h in
+    let same = own_with_other (record { name = x.name; len = x.len; marked = false }) s.own n (apart s.own x.name n (not_true (own_has s.own x.name) ts.0) here) in
     record { has = same.0 ∙ here; len = same.1 }
-own_after_keeps s (Snapped number ticket files folders bytes left names) n h here = marks_keep (λ e. e.marked && not (name_listed names e.name)) s.own n here
-own_after_keeps s (Forgot number) n h here = marks_keep (λ e. e.marked || not (kept_lists (kept_without number s.kept) e.name)) s.own n here
+own_after_keeps s (Snapped x) n h here = marks_keep (λ e. e.marked && not (name_listed x.names e.name)) s.own n here
+own_after_keeps s (Forgot x) n h here = marks_keep (λ e. e.marked || not (kept_lists (kept_without x.number s.kept) e.name)) s.own n here
 own_after_keeps s _ n h here = record { has = here; len = refl }
 
 -- WANTED
@@ -134,25 +134,25 @@ listed_own own (x ∷ xs) n a l =
 
 -- what is wanted after a change is unmarked then, as it was before if it was wanted
 pub wanted_after : (s : State) (c : Change) (n : List ℕ) → ((x : List ℕ) → kept_lists s.kept x ≡ true → IsUnmarked s.own x) → all_of (tests s c) ≡ true → kept_lists (kept_after s c) n ≡ true → IsUnmarked (own_after s c) n
-wanted_after s (Kept name len new body) n f h w =
-    let ts = parts (tests s (Kept name len new body)) h in
+wanted_after s (Kept x) n f h w =
+    let ts = parts (tests s (Kept x)) h in
     let u = f n w in
-    let same = own_with_other (record { name = name; len = len; marked = false }) s.own n (apart s.own name n (not_true (own_has s.own name) ts.0) u.has) in
+    let same = own_with_other (record { name = x.name; len = x.len; marked = false }) s.own n (apart s.own x.name n (not_true (own_has s.own x.name) ts.0) u.has) in
     record { has = same.0 ∙ u.has; free = same.2 ∙ u.free }
-wanted_after s (Snapped number ticket files folders bytes left names) n f h w =
-    let ts = parts (tests s (Snapped number ticket files folders bytes left names)) h in
+wanted_after s (Snapped x) n f h w =
+    let ts = parts (tests s (Snapped x)) h in
     ⊎_elim
-    (λ (a : kept_lists s.kept n ≡ true). let u = f n a in marks_free (λ e. e.marked && not (name_listed names e.name)) s.own n u.has (λ e _ m. rw (m ∙ u.free) refl))
-    (λ (b : name_listed names n ≡ true). marks_free (λ e. e.marked && not (name_listed names e.name)) s.own n (listed_own s.own names n ts.1.1.0 b) (λ e same _. let l : name_listed names e.name ≡ true = ap (name_listed names) same ∙ b in and_false e.marked (name_listed names e.name) l))
-    (wanted_more s.kept (record { number = number; ticket = ticket; files = files; folders = folders; bytes = bytes; left = left; names = names }) n w)
+    (λ (a : kept_lists s.kept n ≡ true). let u = f n a in marks_free (λ e. e.marked && not (name_listed x.names e.name)) s.own n u.has (λ e _ m. rw (m ∙ u.free) refl))
+    (λ (b : name_listed x.names n ≡ true). marks_free (λ e. e.marked && not (name_listed x.names e.name)) s.own n (listed_own s.own x.names n ts.1.1.0 b) (λ e same _. let l : name_listed x.names e.name ≡ true = ap (name_listed x.names) same ∙ b in and_false e.marked (name_listed x.names e.name) l))
+    (wanted_more s.kept (record { number = x.number; ticket = x.ticket; files = x.files; folders = x.folders; bytes = x.bytes; left = x.left; names = x.names }) n w)
   where
     and_false : (m b : Bool) → b ≡ true → (m && not b) ≡ false
     and_false true b h = rw h refl
     and_false false b h = refl
-wanted_after s (Forgot number) n f h w =
-    let u = f n (wanted_less number s.kept n w) in
-    marks_free (λ e. e.marked || not (kept_lists (kept_without number s.kept) e.name)) s.own n u.has
-    (λ e same m. let l : kept_lists (kept_without number s.kept) e.name ≡ true = ap (kept_lists (kept_without number s.kept)) same ∙ w in rw (m ∙ u.free, l) refl)
+wanted_after s (Forgot x) n f h w =
+    let u = f n (wanted_less x.number s.kept n w) in
+    marks_free (λ e. e.marked || not (kept_lists (kept_without x.number s.kept) e.name)) s.own n u.has
+    (λ e same m. let l : kept_lists (kept_without x.number s.kept) e.name ≡ true = ap (kept_lists (kept_without x.number s.kept)) same ∙ w in rw (m ∙ u.free, l) refl)
 wanted_after s _ n f h w = f n w
 
 -- the pending deal of a row names its chunk

@@ -132,11 +132,11 @@ settles_release None = false
 settles_release (Some d) = elim d.what [ Cancel name numbers ↦ true | PutBack name first ↦ true | _ ↦ false ]
 
 abbrev pub places_marked : State → Change → Bool
-places_marked s (Settled p deal numbers body) = settles_marked s (row s p).pending
+places_marked s (Settled x) = settles_marked s (row s x.peer).pending
 places_marked s _ = false
 
 abbrev pub releases : State → Change → Bool
-releases s (Settled p deal numbers body) = settles_release (row s p).pending
+releases s (Settled x) = settles_release (row s x.peer).pending
 releases s _ = false
 
 settle_marks : (test : List ℕ → Bool) (s : State) (r : Row) (o : Option Deal) (numbers : List ℕ) → settles_marked s o ≡ false → none_marked test s.own r.outs ≡ true → none_marked test s.own (after_move (settle_move s r o numbers) r).outs ≡ true
@@ -166,46 +166,46 @@ settle_keeps s r (Some d) numbers n m h = by_what d.what m
 -- ---- the row of the peer
 
 row_marks : (test : List ℕ → Bool) (s : State) (c : Change) (p : ℕ) → is_built c ≡ true → peer_of c ≡ Some p → places_marked s c ≡ false → none_marked test s.own (row s p).outs ≡ true → none_marked test s.own (changed s c (row s p)).outs ≡ true
-row_marks test s (Begun body) p b e m h = absurd (cc (e))
-row_marks test s (Kept name len new body) p b e m h = absurd (cc (e))
-row_marks test s (Snapped number ticket files folders bytes left names) p b e m h = absurd (cc (e))
-row_marks test s (Forgot number) p b e m h = absurd (cc (e))
-row_marks test s (Chose candidates) p b e m h = absurd (cc (e))
-row_marks test s (TookFresh q deal name first len new body) p b e m h = none_slots test s.own first (units len) (without out_key [] (row s p).outs) (none_left test s.own [] (row s p).outs h)
-row_marks test s (TookSwap q deal name numbers len new body) p b e m h = none_left test s.own [] (row s p).outs h
-row_marks test s (LetGo q deal name numbers) p b e m h = none_left test s.own (slots numbers) (row s p).outs h
-row_marks test s (LetGoBack q deal name numbers body) p b e m h = none_left test s.own [] (row s p).outs h
-row_marks test s (Refused q deal why detail) p b e m h = none_left test s.own [] (row s p).outs h
-row_marks test s (Proposed q deal what) p b e m h = none_left test s.own [] (row s p).outs h
-row_marks test s (Turned q deal why detail) p b e m h = none_left test s.own [] (row s p).outs h
-row_marks test s (Settled q deal numbers body) p b e m h =
-    let same : q ≡ p = cc (e) in
+row_marks test s (Begun x) p b e m h = absurd (cc (e))
+row_marks test s (Kept x) p b e m h = absurd (cc (e))
+row_marks test s (Snapped x) p b e m h = absurd (cc (e))
+row_marks test s (Forgot x) p b e m h = absurd (cc (e))
+row_marks test s (Chose x) p b e m h = absurd (cc (e))
+row_marks test s (TookFresh x) p b e m h = none_slots test s.own x.first (units x.len) (without out_key [] (row s p).outs) (none_left test s.own [] (row s p).outs h)
+row_marks test s (TookSwap x) p b e m h = none_left test s.own [] (row s p).outs h
+row_marks test s (LetGo x) p b e m h = none_left test s.own (slots x.slots) (row s p).outs h
+row_marks test s (LetGoBack x) p b e m h = none_left test s.own [] (row s p).outs h
+row_marks test s (Refused x) p b e m h = none_left test s.own [] (row s p).outs h
+row_marks test s (Proposed x) p b e m h = none_left test s.own [] (row s p).outs h
+row_marks test s (Turned x) p b e m h = none_left test s.own [] (row s p).outs h
+row_marks test s (Settled y) p b e m h =
+    let same : y.peer ≡ p = cc (e) in
     let m' = subst (λ x. settles_marked s (row s x).pending ≡ false) same m in
-    subst (λ x. none_marked test s.own (after_move (settle_move s (row s x) (row s x).pending numbers) (row s p)).outs ≡ true) (sym same) (settle_marks test s (row s p) (row s p).pending numbers m' h)
+    subst (λ x. none_marked test s.own (after_move (settle_move s (row s x) (row s x).pending y.slots) (row s p)).outs ≡ true) (sym same) (settle_marks test s (row s p) (row s p).pending y.slots m' h)
 row_marks test s _ p b e m h = absurd (false≢true b)
 
 row_keeps : (s : State) (c : Change) (p : ℕ) → AllPlain s.own s.rows → is_built c ≡ true → peer_of c ≡ Some p → releases s c ≡ false → RowKeeps (row s p) (changed s c (row s p))
-row_keeps s (Begun body) p plain b e m = absurd (cc (e))
-row_keeps s (Kept name len new body) p plain b e m = absurd (cc (e))
-row_keeps s (Snapped number ticket files folders bytes left names) p plain b e m = absurd (cc (e))
-row_keeps s (Forgot number) p plain b e m = absurd (cc (e))
-row_keeps s (Chose candidates) p plain b e m = absurd (cc (e))
-row_keeps s (TookFresh q deal name first len new body) p plain b e m = record { outs = λ n h. more_slots first (units len) (without out_key [] (row s p).outs) n (slots_left [] (row s p).outs n h); debts = (plain_row_in s.own s.rows p plain).debts; barred = λ n h. h }
-row_keeps s (TookSwap q deal name numbers len new body) p plain b e m = record { outs = λ n h. slots_left [] (row s p).outs n h; debts = (plain_row_in s.own s.rows p plain).debts; barred = λ n h. h }
-row_keeps s (LetGo q deal name numbers) p plain b e m = record { outs = λ n h. slots_left numbers (row s p).outs n h; debts = (plain_row_in s.own s.rows p plain).debts; barred = λ n h. h }
-row_keeps s (LetGoBack q deal name numbers body) p plain b e m = record { outs = λ n h. slots_left [] (row s p).outs n h; debts = (plain_row_in s.own s.rows p plain).debts; barred = λ n h. h }
-row_keeps s (Refused q deal why detail) p plain b e m = record { outs = λ n h. slots_left [] (row s p).outs n h; debts = (plain_row_in s.own s.rows p plain).debts; barred = λ n h. h }
-row_keeps s (Proposed q deal what) p plain b e m = record { outs = λ n h. slots_left [] (row s p).outs n h; debts = (plain_row_in s.own s.rows p plain).debts; barred = λ n h. h }
-row_keeps s (Turned q deal why detail) p plain b e m = record {
+row_keeps s (Begun x) p plain b e m = absurd (cc (e))
+row_keeps s (Kept x) p plain b e m = absurd (cc (e))
+row_keeps s (Snapped x) p plain b e m = absurd (cc (e))
+row_keeps s (Forgot x) p plain b e m = absurd (cc (e))
+row_keeps s (Chose x) p plain b e m = absurd (cc (e))
+row_keeps s (TookFresh x) p plain b e m = record { outs = λ n h. more_slots x.first (units x.len) (without out_key [] (row s p).outs) n (slots_left [] (row s p).outs n h); debts = (plain_row_in s.own s.rows p plain).debts; barred = λ n h. h }
+row_keeps s (TookSwap x) p plain b e m = record { outs = λ n h. slots_left [] (row s p).outs n h; debts = (plain_row_in s.own s.rows p plain).debts; barred = λ n h. h }
+row_keeps s (LetGo x) p plain b e m = record { outs = λ n h. slots_left x.slots (row s p).outs n h; debts = (plain_row_in s.own s.rows p plain).debts; barred = λ n h. h }
+row_keeps s (LetGoBack x) p plain b e m = record { outs = λ n h. slots_left [] (row s p).outs n h; debts = (plain_row_in s.own s.rows p plain).debts; barred = λ n h. h }
+row_keeps s (Refused x) p plain b e m = record { outs = λ n h. slots_left [] (row s p).outs n h; debts = (plain_row_in s.own s.rows p plain).debts; barred = λ n h. h }
+row_keeps s (Proposed x) p plain b e m = record { outs = λ n h. slots_left [] (row s p).outs n h; debts = (plain_row_in s.own s.rows p plain).debts; barred = λ n h. h }
+row_keeps s (Turned y) p plain b e m = record {
   outs = λ n h. slots_left [] (row s p).outs n h;
   debts = (plain_row_in s.own s.rows p plain).debts;
-  barred = λ n h. by_cases (nat_le 2 why && nat_le why 4) (λ k. rw k (any_append (λ (x : List ℕ × ℕ). name_eq x.0 n) (row s p).barred _ h)) (λ k. rw k h);
+  barred = λ n h. by_cases (nat_le 2 y.why && nat_le y.why 4) (λ k. rw k (any_append (λ (x : List ℕ × ℕ). name_eq x.0 n) (row s p).barred _ h)) (λ k. rw k h);
 }
-row_keeps s (Settled q deal numbers body) p plain b e m =
-    let same : q ≡ p = cc (e) in
+row_keeps s (Settled y) p plain b e m =
+    let same : y.peer ≡ p = cc (e) in
     let m' = subst (λ x. settles_release (row s x).pending ≡ false) same m in
     record {
-      outs = λ n h. subst (λ x. has out_key (after_move (settle_move s (row s x) (row s x).pending numbers) (row s p)).outs (Chunk n) ≡ true) (sym same) (settle_keeps s (row s p) (row s p).pending numbers n m' h);
+      outs = λ n h. subst (λ x. has out_key (after_move (settle_move s (row s x) (row s x).pending y.slots) (row s p)).outs (Chunk n) ≡ true) (sym same) (settle_keeps s (row s p) (row s p).pending y.slots n m' h);
       debts = (plain_row_in s.own s.rows p plain).debts;
       barred = λ n h. h;
     }

@@ -210,8 +210,8 @@ settled_alike p None rows = alike_rows_self rows
 settled_alike p (Some d) rows = settle_states_alike p d.what d.number rows
 
 pub states_alike : (s : State) (c : Change) (rows : List (ℕ × Row)) → AlikeRows rows (states_of s c rows)
-states_alike s (Replaced p deal slot place home body) rows = at_row_alike p _ (relabel_in_alike (Slot slot) (cond (place == 0) at.Direct (at.Home home))) rows
-states_alike s (Settled p deal numbers body) rows = settled_alike p (row s p).pending rows
+states_alike s (Replaced x) rows = at_row_alike x.peer _ (relabel_in_alike (Slot x.slot) (cond (x.place == 0) at.Direct (at.Home x.home))) rows
+states_alike s (Settled x) rows = settled_alike x.peer (row s x.peer).pending rows
 states_alike s _ rows = alike_rows_self rows
 
 loose_alike : (o : Object) (r : Row) → Alike r (relabel_debt o on.Loose (relabel_out o on.Loose r))
@@ -237,20 +237,20 @@ same_lists_self : (r : Row) → SameLists r r
 same_lists_self r = record { ins = refl; outs = refl; debts = refl }
 
 pub note_lists : (s : State) (c : Change) (r : Row) → SameLists r (note_of s c r)
-note_lists s (TookFresh p deal name first len new body) r = record { ins = refl; outs = refl; debts = refl }
-note_lists s (TookSwap p deal name numbers len new body) r = record { ins = refl; outs = refl; debts = refl }
-note_lists s (LetGo p deal name numbers) r = record { ins = refl; outs = refl; debts = refl }
-note_lists s (LetGoBack p deal name numbers body) r = record { ins = refl; outs = refl; debts = refl }
-note_lists s (Replaced p deal slot place home body) r = record { ins = refl; outs = refl; debts = refl }
-note_lists s (Refused p deal why detail) r = record { ins = refl; outs = refl; debts = refl }
-note_lists s (Proposed p deal what) r = record { ins = refl; outs = refl; debts = refl }
-note_lists s (Settled p deal numbers body) r = record { ins = refl; outs = refl; debts = refl }
-note_lists s (Turned p deal why detail) r = record { ins = refl; outs = refl; debts = refl }
-note_lists s (Asked p objects) r = record { ins = refl; outs = refl; debts = refl }
-note_lists s (Passed p asked objects) r = by_cases (asked == 0) (λ k. rw k (same_lists_self r)) (λ k. rw k (record { ins = refl; outs = refl; debts = refl }))
-note_lists s (Failed p asked how got objects) r = record { ins = refl; outs = refl; debts = refl }
-note_lists s (Declined p asked places) r = record { ins = refl; outs = refl; debts = refl }
-note_lists s (Discarded p objects) r = record { ins = refl; outs = refl; debts = refl }
+note_lists s (TookFresh x) r = record { ins = refl; outs = refl; debts = refl }
+note_lists s (TookSwap x) r = record { ins = refl; outs = refl; debts = refl }
+note_lists s (LetGo x) r = record { ins = refl; outs = refl; debts = refl }
+note_lists s (LetGoBack x) r = record { ins = refl; outs = refl; debts = refl }
+note_lists s (Replaced x) r = record { ins = refl; outs = refl; debts = refl }
+note_lists s (Refused x) r = record { ins = refl; outs = refl; debts = refl }
+note_lists s (Proposed x) r = record { ins = refl; outs = refl; debts = refl }
+note_lists s (Settled x) r = record { ins = refl; outs = refl; debts = refl }
+note_lists s (Turned x) r = record { ins = refl; outs = refl; debts = refl }
+note_lists s (Asked x) r = record { ins = refl; outs = refl; debts = refl }
+note_lists s (Passed x) r = by_cases (x.asked == 0) (λ k. rw k (same_lists_self r)) (λ k. rw k (record { ins = refl; outs = refl; debts = refl }))
+note_lists s (Failed x) r = record { ins = refl; outs = refl; debts = refl }
+note_lists s (Declined x) r = record { ins = refl; outs = refl; debts = refl }
+note_lists s (Discarded x) r = record { ins = refl; outs = refl; debts = refl }
 note_lists s _ r = same_lists_self r
 
 -- facts of the lists carry over

@@ -76,9 +76,9 @@ same_stands s p issued' le b d e =
     (record { outs = λ o h. refl; ins = λ o h. refl; late = λ o old none. omega (arith, w.outs o, w.debts o, none) })
     (b.stands d e)
 
-pub step_fresh : (s : State) (p deal : ℕ) (name : List ℕ) (first len : ℕ) (new : Bool) (body : Option (List ℕ)) → Before s p → all_of (tests s (TookFresh p deal name first len new body)) ≡ true → Step s (TookFresh p deal name first len new body) p
+pub step_fresh : (s : State) (p deal : ℕ) (name : List ℕ) (first len : ℕ) (new : Bool) (body : Option (List ℕ)) → Before s p → all_of (tests s (TookFresh (record { peer = p; deal = deal; name = name; first = first; len = len; new = new; body = body }))) ≡ true → Step s (TookFresh (record { peer = p; deal = deal; name = name; first = first; len = len; new = new; body = body })) p
 step_fresh s p deal name first len new body b h =
-    let ts = parts (tests s (TookFresh p deal name first len new body)) h in
+    let ts = parts (tests s (TookFresh (record { peer = p; deal = deal; name = name; first = first; len = len; new = new; body = body }))) h in
     let same : first ≡ s.issued = eqb-true first s.issued ts.1.1.1.1.1.0 in
     let r = row s p in
     let u = units len in
@@ -96,9 +96,9 @@ step_fresh s p deal name first len new body b h =
     late_slot s r u n k x y d range old none is le =
         by_cases (leb 1 k) (λ j. absurd (omega (arith, range.low (leb-true 1 k j)))) (λ j. omega (arith, none_left k j))
 
-pub step_swap : (s : State) (p deal : ℕ) (name : List ℕ) (numbers : List ℕ) (len : ℕ) (new : Bool) (body : Option (List ℕ)) → Before s p → in_grammar (TookSwap p deal name numbers len new body) ≡ true → all_of (tests s (TookSwap p deal name numbers len new body)) ≡ true → Step s (TookSwap p deal name numbers len new body) p
+pub step_swap : (s : State) (p deal : ℕ) (name : List ℕ) (numbers : List ℕ) (len : ℕ) (new : Bool) (body : Option (List ℕ)) → Before s p → in_grammar (TookSwap (record { peer = p; deal = deal; name = name; slots = numbers; len = len; new = new; body = body })) ≡ true → all_of (tests s (TookSwap (record { peer = p; deal = deal; name = name; slots = numbers; len = len; new = new; body = body }))) ≡ true → Step s (TookSwap (record { peer = p; deal = deal; name = name; slots = numbers; len = len; new = new; body = body })) p
 step_swap s p deal name numbers len new body b g h =
-    let ts = parts (tests s (TookSwap p deal name numbers len new body)) h in
+    let ts = parts (tests s (TookSwap (record { peer = p; deal = deal; name = name; slots = numbers; len = len; new = new; body = body }))) h in
     let asc : ascend numbers ≡ true = numbers_ascend numbers (and_parts (chunk_fits len new body) (numbers_listed numbers) g).1 in
     let r = row s p in
     let m : Move = swap_move numbers name (units len) in
@@ -130,9 +130,9 @@ no_chunk_tied p (Forward slot entry) (Chunk c) name h = absurd (false≢true (sy
     forward_case false n c = refl
 no_chunk_tied p (Return slot) (Chunk c) name h = absurd (false≢true h)
 
-pub step_let_go : (s : State) (p deal : ℕ) (name : List ℕ) (numbers : List ℕ) → Before s p → ascend numbers ≡ true → all_of (tests s (LetGo p deal name numbers)) ≡ true → Step s (LetGo p deal name numbers) p
+pub step_let_go : (s : State) (p deal : ℕ) (name : List ℕ) (numbers : List ℕ) → Before s p → ascend numbers ≡ true → all_of (tests s (LetGo (record { peer = p; deal = deal; name = name; slots = numbers }))) ≡ true → Step s (LetGo (record { peer = p; deal = deal; name = name; slots = numbers })) p
 step_let_go s p deal name numbers b asc h =
-    let ts = parts (tests s (LetGo p deal name numbers)) h in
+    let ts = parts (tests s (LetGo (record { peer = p; deal = deal; name = name; slots = numbers }))) h in
     let r = row s p in
     let m : Move = let_go_move name numbers in
     let t : IsTidy s.issued (after_move m r) = tidy_let_go s.issued numbers name r b.tidy asc (λ o k. has_so-has out_key carries_none r.outs o (each_slot-listed (has_so out_key carries_none r.outs) numbers o ts.1.1.0 k)) (eqb-true (length numbers) (units_at in_key in_size r.ins (Chunk name)) ts.1.1.1.1.0) in
@@ -149,9 +149,9 @@ step_let_go s p deal name numbers b asc h =
           (b.stands d e);
     }
 
-pub step_let_go_back : (s : State) (p deal : ℕ) (name : List ℕ) (numbers : List ℕ) (body : Option (List ℕ)) → Before s p → ascend numbers ≡ true → all_of (tests s (LetGoBack p deal name numbers body)) ≡ true → Step s (LetGoBack p deal name numbers body) p
+pub step_let_go_back : (s : State) (p deal : ℕ) (name : List ℕ) (numbers : List ℕ) (body : Option (List ℕ)) → Before s p → ascend numbers ≡ true → all_of (tests s (LetGoBack (record { peer = p; deal = deal; name = name; slots = numbers; body = body }))) ≡ true → Step s (LetGoBack (record { peer = p; deal = deal; name = name; slots = numbers; body = body })) p
 step_let_go_back s p deal name numbers body b asc h =
-    let ts = parts (tests s (LetGoBack p deal name numbers body)) h in
+    let ts = parts (tests s (LetGoBack (record { peer = p; deal = deal; name = name; slots = numbers; body = body }))) h in
     let r = row s p in
     let m : Move = put_back_move name numbers in
     let t : IsTidy s.issued (after_move m r) = tidy_put_back s.issued numbers name r b.tidy asc (λ o. each_slot-listed (λ x. not (has in_key r.ins x)) numbers o ts.1.1.0) (eqb-true (length numbers) (units_at in_key in_size r.ins (Chunk name)) ts.1.1.1.0) in
@@ -215,9 +215,9 @@ listed_in key (x ∷ xs) o h =
     (λ k. (x, inl refl, object_eq-same (key x) o k))
     (λ k. let h' = rw k at h in let there = listed_in key xs o h' in (there.0, inr there.1, there.2))
 
-pub step_discards : (s : State) (p : ℕ) (objects : List Object) → Before s p → objects_distinct objects ≡ true → all_of (tests s (Discarded p objects)) ≡ true → Step s (Discarded p objects) p
+pub step_discards : (s : State) (p : ℕ) (objects : List Object) → Before s p → objects_distinct objects ≡ true → all_of (tests s (Discarded (record { peer = p; objects = objects }))) ≡ true → Step s (Discarded (record { peer = p; objects = objects })) p
 step_discards s p objects b distinct h =
-    let ts = parts (tests s (Discarded p objects)) h in
+    let ts = parts (tests s (Discarded (record { peer = p; objects = objects }))) h in
     let r = row s p in
     let q : InEntry → Bool = λ e. not (tied_in s p e.object) in
     let words = own_word (seed s.settings) s.changes in
@@ -253,7 +253,7 @@ once_here : {E : Type 0} (key : E → Object) (l : List E) (o : Object) → occu
 once_here key l o once h = omega (arith, once, has-occurs key l o h)
 
 -- what a proposed deal stands for holds of it
-stands_proposed : (s : State) (p deal : ℕ) (what : DealWhat) → Before s p → in_grammar (Proposed p deal what) ≡ true → ((n : List ℕ) → is_wanted s n ≡ true → own_has s.own n ≡ true) → all_of (propose_tests s p what) ≡ true → StandsFor (issued_after s (Proposed p deal what)) s.own (row s p) what
+stands_proposed : (s : State) (p deal : ℕ) (what : DealWhat) → Before s p → in_grammar (Proposed (record { peer = p; deal = deal; what = what })) ≡ true → ((n : List ℕ) → is_wanted s n ≡ true → own_has s.own n ≡ true) → all_of (propose_tests s p what) ≡ true → StandsFor (issued_after s (Proposed (record { peer = p; deal = deal; what = what }))) s.own (row s p) what
 stands_proposed s p deal (Fresh name) b g wanted h = stands_fresh s p name (parts (propose_tests s p (Fresh name)) h).0
 stands_proposed s p deal (Swap name numbers) b g wanted h =
     let ts = parts (propose_tests s p (Swap name numbers)) h in
@@ -284,7 +284,7 @@ stands_proposed s p deal (PutBack name first) b g wanted h =
 stands_proposed s p deal (Forward slot entry) b g wanted h = tt
 stands_proposed s p deal (Return slot) b g wanted h = tt
 
-issued_grows : (s : State) (p deal : ℕ) (what : DealWhat) → s.issued ≤ issued_after s (Proposed p deal what)
+issued_grows : (s : State) (p deal : ℕ) (what : DealWhat) → s.issued ≤ issued_after s (Proposed (record { peer = p; deal = deal; what = what }))
 issued_grows s p deal (Fresh name) = omega arith
 issued_grows s p deal (Swap name numbers) = omega arith
 issued_grows s p deal (Cancel name numbers) = omega arith
@@ -304,15 +304,15 @@ stands_over_still s p issued' what t le st =
 pub some_same : (a b : Deal) → Some a ≡ Some b → a.what ≡ b.what
 some_same a b h = let e : a ≡ b = cc in ap (λ (d : Deal). d.what) e
 
-pub step_proposes : (s : State) (p deal : ℕ) (what : DealWhat) → Before s p → in_grammar (Proposed p deal what) ≡ true → ((n : List ℕ) → is_wanted s n ≡ true → own_has s.own n ≡ true) → all_of (tests s (Proposed p deal what)) ≡ true → Step s (Proposed p deal what) p
+pub step_proposes : (s : State) (p deal : ℕ) (what : DealWhat) → Before s p → in_grammar (Proposed (record { peer = p; deal = deal; what = what })) ≡ true → ((n : List ℕ) → is_wanted s n ≡ true → own_has s.own n ≡ true) → all_of (tests s (Proposed (record { peer = p; deal = deal; what = what }))) ≡ true → Step s (Proposed (record { peer = p; deal = deal; what = what })) p
 step_proposes s p deal what b g wanted h =
-    let ts = parts (tests s (Proposed p deal what)) h in
+    let ts = parts (tests s (Proposed (record { peer = p; deal = deal; what = what }))) h in
     let le = issued_grows s p deal what in
-    let st = stands_over_still s p (issued_after s (Proposed p deal what)) what b.tidy le (stands_proposed s p deal what b g wanted ts.1.1.0) in
+    let st = stands_over_still s p (issued_after s (Proposed (record { peer = p; deal = deal; what = what }))) what b.tidy le (stands_proposed s p deal what b g wanted ts.1.1.0) in
     record {
       weighs = weighs (row s p) still refl refl (omega arith);
-      tidy = tidy_later s.issued (issued_after s (Proposed p deal what)) _ le (tidy_still s.issued (row s p) b.tidy);
-      stands = λ d e. subst (λ x. StandsFor (issued_after s (Proposed p deal what)) s.own (after_move still (row s p)) x) (some_same (record { number = deal; what = what }) d e) st;
+      tidy = tidy_later s.issued (issued_after s (Proposed (record { peer = p; deal = deal; what = what }))) _ le (tidy_still s.issued (row s p) b.tidy);
+      stands = λ d e. subst (λ x. StandsFor (issued_after s (Proposed (record { peer = p; deal = deal; what = what }))) s.own (after_move still (row s p)) x) (some_same (record { number = deal; what = what }) d e) st;
     }
 
 -- SETTLING
@@ -335,9 +335,9 @@ settled_weighs s p (PutBack name first) number numbers st = weighs (row s p) (se
 settled_weighs s p (Forward slot entry) number numbers st = weighs (row s p) still refl refl (omega arith)
 settled_weighs s p (Return slot) number numbers st = weighs (row s p) still refl refl (omega arith)
 
-pub step_settles : (s : State) (p deal : ℕ) (numbers : List ℕ) (body : Option (List ℕ)) → Before s p → ascend numbers ≡ true → all_of (tests s (Settled p deal numbers body)) ≡ true → Step s (Settled p deal numbers body) p
+pub step_settles : (s : State) (p deal : ℕ) (numbers : List ℕ) (body : Option (List ℕ)) → Before s p → ascend numbers ≡ true → all_of (tests s (Settled (record { peer = p; deal = deal; slots = numbers; body = body }))) ≡ true → Step s (Settled (record { peer = p; deal = deal; slots = numbers; body = body })) p
 step_settles s p deal numbers body b asc h =
-    let ts = parts (tests s (Settled p deal numbers body)) h in
+    let ts = parts (tests s (Settled (record { peer = p; deal = deal; slots = numbers; body = body }))) h in
     record {
       weighs = weigh_deal (row s p).pending refl;
       tidy = by_deal (row s p).pending refl ts.1.0;

@@ -8,7 +8,7 @@ use Rattle.psb_bytes.specs.declared.ids.Object.TheVariants.{Chunk, Slot}
 use Rattle.psb_model.specs.declared.entries.InEntry.{InEntry}
 use Rattle.psb_model.specs.declared.entries.OutEntry.{OutEntry}
 use Rattle.psb_model.specs.declared.entries.DebtEntry.{DebtEntry}
-use Rattle.psb_model.specs.declared.entries.Snapshot.{Snapshot}
+use Rattle.psb_model.specs.declared.snapshots.Snapshot.{Snapshot}
 use Rattle.psb_settings.specs.declared.settings.Settings.{Settings}
 use Rattle.psb_model.specs.declared.entries.Candidate.{Candidate}
 use Rattle.psb_model.specs.declared.deals.Deal.{Deal}
@@ -21,31 +21,31 @@ use Rattle.psb_model.specs.declared.change.Change.{Change}
 use Rattle.psb_model.specs.declared.change.Change.TheVariants.{Begun, Kept, Snapped, Forgot, TookFresh, TookSwap, LetGo, LetGoBack, Replaced, Refused, Proposed, Settled, Turned, Asked, Passed, Failed, Declined, Discarded, Chose}
 use Rattle.psb_settings.specs.Settings.{settings_of}
 use Rattle.psb_model.specs.Words.{units, object_eq, all_of, has, has_so, units_at}
-use Rattle.psb_model.specs.State.{Row, State, row, is_peer, in_key, in_size, out_key, out_size, debt_key, debt_units, own_has, own_marked, own_len, is_held, is_wanted, is_barred, snaps_made, tied_in, tied_out, used}
+use Rattle.psb_model.specs.State.{Row, State, row, is_peer, in_key, in_size, out_key, out_size, debt_key, debt_units, own_has, own_marked, own_len, is_held, is_wanted, is_barred, snaps_made, tied_in, tied_out, ties_out, coming, used}
 use Rattle.psb_model.specs.Discards.{discards}
 use Rattle.psb_model.specs.Candidates.{in_select_order, distinct_peers}
 
 -- the peer of a change that has one
 abbrev pub peer_of : Change → Option ℕ
-peer_of (TookFresh p deal name first len new body) = Some p
-peer_of (TookSwap p deal name numbers len new body) = Some p
-peer_of (LetGo p deal name numbers) = Some p
-peer_of (LetGoBack p deal name numbers body) = Some p
-peer_of (Replaced p deal slot place home body) = Some p
-peer_of (Refused p deal why detail) = Some p
-peer_of (Proposed p deal what) = Some p
-peer_of (Settled p deal numbers body) = Some p
-peer_of (Turned p deal why detail) = Some p
-peer_of (Asked p objects) = Some p
-peer_of (Passed p asked objects) = Some p
-peer_of (Failed p asked how got objects) = Some p
-peer_of (Declined p asked places) = Some p
-peer_of (Discarded p objects) = Some p
+peer_of (TookFresh x) = Some x.peer
+peer_of (TookSwap x) = Some x.peer
+peer_of (LetGo x) = Some x.peer
+peer_of (LetGoBack x) = Some x.peer
+peer_of (Replaced x) = Some x.peer
+peer_of (Refused x) = Some x.peer
+peer_of (Proposed x) = Some x.peer
+peer_of (Settled x) = Some x.peer
+peer_of (Turned x) = Some x.peer
+peer_of (Asked x) = Some x.peer
+peer_of (Passed x) = Some x.peer
+peer_of (Failed x) = Some x.peer
+peer_of (Declined x) = Some x.peer
+peer_of (Discarded x) = Some x.peer
 peer_of _ = None
 
 -- the first change, which has the settings
 abbrev pub is_begun : Change → Bool
-is_begun (Begun body) = true
+is_begun (Begun x) = true
 is_begun _ = false
 
 -- what the settings text says, if it says settings
@@ -162,13 +162,16 @@ abbrev pub is_pending : Option Deal → ℕ → Bool
 is_pending None deal = false
 is_pending (Some d) deal = d.number == deal
 
--- a settled Fresh brings as many new slots as its chunk has units; no other deal brings slots
-abbrev pub may_settle : State → ℕ → Option Deal → List ℕ → Bool
-may_settle s p None numbers = false
-may_settle s p (Some d) numbers = elim d.what [
-  | Fresh name ↦ (length numbers == units (own_len s.own name)) && each_slot (λ o. not (has in_key (row s p).ins o)) numbers
+-- a settled Fresh brings as many new slots as its chunk has units, which are u; no other deal brings slots
+abbrev pub may_settle_row : ℕ → Row → Option Deal → List ℕ → Bool
+may_settle_row u r None numbers = false
+may_settle_row u r (Some d) numbers = elim d.what [
+  | Fresh name ↦ (length numbers == u) && each_slot (λ o. not (has in_key r.ins o)) numbers
   | _ ↦ length numbers == 0
 ]
+
+abbrev pub may_settle : State → ℕ → Option Deal → List ℕ → Bool
+may_settle s p o numbers = may_settle_row (coming s o) (row s p) o numbers
 
 -- the objects of the last Asked, where it is the change of this number and has no outcome yet
 abbrev pub asked_objects : Option (ℕ × List Object) → ℕ → Option (List Object)
@@ -229,96 +232,113 @@ fresh_tests r deal name first new held in_use u most issued =
     ∷ nat_le (issued + u) most_claims
     ∷ [])
 
+-- what a Store in the place of slots asks: whether a body is held under its name, whether no deal ties a
+-- slot, and its units
+abbrev pub swap_tests : Row → ℕ → List ℕ → List ℕ → Bool → Bool → Bool → ℕ → List Bool
+swap_tests r deal name numbers new held untied u =
+    ((deal == r.last.number + 1)
+    ∷ not (has in_key r.ins (Chunk name))
+    ∷ (if held then not new else new)
+    ∷ each_slot (has in_key r.ins) numbers
+    ∷ untied
+    ∷ (length numbers == u)
+    ∷ (debt_units r == 0)
+    ∷ [])
+
+-- what the two ways to let a chunk go ask
+abbrev pub let_go_tests : Row → ℕ → List ℕ → List ℕ → List Bool
+let_go_tests r deal name numbers =
+    ((deal == r.last.number + 1)
+    ∷ has in_key r.ins (Chunk name)
+    ∷ each_slot (has_so out_key carries_none r.outs) numbers
+    ∷ each_slot (λ o. not (ties_out r.pending o)) numbers
+    ∷ (length numbers == units_at in_key in_size r.ins (Chunk name))
+    ∷ [])
+
+abbrev pub put_back_tests : Row → ℕ → List ℕ → List ℕ → List Bool
+put_back_tests r deal name numbers =
+    ((deal == r.last.number + 1)
+    ∷ has in_key r.ins (Chunk name)
+    ∷ each_slot (λ o. not (has in_key r.ins o)) numbers
+    ∷ (length numbers == units_at in_key in_size r.ins (Chunk name))
+    ∷ [])
+
 -- a refusal answers the peer's next deal, with a reason of 1 to 9
 abbrev pub refusal_tests : Row → ℕ → ℕ → List Bool
 refusal_tests r deal why = (deal == r.last.number + 1) ∷ nat_le 1 why ∷ nat_le why 9 ∷ []
 
+-- a reply settles the pending deal: u are the units of a Fresh
+abbrev pub settle_tests : Row → ℕ → List ℕ → ℕ → List Bool
+settle_tests r deal numbers u =
+    (is_pending r.pending deal
+    ∷ may_settle_row u r r.pending numbers
+    ∷ [])
+
 -- what each kind asks
 abbrev pub tests : State → Change → List Bool
-tests s (Begun body) =
+tests s (Begun x) =
     ((s.changes == 0)
-    ∷ is_some (settings_of_body body)
+    ∷ is_some (settings_of_body x.body)
     ∷ [])
-tests s (Kept name len new body) =
-    (not (own_has s.own name)
-    ∷ (if is_held s name then not new else new)
+tests s (Kept x) =
+    (not (own_has s.own x.name)
+    ∷ (if is_held s x.name then not x.new else x.new)
     ∷ [])
-tests s (Snapped number ticket files folders bytes left names) =
-    ((number == snaps_made s + 1)
-    ∷ names_ascend names
-    ∷ list_all (own_has s.own) names
+tests s (Snapped x) =
+    ((x.number == snaps_made s + 1)
+    ∷ names_ascend x.names
+    ∷ list_all (own_has s.own) x.names
     ∷ [])
-tests s (Forgot number) = list_any (λ (k : Snapshot). k.number == number) s.kept ∷ []
-tests s (TookFresh p deal name first len new body) =
-    fresh_tests (row s p) deal name first new (is_held s name) (used s) (units len) (capacity s.settings) s.issued
-tests s (TookSwap p deal name numbers len new body) =
-    (is_next_deal s p deal
-    ∷ not (has in_key (row s p).ins (Chunk name))
-    ∷ (if is_held s name then not new else new)
-    ∷ each_slot (has in_key (row s p).ins) numbers
-    ∷ each_slot (λ o. not (tied_in s p o)) numbers
-    ∷ (length numbers == units len)
-    ∷ (debt_units (row s p) == 0)
+tests s (Forgot x) = list_any (λ (k : Snapshot). k.number == x.number) s.kept ∷ []
+tests s (TookFresh x) =
+    fresh_tests (row s x.peer) x.deal x.name x.first x.new (is_held s x.name) (used s) (units x.len) (capacity s.settings) s.issued
+tests s (TookSwap x) =
+    swap_tests (row s x.peer) x.deal x.name x.slots x.new (is_held s x.name) (each_slot (λ o. not (tied_in s x.peer o)) x.slots) (units x.len)
+tests s (LetGo x) = let_go_tests (row s x.peer) x.deal x.name x.slots
+tests s (LetGoBack x) = put_back_tests (row s x.peer) x.deal x.name x.slots
+tests s (Replaced x) =
+    (is_next_deal s x.peer x.deal
+    ∷ has in_key (row s x.peer).ins (Slot x.slot)
+    ∷ not (tied_in s x.peer (Slot x.slot))
+    ∷ ((x.place == 0 && x.home == 0) || (x.place == 1 && nat_lt x.home s.issued))
     ∷ [])
-tests s (LetGo p deal name numbers) =
-    (is_next_deal s p deal
-    ∷ has in_key (row s p).ins (Chunk name)
-    ∷ each_slot (has_so out_key carries_none (row s p).outs) numbers
-    ∷ each_slot (λ o. not (tied_out s p o)) numbers
-    ∷ (length numbers == units_at in_key in_size (row s p).ins (Chunk name))
+tests s (Refused x) = refusal_tests (row s x.peer) x.deal x.why
+tests s (Proposed x) =
+    ((x.deal == (row s x.peer).mine + 1)
+    ∷ is_none (row s x.peer).pending
+    ∷ all_of (propose_tests s x.peer x.what)
     ∷ [])
-tests s (LetGoBack p deal name numbers body) =
-    (is_next_deal s p deal
-    ∷ has in_key (row s p).ins (Chunk name)
-    ∷ each_slot (λ o. not (has in_key (row s p).ins o)) numbers
-    ∷ (length numbers == units_at in_key in_size (row s p).ins (Chunk name))
+tests s (Settled x) = settle_tests (row s x.peer) x.deal x.slots (coming s (row s x.peer).pending)
+tests s (Turned x) = is_pending (row s x.peer).pending x.deal ∷ []
+tests s (Asked x) =
+    (nat_le 1 (length x.objects)
+    ∷ nat_le (length x.objects) 32
+    ∷ each (λ o. has_so out_key (λ e. elim o [ Chunk n ↦ true | Slot n ↦ is_own e ]) (row s x.peer).outs o || has_so debt_key (λ d. elim o [ Chunk n ↦ is_whole d | Slot n ↦ is_whole_own d ]) (row s x.peer).debts o) x.objects
+    ∷ each (λ o. not (tied_out s x.peer o)) x.objects
     ∷ [])
-tests s (Replaced p deal slot place home body) =
-    (is_next_deal s p deal
-    ∷ has in_key (row s p).ins (Slot slot)
-    ∷ not (tied_in s p (Slot slot))
-    ∷ ((place == 0 && home == 0) || (place == 1 && nat_lt home s.issued))
+tests s (Passed x) = answers_probe s x.peer x.asked x.objects ∷ []
+tests s (Failed x) =
+    (answers_probe s x.peer x.asked x.objects
+    ∷ nat_le x.how 2
+    ∷ (if x.asked == 0 then x.how == 2 else nat_lt x.how 2)
+    ∷ ((x.how == 1) || list_all (λ b. b == 0) x.got)
+    ∷ each (λ o. not (tied_out s x.peer o)) x.objects
     ∷ [])
-tests s (Refused p deal why detail) = refusal_tests (row s p) deal why
-tests s (Proposed p deal what) =
-    ((deal == (row s p).mine + 1)
-    ∷ is_none (row s p).pending
-    ∷ all_of (propose_tests s p what)
+tests s (Declined x) =
+    (is_some (asked_objects (row s x.peer).asked x.asked)
+    ∷ list_all (λ k. nat_lt k (asked_count (asked_objects (row s x.peer).asked x.asked))) x.places
+    ∷ each (λ o. not (tied_out s x.peer o)) (declined_objects s x.peer x.asked x.places)
     ∷ [])
-tests s (Settled p deal numbers body) =
-    (is_pending (row s p).pending deal
-    ∷ may_settle s p (row s p).pending numbers
+tests s (Discarded x) =
+    ((row s x.peer).due
+    ∷ same_objects x.objects (map in_key (discards s x.peer))
     ∷ [])
-tests s (Turned p deal why detail) = is_pending (row s p).pending deal ∷ []
-tests s (Asked p objects) =
-    (nat_le 1 (length objects)
-    ∷ nat_le (length objects) 32
-    ∷ each (λ o. has_so out_key (λ e. elim o [ Chunk n ↦ true | Slot n ↦ is_own e ]) (row s p).outs o || has_so debt_key (λ d. elim o [ Chunk n ↦ is_whole d | Slot n ↦ is_whole_own d ]) (row s p).debts o) objects
-    ∷ each (λ o. not (tied_out s p o)) objects
-    ∷ [])
-tests s (Passed p asked objects) = answers_probe s p asked objects ∷ []
-tests s (Failed p asked how got objects) =
-    (answers_probe s p asked objects
-    ∷ nat_le how 2
-    ∷ (if asked == 0 then how == 2 else nat_lt how 2)
-    ∷ ((how == 1) || list_all (λ b. b == 0) got)
-    ∷ each (λ o. not (tied_out s p o)) objects
-    ∷ [])
-tests s (Declined p asked places) =
-    (is_some (asked_objects (row s p).asked asked)
-    ∷ list_all (λ k. nat_lt k (asked_count (asked_objects (row s p).asked asked))) places
-    ∷ each (λ o. not (tied_out s p o)) (declined_objects s p asked places)
-    ∷ [])
-tests s (Discarded p objects) =
-    ((row s p).due
-    ∷ same_objects objects (map in_key (discards s p))
-    ∷ [])
-tests s (Chose candidates) =
-    (nat_le 1 (length candidates)
-    ∷ distinct_peers candidates
-    ∷ list_all (λ (x : Candidate). is_peer s x.peer) candidates
-    ∷ list_all (λ (x : Candidate). nat_le 1 x.of) candidates
-    ∷ in_select_order candidates
+tests s (Chose y) =
+    (nat_le 1 (length y.candidates)
+    ∷ distinct_peers y.candidates
+    ∷ list_all (λ (x : Candidate). is_peer s x.peer) y.candidates
+    ∷ list_all (λ (x : Candidate). nat_le 1 x.of) y.candidates
+    ∷ in_select_order y.candidates
     ∷ [])
 
 -- the change may be made: Begun as the first, any other kind later

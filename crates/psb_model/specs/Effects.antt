@@ -9,7 +9,8 @@ use Rattle.psb_model.specs.declared.entries.InEntry.{InEntry}
 use Rattle.psb_model.specs.declared.entries.OutEntry.{OutEntry}
 use Rattle.psb_model.specs.declared.entries.DebtEntry.{DebtEntry}
 use Rattle.psb_model.specs.declared.entries.OwnEntry.{OwnEntry}
-use Rattle.psb_model.specs.declared.entries.Snapshot.{Snapshot}
+use Rattle.psb_model.specs.declared.snapshots.Snapshot.{Snapshot}
+use Rattle.psb_model.specs.declared.kinds.Snapped.{Snapped as MadeSnapshot}
 use Rattle.psb_model.specs.declared.entries.SnapMark.{SnapMark}
 use Rattle.psb_settings.specs.declared.settings.Settings.{Settings}
 use Rattle.psb_settings.specs.declared.settings.PeerRow.{PeerRow}
@@ -87,16 +88,16 @@ settle_move s r (Some d) numbers = elim d.what [
 
 -- what each kind moves
 abbrev pub move_of : State → Change → Move
-move_of s (TookFresh p deal name first len new body) = record still { in_new = chunk_in name (units len) ∷ []; out_new = own_slots first (units len) }
-move_of s (TookSwap p deal name numbers len new body) = record still { in_gone = slots numbers; in_new = chunk_in name (units len) ∷ [] }
-move_of s (LetGo p deal name numbers) = record still { in_gone = Chunk name ∷ []; out_gone = slots numbers }
-move_of s (LetGoBack p deal name numbers body) = record still { in_gone = Chunk name ∷ []; in_new = direct_slots numbers }
-move_of s (Settled p deal numbers body) = settle_move s (row s p) (row s p).pending numbers
-move_of s (Passed p asked objects) =
-    record still { returned = is_whole_listed objects; out_new = map out_again (filter (is_whole_listed objects) (row s p).debts) }
-move_of s (Failed p asked how got objects) = loses s.changes false objects (row s p)
-move_of s (Declined p asked places) = loses s.changes true (declined_objects s p asked places) (row s p)
-move_of s (Discarded p objects) = record still { in_gone = objects; used_up = sum_by in_size (only in_key objects (row s p).ins) }
+move_of s (TookFresh x) = record still { in_new = chunk_in x.name (units x.len) ∷ []; out_new = own_slots x.first (units x.len) }
+move_of s (TookSwap x) = record still { in_gone = slots x.slots; in_new = chunk_in x.name (units x.len) ∷ [] }
+move_of s (LetGo x) = record still { in_gone = Chunk x.name ∷ []; out_gone = slots x.slots }
+move_of s (LetGoBack x) = record still { in_gone = Chunk x.name ∷ []; in_new = direct_slots x.slots }
+move_of s (Settled x) = settle_move s (row s x.peer) (row s x.peer).pending x.slots
+move_of s (Passed x) =
+    record still { returned = is_whole_listed x.objects; out_new = map out_again (filter (is_whole_listed x.objects) (row s x.peer).debts) }
+move_of s (Failed x) = loses s.changes false x.objects (row s x.peer)
+move_of s (Declined x) = loses s.changes true (declined_objects s x.peer x.asked x.places) (row s x.peer)
+move_of s (Discarded x) = record still { in_gone = x.objects; used_up = sum_by in_size (only in_key x.objects (row s x.peer).ins) }
 move_of s _ = still
 
 -- Then the states of entries that change: units and objects stay.
@@ -122,15 +123,15 @@ settle_states p (Some d) rows = elim d.what [
 
 -- what each kind relabels
 abbrev pub states_of : State → Change → List (ℕ × Row) → List (ℕ × Row)
-states_of s (Replaced p deal slot place home body) rows = at_row p (relabel_in (Slot slot) (if place == 0 then at.Direct else at.Home home)) rows
-states_of s (Settled p deal numbers body) rows = settle_states p (row s p).pending rows
+states_of s (Replaced x) rows = at_row x.peer (relabel_in (Slot x.slot) (if x.place == 0 then at.Direct else at.Home x.home)) rows
+states_of s (Settled x) rows = settle_states x.peer (row s x.peer).pending rows
 states_of s _ rows = rows
 
 -- Where a forwarded entry leaves in(p) or gets other bytes, the slot that carries it becomes Loose.
 
 -- the entries that leave or get other bytes
 abbrev pub disturbed : State → Change → List InEntry
-disturbed s (Replaced p deal slot place home body) = only in_key (Slot slot ∷ []) (row s p).ins
+disturbed s (Replaced x) = only in_key (Slot x.slot ∷ []) (row s x.peer).ins
 disturbed s c = elim (peer_of c) [ None ↦ [] | Some p ↦ only in_key (move_of s c).in_gone (row s p).ins ]
 
 -- the slots of the forwarded ones are loose
@@ -176,20 +177,20 @@ was_turned change why r = record r {
 
 -- what each kind notes
 abbrev pub note_of : State → Change → Row → Row
-note_of s (TookFresh p deal name first len new body) r = took_deal deal s.changes r
-note_of s (TookSwap p deal name numbers len new body) r = took_deal deal s.changes r
-note_of s (LetGo p deal name numbers) r = took_deal deal s.changes r
-note_of s (LetGoBack p deal name numbers body) r = took_deal deal s.changes r
-note_of s (Replaced p deal slot place home body) r = took_deal deal s.changes r
-note_of s (Refused p deal why detail) r = took_deal deal s.changes r
-note_of s (Proposed p deal what) r = record r { pending = Some (record { number = deal; what = what }); mine = deal }
-note_of s (Settled p deal numbers body) r = record r { pending = None }
-note_of s (Turned p deal why detail) r = was_turned s.changes why r
-note_of s (Asked p objects) r = record r { asked = Some (s.changes, objects) }
-note_of s (Passed p asked objects) r = if asked == 0 then r else record r { fails = 0; asked = None }
-note_of s (Failed p asked how got objects) r = let r' = failed_again r in record r' { asked = if asked == 0 then r.asked else None }
-note_of s (Declined p asked places) r = failed_again r
-note_of s (Discarded p objects) r = record r { due = false }
+note_of s (TookFresh x) r = took_deal x.deal s.changes r
+note_of s (TookSwap x) r = took_deal x.deal s.changes r
+note_of s (LetGo x) r = took_deal x.deal s.changes r
+note_of s (LetGoBack x) r = took_deal x.deal s.changes r
+note_of s (Replaced x) r = took_deal x.deal s.changes r
+note_of s (Refused x) r = took_deal x.deal s.changes r
+note_of s (Proposed x) r = record r { pending = Some (record { number = x.deal; what = x.what }); mine = x.deal }
+note_of s (Settled x) r = record r { pending = None }
+note_of s (Turned x) r = was_turned s.changes x.why r
+note_of s (Asked x) r = record r { asked = Some (s.changes, x.objects) }
+note_of s (Passed x) r = if x.asked == 0 then r else record r { fails = 0; asked = None }
+note_of s (Failed x) r = let r' = failed_again r in record r' { asked = if x.asked == 0 then r.asked else None }
+note_of s (Declined x) r = failed_again r
+note_of s (Discarded x) r = record r { due = false }
 note_of s _ r = r
 
 -- the rows after a change of a peer
@@ -198,10 +199,15 @@ rows_after s c p = at_row p (note_of s c) (loosen (disturbed s c) (states_of s c
 
 -- And what is noted beside the rows.
 
--- the claim numbers that were drawn
+-- the claim numbers that were drawn, once a deal is proposed
+abbrev pub issued_with : ℕ → Row → DealWhat → ℕ
+issued_with issued r (PutBack name first) = issued + units_at out_key out_size r.outs (Chunk name)
+issued_with issued r _ = issued
+
+-- and after any change
 abbrev pub issued_after : State → Change → ℕ
-issued_after s (TookFresh p deal name first len new body) = s.issued + units len
-issued_after s (Proposed p deal (PutBack name first)) = s.issued + units_at out_key out_size (row s p).outs (Chunk name)
+issued_after s (TookFresh x) = s.issued + units x.len
+issued_after s (Proposed x) = issued_with s.issued (row s x.peer) x.what
 issued_after s _ = s.issued
 
 -- own with one more name, in byte order
@@ -222,26 +228,30 @@ kept_lists kept n = list_any (λ (k : Snapshot). name_listed k.names n) kept
 
 -- a snapshot lifts the marks of its names; forgetting one marks what no snapshot lists any more
 abbrev pub own_after : State → Change → List OwnEntry
-own_after s (Kept name len new body) = own_with (record { name = name; len = len; marked = false }) s.own
-own_after s (Snapped number ticket files folders bytes left names) = set_marks (λ e. e.marked && not (name_listed names e.name)) s.own
-own_after s (Forgot number) = set_marks (λ e. e.marked || not (kept_lists (kept_without number s.kept) e.name)) s.own
+own_after s (Kept x) = own_with (record { name = x.name; len = x.len; marked = false }) s.own
+own_after s (Snapped x) = set_marks (λ e. e.marked && not (name_listed x.names e.name)) s.own
+own_after s (Forgot x) = set_marks (λ e. e.marked || not (kept_lists (kept_without x.number s.kept) e.name)) s.own
 own_after s _ = s.own
 
+-- the snapshot, as it is kept
+abbrev pub kept_of : MadeSnapshot → Snapshot
+kept_of x = record { number = x.number; ticket = x.ticket; files = x.files; folders = x.folders; bytes = x.bytes; left = x.left; names = x.names }
+
 abbrev pub kept_after : State → Change → List Snapshot
-kept_after s (Snapped number ticket files folders bytes left names) = s.kept ++ record { number = number; ticket = ticket; files = files; folders = folders; bytes = bytes; left = left; names = names } ∷ []
-kept_after s (Forgot number) = kept_without number s.kept
+kept_after s (Snapped x) = s.kept ++ kept_of x ∷ []
+kept_after s (Forgot x) = kept_without x.number s.kept
 kept_after s _ = s.kept
 
 abbrev pub snapped_after : State → Change → Option SnapMark
-snapped_after s (Snapped number ticket files folders bytes left names) = Some (record { number = number; change = s.changes })
+snapped_after s (Snapped x) = Some (record { number = x.number; change = s.changes })
 snapped_after s _ = s.snapped
 
 abbrev pub chosen_after : State → Change → List ℕ
-chosen_after s (Chose candidates) = take (buddies s.settings) (map (λ (x : Candidate). x.peer) candidates)
+chosen_after s (Chose y) = take (buddies s.settings) (map (λ (x : Candidate). x.peer) y.candidates)
 chosen_after s _ = s.chosen
 
 abbrev pub settings_after : State → Change → Option Settings
-settings_after s (Begun body) = settings_of_body body
+settings_after s (Begun x) = settings_of_body x.body
 settings_after s _ = s.settings
 
 -- a blank row for each peer of the settings
@@ -255,7 +265,7 @@ first_rows (Some x) = blank_rows x.peers
 
 -- the rows after any change
 abbrev pub all_rows_after : State → Change → List (ℕ × Row)
-all_rows_after s (Begun body) = first_rows (settings_of_body body)
+all_rows_after s (Begun x) = first_rows (settings_of_body x.body)
 all_rows_after s c = elim (peer_of c) [ None ↦ s.rows | Some p ↦ rows_after s c p ]
 
 -- Giving up: a marked name leaves own as soon as no out list, debt or pending deal names it.

@@ -48,25 +48,25 @@ what_in_grammar _ = true
 -- The change is in the grammar: Begun has its text; a body that is there has the length that its
 -- head tells; slots and places ascend, and the objects of a list are distinct.
 abbrev pub in_grammar : Change → Bool
-in_grammar (Begun body) = is_some body
-in_grammar (Kept name len new body) = chunk_fits len new body
-in_grammar (Snapped number ticket files folders bytes left names) = is_ticket ticket && is_count (length names)
-in_grammar (Forgot number) = true
-in_grammar (TookFresh p deal name first len new body) = chunk_fits len new body
-in_grammar (TookSwap p deal name numbers len new body) = chunk_fits len new body && numbers_listed numbers
-in_grammar (LetGo p deal name numbers) = numbers_listed numbers
-in_grammar (LetGoBack p deal name numbers body) = body_fits (512 * length numbers) body && numbers_listed numbers
-in_grammar (Replaced p deal slot place home body) = body_fits (if place == 0 then 512 else 0) body
-in_grammar (Refused p deal why detail) = true
-in_grammar (Proposed p deal what) = what_in_grammar what
-in_grammar (Settled p deal numbers body) = body_fits (512 * length numbers) body && numbers_listed numbers
-in_grammar (Turned p deal why detail) = true
-in_grammar (Asked p objects) = objects_listed objects
-in_grammar (Passed p asked objects) = objects_listed objects
-in_grammar (Failed p asked how got objects) = objects_listed objects
-in_grammar (Declined p asked places) = numbers_listed places
-in_grammar (Discarded p objects) = objects_listed objects
-in_grammar (Chose candidates) = is_count (length candidates)
+in_grammar (Begun x) = is_some x.body
+in_grammar (Kept x) = chunk_fits x.len x.new x.body
+in_grammar (Snapped x) = is_ticket x.ticket && is_count (length x.names)
+in_grammar (Forgot x) = true
+in_grammar (TookFresh x) = chunk_fits x.len x.new x.body
+in_grammar (TookSwap x) = chunk_fits x.len x.new x.body && numbers_listed x.slots
+in_grammar (LetGo x) = numbers_listed x.slots
+in_grammar (LetGoBack x) = body_fits (512 * length x.slots) x.body && numbers_listed x.slots
+in_grammar (Replaced x) = body_fits (if x.place == 0 then 512 else 0) x.body
+in_grammar (Refused x) = true
+in_grammar (Proposed x) = what_in_grammar x.what
+in_grammar (Settled x) = body_fits (512 * length x.slots) x.body && numbers_listed x.slots
+in_grammar (Turned x) = true
+in_grammar (Asked x) = objects_listed x.objects
+in_grammar (Passed x) = objects_listed x.objects
+in_grammar (Failed x) = objects_listed x.objects
+in_grammar (Declined x) = numbers_listed x.places
+in_grammar (Discarded x) = objects_listed x.objects
+in_grammar (Chose x) = is_count (length x.candidates)
 
 -- What any change of the program has: each number is within the width of its field, each name has
 -- 32 bytes, and a byte is below 256.
@@ -109,22 +109,22 @@ what_fits (Return slot) = is_u32 slot
 
 -- the change fits its fields
 abbrev pub fits_widths : Change → Bool
-fits_widths (Begun body) = are_bytes body
-fits_widths (Kept name len new body) = is_digest name && is_u32 len && are_bytes body
-fits_widths (Snapped number ticket files folders bytes left names) = is_u32 number && ticket_fits ticket && is_u32 files && is_u32 folders && is_u64 bytes && is_u32 left && list_all is_digest names
-fits_widths (Forgot number) = is_u32 number
-fits_widths (TookFresh p deal name first len new body) = is_u32 p && is_u64 deal && is_digest name && is_u32 first && is_u32 len && are_bytes body
-fits_widths (TookSwap p deal name numbers len new body) = is_u32 p && is_u64 deal && is_digest name && list_all is_u32 numbers && is_u32 len && are_bytes body
-fits_widths (LetGo p deal name numbers) = is_u32 p && is_u64 deal && is_digest name && list_all is_u32 numbers
-fits_widths (LetGoBack p deal name numbers body) = is_u32 p && is_u64 deal && is_digest name && list_all is_u32 numbers && are_bytes body
-fits_widths (Replaced p deal slot place home body) = is_u32 p && is_u64 deal && is_u32 slot && is_u8 place && is_u32 home && are_bytes body
-fits_widths (Refused p deal why detail) = is_u32 p && is_u64 deal && is_u8 why && is_u64 detail
-fits_widths (Proposed p deal what) = is_u32 p && is_u64 deal && what_fits what
-fits_widths (Settled p deal numbers body) = is_u32 p && is_u64 deal && list_all is_u32 numbers && are_bytes body
-fits_widths (Turned p deal why detail) = is_u32 p && is_u64 deal && is_u8 why && is_u64 detail
-fits_widths (Asked p objects) = is_u32 p && list_all object_fits objects
-fits_widths (Passed p asked objects) = is_u32 p && is_u64 asked && list_all object_fits objects
-fits_widths (Failed p asked how got objects) = is_u32 p && is_u64 asked && is_u8 how && is_digest got && list_all object_fits objects
-fits_widths (Declined p asked places) = is_u32 p && is_u64 asked && list_all is_u16 places
-fits_widths (Discarded p objects) = is_u32 p && list_all object_fits objects
-fits_widths (Chose candidates) = list_all candidate_fits candidates
+fits_widths (Begun x) = are_bytes x.body
+fits_widths (Kept x) = is_digest x.name && is_u32 x.len && are_bytes x.body
+fits_widths (Snapped x) = is_u32 x.number && ticket_fits x.ticket && is_u32 x.files && is_u32 x.folders && is_u64 x.bytes && is_u32 x.left && list_all is_digest x.names
+fits_widths (Forgot x) = is_u32 x.number
+fits_widths (TookFresh x) = is_u32 x.peer && is_u64 x.deal && is_digest x.name && is_u32 x.first && is_u32 x.len && are_bytes x.body
+fits_widths (TookSwap x) = is_u32 x.peer && is_u64 x.deal && is_digest x.name && list_all is_u32 x.slots && is_u32 x.len && are_bytes x.body
+fits_widths (LetGo x) = is_u32 x.peer && is_u64 x.deal && is_digest x.name && list_all is_u32 x.slots
+fits_widths (LetGoBack x) = is_u32 x.peer && is_u64 x.deal && is_digest x.name && list_all is_u32 x.slots && are_bytes x.body
+fits_widths (Replaced x) = is_u32 x.peer && is_u64 x.deal && is_u32 x.slot && is_u8 x.place && is_u32 x.home && are_bytes x.body
+fits_widths (Refused x) = is_u32 x.peer && is_u64 x.deal && is_u8 x.why && is_u64 x.detail
+fits_widths (Proposed x) = is_u32 x.peer && is_u64 x.deal && what_fits x.what
+fits_widths (Settled x) = is_u32 x.peer && is_u64 x.deal && list_all is_u32 x.slots && are_bytes x.body
+fits_widths (Turned x) = is_u32 x.peer && is_u64 x.deal && is_u8 x.why && is_u64 x.detail
+fits_widths (Asked x) = is_u32 x.peer && list_all object_fits x.objects
+fits_widths (Passed x) = is_u32 x.peer && is_u64 x.asked && list_all object_fits x.objects
+fits_widths (Failed x) = is_u32 x.peer && is_u64 x.asked && is_u8 x.how && is_digest x.got && list_all object_fits x.objects
+fits_widths (Declined x) = is_u32 x.peer && is_u64 x.asked && list_all is_u16 x.places
+fits_widths (Discarded x) = is_u32 x.peer && list_all object_fits x.objects
+fits_widths (Chose x) = list_all candidate_fits x.candidates

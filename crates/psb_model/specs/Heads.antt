@@ -40,33 +40,33 @@ deal_fields (Return slot) = 6 ∷ u32 slot
 
 -- the kind, and the fields in order
 abbrev pub head_of : Change → List ℕ
-head_of (Begun body) = 1 ∷ []
-head_of (Kept name len new body) = 2 ∷ (name ++ u32 len ++ flag new)
-head_of (Snapped number t files folders bytes left names) = 3 ∷ (u32 number ++ ticket t ++ u32 files ++ u32 folders ++ u64 bytes ++ u32 left ++ counted (λ name. name) names)
-head_of (Forgot number) = 4 ∷ u32 number
-head_of (TookFresh peer deal name first len new body) = 5 ∷ (u32 peer ++ u64 deal ++ name ++ u32 first ++ u32 len ++ flag new)
-head_of (TookSwap peer deal name slots len new body) = 6 ∷ (u32 peer ++ u64 deal ++ name ++ counted u32 slots ++ u32 len ++ flag new)
-head_of (LetGo peer deal name slots) = 7 ∷ (u32 peer ++ u64 deal ++ name ++ counted u32 slots)
-head_of (LetGoBack peer deal name slots body) = 8 ∷ (u32 peer ++ u64 deal ++ name ++ counted u32 slots)
-head_of (Replaced peer deal slot place home body) = 9 ∷ (u32 peer ++ u64 deal ++ u32 slot ++ place ∷ u32 home)
-head_of (Refused peer deal why detail) = 10 ∷ (u32 peer ++ u64 deal ++ why ∷ u64 detail)
-head_of (Proposed peer deal what) = 11 ∷ (u32 peer ++ u64 deal ++ deal_fields what)
-head_of (Settled peer deal slots body) = 12 ∷ (u32 peer ++ u64 deal ++ counted u32 slots)
-head_of (Turned peer deal why detail) = 13 ∷ (u32 peer ++ u64 deal ++ why ∷ u64 detail)
-head_of (Asked peer objects) = 14 ∷ (u32 peer ++ counted object objects)
-head_of (Passed peer asked objects) = 15 ∷ (u32 peer ++ u64 asked ++ counted object objects)
-head_of (Failed peer asked how got objects) = 16 ∷ (u32 peer ++ u64 asked ++ how ∷ (got ++ counted object objects))
-head_of (Declined peer asked places) = 17 ∷ (u32 peer ++ u64 asked ++ counted u16 places)
-head_of (Discarded peer objects) = 18 ∷ (u32 peer ++ counted object objects)
-head_of (Chose candidates) = 19 ∷ counted candidate candidates
+head_of (Begun x) = 1 ∷ []
+head_of (Kept x) = 2 ∷ (x.name ++ u32 x.len ++ flag x.new)
+head_of (Snapped x) = 3 ∷ (u32 x.number ++ ticket x.ticket ++ u32 x.files ++ u32 x.folders ++ u64 x.bytes ++ u32 x.left ++ counted (λ name. name) x.names)
+head_of (Forgot x) = 4 ∷ u32 x.number
+head_of (TookFresh x) = 5 ∷ (u32 x.peer ++ u64 x.deal ++ x.name ++ u32 x.first ++ u32 x.len ++ flag x.new)
+head_of (TookSwap x) = 6 ∷ (u32 x.peer ++ u64 x.deal ++ x.name ++ counted u32 x.slots ++ u32 x.len ++ flag x.new)
+head_of (LetGo x) = 7 ∷ (u32 x.peer ++ u64 x.deal ++ x.name ++ counted u32 x.slots)
+head_of (LetGoBack x) = 8 ∷ (u32 x.peer ++ u64 x.deal ++ x.name ++ counted u32 x.slots)
+head_of (Replaced x) = 9 ∷ (u32 x.peer ++ u64 x.deal ++ u32 x.slot ++ x.place ∷ u32 x.home)
+head_of (Refused x) = 10 ∷ (u32 x.peer ++ u64 x.deal ++ x.why ∷ u64 x.detail)
+head_of (Proposed x) = 11 ∷ (u32 x.peer ++ u64 x.deal ++ deal_fields x.what)
+head_of (Settled x) = 12 ∷ (u32 x.peer ++ u64 x.deal ++ counted u32 x.slots)
+head_of (Turned x) = 13 ∷ (u32 x.peer ++ u64 x.deal ++ x.why ∷ u64 x.detail)
+head_of (Asked x) = 14 ∷ (u32 x.peer ++ counted object x.objects)
+head_of (Passed x) = 15 ∷ (u32 x.peer ++ u64 x.asked ++ counted object x.objects)
+head_of (Failed x) = 16 ∷ (u32 x.peer ++ u64 x.asked ++ x.how ∷ (x.got ++ counted object x.objects))
+head_of (Declined x) = 17 ∷ (u32 x.peer ++ u64 x.asked ++ counted u16 x.places)
+head_of (Discarded x) = 18 ∷ (u32 x.peer ++ counted object x.objects)
+head_of (Chose x) = 19 ∷ counted candidate x.candidates
 
 -- the body part, None where it was given up
 abbrev pub body_of : Change → Option (List ℕ)
-body_of (Begun body) = body
-body_of (Kept name len new body) = body
-body_of (TookFresh peer deal name first len new body) = body
-body_of (TookSwap peer deal name slots len new body) = body
-body_of (LetGoBack peer deal name slots body) = body
-body_of (Replaced peer deal slot place home body) = body
-body_of (Settled peer deal slots body) = body
+body_of (Begun x) = x.body
+body_of (Kept x) = x.body
+body_of (TookFresh x) = x.body
+body_of (TookSwap x) = x.body
+body_of (LetGoBack x) = x.body
+body_of (Replaced x) = x.body
+body_of (Settled x) = x.body
 body_of _ = Some []

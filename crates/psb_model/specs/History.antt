@@ -42,19 +42,19 @@ is_built_deal (Return slot) = false
 -- the program has this kind so far: the beginning, what is kept of the node's own, what the deals of a peer
 -- make but for a replaced claim, the own deals with their replies, and a choice of buddies
 abbrev pub is_built : Change → Bool
-is_built (Begun body) = true
-is_built (Kept name len new body) = true
-is_built (Snapped number ticket files folders bytes left names) = true
-is_built (Forgot number) = true
-is_built (TookFresh p deal name first len new body) = true
-is_built (TookSwap p deal name numbers len new body) = true
-is_built (LetGo p deal name numbers) = true
-is_built (LetGoBack p deal name numbers body) = true
-is_built (Refused p deal why detail) = true
-is_built (Proposed p deal what) = is_built_deal what
-is_built (Settled p deal numbers body) = true
-is_built (Turned p deal why detail) = true
-is_built (Chose candidates) = true
+is_built (Begun x) = true
+is_built (Kept x) = true
+is_built (Snapped x) = true
+is_built (Forgot x) = true
+is_built (TookFresh x) = true
+is_built (TookSwap x) = true
+is_built (LetGo x) = true
+is_built (LetGoBack x) = true
+is_built (Refused x) = true
+is_built (Proposed x) = is_built_deal x.what
+is_built (Settled x) = true
+is_built (Turned x) = true
+is_built (Chose x) = true
 is_built _ = false
 
 -- the three numbers of a peer
@@ -84,13 +84,13 @@ pub record IsLoss (s : State) (q : ℕ) (declined : Bool) (objects : List Object
 
 -- the change, a Failed or Declined of q, lists the row's object
 abbrev pub Books : State → Change → ℕ → DebtEntry → Type 0
-Books s (Failed p asked how got objects) q d = (p ≡ q) × IsLoss s q false objects d
-Books s (Declined p asked places) q d = (p ≡ q) × IsLoss s q true (declined_objects s p asked places) d
+Books s (Failed x) q d = (x.peer ≡ q) × IsLoss s q false x.objects d
+Books s (Declined x) q d = (x.peer ≡ q) × IsLoss s q true (declined_objects s x.peer x.asked x.places) d
 Books s _ q d = ⊥
 
 -- a Passed of q gives the object back
 abbrev pub gives_back : State → Change → ℕ → Object → Bool
-gives_back s (Passed p asked objects) q o = p == q && has_so debt_key (is_whole_listed objects) (row s q).debts o
+gives_back s (Passed x) q o = x.peer == q && has_so debt_key (is_whole_listed x.objects) (row s q).debts o
 gives_back s _ q o = false
 
 -- none of these changes gives the object back

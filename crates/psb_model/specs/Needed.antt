@@ -14,16 +14,16 @@ use Rattle.psb_model.specs.History.{state, is_lawful, is_built}
 
 -- the name whose sealed bytes the change carries
 abbrev pub brings : Change → Option (List ℕ)
-brings (Kept name len new body) = if new then Some name else None
-brings (TookFresh p deal name first len new body) = if new then Some name else None
-brings (TookSwap p deal name numbers len new body) = if new then Some name else None
+brings (Kept x) = if x.new then Some x.name else None
+brings (TookFresh x) = if x.new then Some x.name else None
+brings (TookSwap x) = if x.new then Some x.name else None
 brings _ = None
 
 -- the slots whose 512 bytes each the change carries
 abbrev pub slots_given : Change → List ℕ
-slots_given (LetGoBack p deal name numbers body) = numbers
-slots_given (Replaced p deal slot place home body) = if place == 0 then slot ∷ [] else []
-slots_given (Settled p deal numbers body) = numbers
+slots_given (LetGoBack x) = x.slots
+slots_given (Replaced x) = if x.place == 0 then x.slot ∷ [] else []
+slots_given (Settled x) = x.slots
 slots_given _ = []
 
 -- the change carries the bytes of this name

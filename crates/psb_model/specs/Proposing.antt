@@ -115,4 +115,4 @@ abbrev pub proposal : State → ℕ → List Object → ProposeFacts → Option 
 proposal s p probed facts = option_or (release s p probed facts.issued) (place s p probed facts.capacity)
 
 abbrev pub propose : State → ℕ → List Object → ProposeFacts → Option Change
-propose s p probed facts = option_map (Proposed p ((row s p).mine + 1)) (proposal s p probed facts)
+propose s p probed facts = option_map (λ w. Proposed (record { peer = p; deal = (row s p).mine + 1; what = w })) (proposal s p probed facts)

@@ -1,6 +1,6 @@
 -- Lists of objects and of entries, read by object.
 use Rattle.std.specs.Prelude.{◌≡◌, ◌⊎◌, ℕ, ◌+◌, Bool, true, not, ◌&&◌, if◌then◌else◌, List, [], ◌∷◌, map, filter}
-use Rattle.std.specs.List.{list_any}
+use Rattle.std.specs.List.{list_any, list_all}
 use Rattle.std.specs.Ordering.{is_lt}
 use Rattle.psb_bytes.specs.declared.ids.Object.{Object}
 use Rattle.psb_bytes.specs.declared.ids.Object.TheVariants.{Slot}
@@ -33,6 +33,11 @@ slots = map Slot
 -- whether the list has the object
 abbrev pub has : {E : Type 0} → (E → Object) → List E → Object → Bool
 has key l o = list_any (λ e. object_eq (key e) o) l
+
+-- each object comes before all later ones
+abbrev pub in_order : {E : Type 0} → (E → Object) → List E → Bool
+in_order key [] = true
+in_order key (e ∷ es) = list_all (λ x. is_lt (object_cmp (key e) (key x))) es && in_order key es
 
 -- the units that the list has at the object
 abbrev pub units_at : {E : Type 0} → (E → Object) → (E → ℕ) → List E → Object → ℕ

@@ -1,4 +1,6 @@
-use psb_bytes::{Digest, DigestList, Items, Object, PeerId, Seat, Ticket};
+//! What the state has of the peers, of the node's own chunks and of candidates.
+
+use psb_bytes::{Digest, Items, Object, PeerId, Seat};
 
 /// Where an entry of what the node answers for stands: its bytes here (a chunk's body, or a slot's
 /// 512 bytes), forwarded to a slot on a peer, or come home as an own claim.
@@ -71,16 +73,4 @@ pub struct OwnEntry {
 pub struct SnapMark {
     pub number: u32,
     pub change: u64,
-}
-
-/// A kept snapshot.
-#[derive(Drop)]
-pub struct Snapshot {
-    pub number: u32,
-    pub ticket: Ticket,
-    pub files: u32,
-    pub folders: u32,
-    pub bytes: u64,
-    pub left: u32,
-    pub names: DigestList,
 }

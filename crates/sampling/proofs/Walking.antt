@@ -1,20 +1,18 @@
 -- The walk over the own chunks in their order, by the first and the next behind a name.
-use Rattle.std.proofs.Common.{◌≡◌, ℕ, zero, suc, ◌<◌, Bool, true, false, ◌||◌, cond, List, [], ◌∷◌, ◌++◌, length, map, filter, get_or, Option, Some, None, refl, sym, ◌∙◌, ap, subst, arith, append_assoc}
+use Rattle.std.proofs.Common.{◌≡◌, ℕ, suc, ◌<◌, Bool, true, false, cond, List, [], ◌∷◌, ◌++◌, length, map, filter, Option, Some, None, refl, sym, ◌∙◌, ap, subst, arith, append_assoc}
 use Rattle.std.specs.List.{list_all}
 use Rattle.std.specs.Ordering.{is_lt, nat_cmp}
 use Rattle.std.specs.Cmp.Lexicographic.{slice_cmp}
 use Rattle.std.proofs.lemmas.Bool.{false≢true, and_parts}
 use Rattle.std.proofs.lemmas.List.{append-nil}
 use Rattle.psb_model.specs.declared.entries.OwnEntry.{OwnEntry}
-use Rattle.psb_model.specs.declared.entries.Snapshot.{Snapshot}
-use Rattle.psb_model.specs.Words.{name_eq, name_listed}
-use Rattle.psb_model.specs.Effects.{kept_lists}
+use Rattle.psb_model.specs.Words.{name_eq}
 use Rattle.psb_model.proofs.ByObject.{by_cases}
 use Rattle.psb_model.proofs.Own.{name_same, name_refl}
 use Rattle.psb_bytes.specs.declared.ids.Object.TheVariants.{Chunk}
 use Rattle.psb_model.proofs.ObjectOrder.{comes_first}
-use Rattle.psb_ledger.specs.View.{in_order, own_key}
-use Rattle.psb_ledger.specs.OwnList.{next_own}
+use Rattle.peer_lists.specs.Entries.{in_order}
+use Rattle.own_chunks.specs.OwnList.{own_key, next_own}
 
 -- ---- in what order own chunks stand
 
@@ -133,15 +131,3 @@ pub lists_falls : (own : List OwnEntry) (test : List ℕ → Bool) (e : OwnEntry
 lists_falls own test e next names ordered w is =
     let f = first_some w.rest e w.next_is in
     left_falls own e next w.done f.0 ordered (w.whole ∙ ap (λ (l : List OwnEntry). w.done ++ l) f.1) is
-
--- ---- the kept snapshots
-
--- one of them lists the name
-pub some_lists : (kept : List Snapshot) (i : ℕ) (d : Snapshot) (n : List ℕ) → i < length kept → name_listed (get_or kept i d).names n ≡ true → kept_lists kept n ≡ true
-some_lists [] i d n lt h = absurd (omega (arith, lt))
-some_lists (k ∷ ks) zero d n lt h = rw h refl
-some_lists (k ∷ ks) (suc i) d n lt h = ap (λ (b : Bool). name_listed k.names n || b) (some_lists ks i d n (omega (arith, lt)) h) ∙ or_true (name_listed k.names n)
-  where
-    or_true : (a : Bool) → (a || true) ≡ true
-    or_true true = refl
-    or_true false = refl

@@ -1,9 +1,6 @@
 //! The question that is asked before buddies are chosen.
 
-ghost use Rattle.std.specs.Prelude.{◌≡◌, ◌==◌, not, true, length, IfOk};
-ghost use Rattle.std.specs.List.{list_all};
-ghost use Rattle.psb_model.specs.Conditions.{names_ascend};
-ghost use Rattle.psb_ledger.specs.View.{in_order, own_key};
+ghost use Rattle.std.specs.Prelude.{◌≡◌, ◌==◌, not, length, IfOk};
 ghost use Rattle.psb_machine.specs.Sampling.{salt_of, question_of, keeps_question};
 
 use crate::wanted::wanted_names;
@@ -31,8 +28,6 @@ fn salt_of(seed: &Digest, change: u64) -> Digest
 /// What peers are to be asked: the wanted names that come first under the salt of the latest snapshot. None exactly
 /// where no snapshot was made, or no node begun. It hashes each wanted name once.
 pub fn question_of(alloc: Global, ledger: &Ledger) -> Result<Option<Question>, Memory>
-    requires own { in_order own_key ledger.now.state.own ≡ true }
-    requires kept { list_all (λ k. names_ascend k.names) ledger.now.state.kept ≡ true }
     ensures { IfOk result (λ o. o ≡ question_of ledger.now.state) }
 {
     let (Some(settings), Some(mark)) = (ledger.settings(), ledger.snapped()) else {
@@ -62,11 +57,11 @@ pub fn keeps_question(change: &Change) -> bool
 {
     !matches!(
         change,
-        Change::Begun { .. }
-            | Change::Kept { .. }
-            | Change::Snapped { .. }
-            | Change::Forgot { .. }
-            | Change::Settled { .. }
-            | Change::Turned { .. }
+        Change::Begun(_)
+            | Change::Kept(_)
+            | Change::Snapped(_)
+            | Change::Forgot(_)
+            | Change::Settled(_)
+            | Change::Turned(_)
     )
 }

@@ -9,7 +9,7 @@ use Rattle.node_journal.specs.Entry.{Entry}
 use Rattle.psb_model.specs.State.{State, is_held, own_has, snaps_made}
 use Rattle.psb_model.specs.History.{state}
 use Rattle.psb_model.specs.Needed.{IsValid}
-use Rattle.psb_model.specs.declared.entries.Snapshot.{Snapshot}
+use Rattle.psb_model.specs.declared.snapshots.Snapshot.{Snapshot}
 use Rattle.psb_model.specs.declared.change.Change.{Change}
 use Rattle.psb_model.proofs.Prefixes.{state_snoc}
 use Rattle.psb_machine.specs.Deals.{meets_others}

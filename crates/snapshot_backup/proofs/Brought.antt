@@ -19,10 +19,10 @@ use Rattle.snapshot_backup.specs.Course.{keep_steps}
 use Rattle.snapshot_backup.proofs.Keeping.{last_stays, last_is}
 
 -- a Kept brings its bytes or none
-kept_brings : (held : Bool) (name bytes q x : List ℕ) (h : List Change) → (let c = Kept name (length bytes) (not held) (Some (cond (not held) bytes [])) in last_brought q (h ++ c ∷ []) ≡ Some x) → (last_brought q h ≡ Some x) ⊎ (x ≡ bytes)
-kept_brings true name bytes q x h is = inl (sym (last_stays q h (Kept name (length bytes) false (Some [])) refl) ∙ is)
+kept_brings : (held : Bool) (name bytes q x : List ℕ) (h : List Change) → (let c = Kept (record { name = name; len = length bytes; new = not held; body = Some (cond (not held) bytes []) }) in last_brought q (h ++ c ∷ []) ≡ Some x) → (last_brought q h ≡ Some x) ⊎ (x ≡ bytes)
+kept_brings true name bytes q x h is = inl (sym (last_stays q h (Kept (record { name = name; len = length bytes; new = false; body = Some [] })) refl) ∙ is)
 kept_brings false name bytes q x h is =
-    let c = Kept name (length bytes) true (Some bytes) in
+    let c = Kept (record { name = name; len = length bytes; new = true; body = Some bytes }) in
     by_cases (name_eq name q)
     (λ same. inr (same_some (Some x) x bytes refl (sym is ∙ last_is q h c same)))
     (λ other. inl (sym (last_stays q h c other) ∙ is))

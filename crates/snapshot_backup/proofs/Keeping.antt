@@ -68,7 +68,7 @@ or_true false = refl
 held_own : (s : State) (name : List ℕ) → own_has s.own name ≡ true → is_held s name ≡ true
 held_own s name own = rw own refl
 
-same_brings : (held : Bool) (name bytes q : List ℕ) → brings_name q (Kept name (length bytes) (not held) (Some (cond (not held) bytes []))) ≡ (not held && name_eq name q)
+same_brings : (held : Bool) (name bytes q : List ℕ) → brings_name q (Kept (record { name = name; len = length bytes; new = not held; body = Some (cond (not held) bytes []) })) ≡ (not held && name_eq name q)
 same_brings true name bytes q = refl
 same_brings false name bytes q = refl
 
@@ -203,7 +203,7 @@ keeps_piece n plain v none there = at (own_has (state n.history).own (sealed_ref
 
 -- ---- what a state has for itself
 
-made_kept : (s : State) (name : List ℕ) (len : ℕ) (new : Bool) (body : Option (List ℕ)) → snaps_made (after s (Kept name len new body)) ≡ snaps_made s
+made_kept : (s : State) (name : List ℕ) (len : ℕ) (new : Bool) (body : Option (List ℕ)) → snaps_made (after s (Kept (record { name = name; len = len; new = new; body = body }))) ≡ snaps_made s
 made_kept s name len new body = refl
 
 owned_step : (h : List Change) (name bytes q : List ℕ) → IsValid h → own_has (state h).own q ≡ true → own_has (state (h ++ kept_with (state h) name bytes ∷ [])).own q ≡ true

@@ -8,7 +8,7 @@ use Rattle.psb_model.specs.Words.{name_listed}
 use Rattle.psb_model.specs.Conditions.{names_ascend}
 use Rattle.psb_model.specs.State.{snaps_made}
 use Rattle.psb_model.specs.History.{state}
-use Rattle.psb_model.specs.declared.entries.Snapshot.{Snapshot}
+use Rattle.psb_model.specs.declared.snapshots.Snapshot.{Snapshot}
 use Rattle.psb_model.specs.declared.change.Change.{Change}
 use Rattle.psb_model.specs.declared.change.Change.TheVariants.{Kept}
 use Rattle.psb_machine.specs.Machine.{Situation, snapped_with}
@@ -61,7 +61,7 @@ pub record IsSnapOf (content : Content) (root : List ℕ) (places : List Place) 
 -- ---- what was made
 
 abbrev pub IsKeptChange : Change → Type 0
-IsKeptChange c = (name : List ℕ) × (len : ℕ) × (new : Bool) × (body : Option (List ℕ)) × (c ≡ Kept name len new body)
+IsKeptChange c = (name : List ℕ) × (len : ℕ) × (new : Bool) × (body : Option (List ℕ)) × (c ≡ Kept (record { name = name; len = len; new = new; body = body }))
 
 -- The whole course was done, which made pieces the node's own and noted the snapshot. Over the bodies that the node has
 -- for itself then, the ticket means the tree.

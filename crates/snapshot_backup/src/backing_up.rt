@@ -4,7 +4,7 @@ ghost use Rattle.psb_station.specs.Calls.{Rose};
 ghost use Rattle.psb_station.specs.Folder.{Tells_content};
 ghost use Rattle.psb_station.specs.Span.{Tells_bytes};
 ghost use Rattle.psb_model.specs.State.{snaps_made};
-ghost use Rattle.psb_model.specs.declared.entries.Snapshot.{Snapshot};
+ghost use Rattle.psb_model.specs.declared.snapshots.Snapshot.{Snapshot};
 ghost use Rattle.psb_machine.specs.Machine.{Situation};
 ghost use Rattle.node_core.specs.declared.fault.Fault.{Fault};
 ghost use Rattle.node_core.specs.declared.fault.Fault.TheVariants as fault;

@@ -8,7 +8,7 @@ use super::replies::{
 };
 use super::*;
 use psb_bytes::{DigestList, Object, ObjectList, Ref, Ticket};
-use psb_model::DealWhat;
+use psb_model::{DealWhat, Kept, Proposed, Settled, Snapped, Turned};
 
 /// What the node and the peer have of each other.
 #[derive(Clone, Copy)]
@@ -96,12 +96,12 @@ const OTHER: Digest = Digest([8; 32]);
 fn kept_other() -> Change
     ensures { IsTrue (in_grammar result) }
 {
-    Change::Kept {
+    Change::Kept(Kept {
         name: OTHER,
         len: 100,
         new: true,
         body: None,
-    }
+    })
 }
 
 fn snapped_other(alloc: Global) -> Result<Change, Memory>
@@ -112,7 +112,7 @@ fn snapped_other(alloc: Global) -> Result<Change, Memory>
         handle: Digest([0; 32]),
         len: 100,
     };
-    Ok(Change::Snapped {
+    Ok(Change::Snapped(Snapped {
         number: 2,
         ticket: Ticket {
             reference,
@@ -123,11 +123,11 @@ fn snapped_other(alloc: Global) -> Result<Change, Memory>
         bytes: 100,
         left: 0,
         names: DigestList::copy(alloc, &[OTHER])?,
-    })
+    }))
 }
 
 /// The other chunk is wanted too.
-fn add_other(rt: &impl Abort, alloc: Global, ledger: &mut Ledger) -> Result<(), Memory> {
+fn add_other(rt: &impl Abort, alloc: Global, ledger: &mut Planner) -> Result<(), Memory> {
     make(rt, ledger, kept_other())?;
     make(rt, ledger, snapped_other(alloc)?)
 }
@@ -135,42 +135,42 @@ fn add_other(rt: &impl Abort, alloc: Global, ledger: &mut Ledger) -> Result<(), 
 fn turned() -> Change
     ensures { IsTrue (in_grammar result) }
 {
-    Change::Turned {
+    Change::Turned(Turned {
         peer: PEER,
         deal: 2,
         why: 8,
         detail: 0,
-    }
+    })
 }
 
 /// The Swap is settled.
 fn settled_swap(alloc: Global) -> Change
     ensures { IsTrue (in_grammar result) }
 {
-    Change::Settled {
+    Change::Settled(Settled {
         peer: PEER,
         deal: 1,
         slots: SlotList::from_vec(Vec::new(alloc)),
         body: None,
-    }
+    })
 }
 
 /// The node has the slots 0 and 1 there, and the peer has none here.
-fn with_few(rt: &impl Abort, alloc: Global) -> Result<Ledger, Memory> {
-    let mut ledger = Ledger::new(alloc);
+fn with_few(rt: &impl Abort, alloc: Global) -> Result<Planner, Memory> {
+    let mut ledger = Planner::new(alloc);
     make(rt, &mut ledger, begun(alloc)?)?;
     make(rt, &mut ledger, fresh(1, 7, 0))?;
     Ok(ledger)
 }
 
 /// The own chunk is wanted.
-fn want(rt: &impl Abort, alloc: Global, ledger: &mut Ledger) -> Result<(), Memory> {
+fn want(rt: &impl Abort, alloc: Global, ledger: &mut Planner) -> Result<(), Memory> {
     make(rt, ledger, kept())?;
     make(rt, ledger, snapped(alloc)?)
 }
 
 /// It is stored in the place of the slots 0 and 1, and wanted no longer.
-fn swap(rt: &impl Abort, alloc: Global, ledger: &mut Ledger) -> Result<(), Memory> {
+fn swap(rt: &impl Abort, alloc: Global, ledger: &mut Planner) -> Result<(), Memory> {
     want(rt, alloc, ledger)?;
     make(rt, ledger, chose(alloc)?)?;
     make(rt, ledger, proposed_swap(alloc)?)?;
@@ -179,14 +179,14 @@ fn swap(rt: &impl Abort, alloc: Global, ledger: &mut Ledger) -> Result<(), Memor
 }
 
 /// A Cancel of it is turned down.
-fn turn(rt: &impl Abort, alloc: Global, ledger: &mut Ledger) -> Result<(), Memory> {
+fn turn(rt: &impl Abort, alloc: Global, ledger: &mut Planner) -> Result<(), Memory> {
     make(rt, ledger, proposed_cancel(alloc)?)?;
     make(rt, ledger, turned())
 }
 
-fn first_ledger(rt: &impl Abort, alloc: Global, stage: Stage) -> Result<Ledger, Memory> {
+fn first_ledger(rt: &impl Abort, alloc: Global, stage: Stage) -> Result<Planner, Memory> {
     match stage {
-        Stage::Nothing => Ok(Ledger::new(alloc)),
+        Stage::Nothing => Ok(Planner::new(alloc)),
         Stage::NotChosen => with_slots(rt, alloc),
         Stage::Wanted | Stage::TwoWanted => with_own(rt, alloc),
         Stage::Marked | Stage::Turned => with_placed(rt, alloc),
@@ -194,7 +194,7 @@ fn first_ledger(rt: &impl Abort, alloc: Global, stage: Stage) -> Result<Ledger, 
     }
 }
 
-fn lead(rt: &impl Abort, alloc: Global, ledger: &mut Ledger, stage: Stage) -> Result<(), Memory> {
+fn lead(rt: &impl Abort, alloc: Global, ledger: &mut Planner, stage: Stage) -> Result<(), Memory> {
     match stage {
         Stage::Nothing | Stage::Wanted => Ok(()),
         Stage::NotChosen => want(rt, alloc, ledger),
@@ -204,7 +204,7 @@ fn lead(rt: &impl Abort, alloc: Global, ledger: &mut Ledger, stage: Stage) -> Re
     }
 }
 
-fn ledger_at(rt: &impl Abort, alloc: Global, stage: Stage) -> Result<Ledger, Memory> {
+fn ledger_at(rt: &impl Abort, alloc: Global, stage: Stage) -> Result<Planner, Memory> {
     let mut ledger = first_ledger(rt, alloc, stage)?;
     lead(rt, alloc, &mut ledger, stage)?;
     Ok(ledger)
@@ -242,7 +242,7 @@ fn is_proposed(change: &Option<Change>, want: Option<Told>) -> bool {
         return change.is_none() && want.is_none();
     };
     match change {
-        Change::Proposed { peer, deal, what } => {
+        Change::Proposed(Proposed { peer, deal, what }) => {
             *peer == PEER && *deal == want.1 && is_deal(what, want)
         }
         _ => false,
@@ -253,12 +253,12 @@ fn is_proposed(change: &Option<Change>, want: Option<Told>) -> bool {
 fn is_next(
     rt: &impl Abort,
     alloc: Global,
-    ledger: &Ledger,
+    ledger: &Planner,
     listed: &ObjectList,
     facts: &ProposeFacts,
     want: Option<Told>,
 ) -> Result<bool, Memory> {
-    assert!(rt; ledger.mine(PEER) < 1000);
+    assert!(rt; ledger.ledger().row(PEER).mine() < 1000);
     let change = propose(alloc, ledger, PEER, listed, facts)?;
     Ok(is_proposed(&change, want))
 }
@@ -269,7 +269,7 @@ fn is_told(rt: &impl Abort, alloc: Global, row: &Row) -> Result<bool, Memory> {
     let mut ledger = ledger_at(rt, alloc, *stage)?;
     let objects = listed(alloc, slots)?;
     let facts = ProposeFacts {
-        issued: ledger.issued(),
+        issued: ledger.ledger().issued(),
         capacity: *capacity,
         forward: true,
     };

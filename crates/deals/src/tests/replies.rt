@@ -5,7 +5,9 @@ ghost use Rattle.psb_model.specs.Grammar.{in_grammar};
 
 use super::*;
 use psb_bytes::{DigestList, Ref, Ticket};
-use psb_model::{Candidate, CandidateList, Deal, DealWhat};
+use psb_model::{
+    Candidate, CandidateList, Chose, Deal, DealWhat, Forgot, Kept, Proposed, Settled, Snapped,
+};
 
 /// Which own deal is pending.
 #[derive(Clone, Copy)]
@@ -144,12 +146,12 @@ pub(super) const OWN: Digest = Digest([5; 32]);
 pub(super) fn kept() -> Change
     ensures { IsTrue (in_grammar result) }
 {
-    Change::Kept {
+    Change::Kept(Kept {
         name: OWN,
         len: 600,
         new: true,
         body: None,
-    }
+    })
 }
 
 pub(super) fn snapped(alloc: Global) -> Result<Change, Memory>
@@ -160,7 +162,7 @@ pub(super) fn snapped(alloc: Global) -> Result<Change, Memory>
         handle: Digest([0; 32]),
         len: 600,
     };
-    Ok(Change::Snapped {
+    Ok(Change::Snapped(Snapped {
         number: 1,
         ticket: Ticket {
             reference,
@@ -171,7 +173,7 @@ pub(super) fn snapped(alloc: Global) -> Result<Change, Memory>
         bytes: 600,
         left: 0,
         names: DigestList::copy(alloc, &[OWN])?,
-    })
+    }))
 }
 
 pub(super) fn chose(alloc: Global) -> Result<Change, Memory>
@@ -183,13 +185,13 @@ pub(super) fn chose(alloc: Global) -> Result<Change, Memory>
         of: 1,
         hops: 0,
     };
-    Ok(Change::Chose {
+    Ok(Change::Chose(Chose {
         candidates: CandidateList::copy(alloc, &[candidate])?,
-    })
+    }))
 }
 
 /// Peer 2 is chosen, and has slots here as in `with_slots`; the own chunk is wanted.
-pub(super) fn with_own(rt: &impl Abort, alloc: Global) -> Result<Ledger, Memory> {
+pub(super) fn with_own(rt: &impl Abort, alloc: Global) -> Result<Planner, Memory> {
     let mut ledger = with_slots(rt, alloc)?;
     make(rt, &mut ledger, kept())?;
     make(rt, &mut ledger, snapped(alloc)?)?;
@@ -200,72 +202,72 @@ pub(super) fn with_own(rt: &impl Abort, alloc: Global) -> Result<Ledger, Memory>
 pub(super) fn proposed_fresh() -> Change
     ensures { IsTrue (in_grammar result) }
 {
-    Change::Proposed {
+    Change::Proposed(Proposed {
         peer: PEER,
         deal: 1,
         what: DealWhat::Fresh { name: OWN },
-    }
+    })
 }
 
 pub(super) fn proposed_swap(alloc: Global) -> Result<Change, Memory>
     ensures { IfOk result (λ c. IsTrue (in_grammar c)) }
 {
-    Ok(Change::Proposed {
+    Ok(Change::Proposed(Proposed {
         peer: PEER,
         deal: 1,
         what: DealWhat::Swap {
             name: OWN,
             slots: SlotList::copy(alloc, &[0, 1])?,
         },
-    })
+    }))
 }
 
 pub(super) fn proposed_cancel(alloc: Global) -> Result<Change, Memory>
     ensures { IfOk result (λ c. IsTrue (in_grammar c)) }
 {
-    Ok(Change::Proposed {
+    Ok(Change::Proposed(Proposed {
         peer: PEER,
         deal: 2,
         what: DealWhat::Cancel {
             name: OWN,
             slots: SlotList::copy(alloc, &[20, 21])?,
         },
-    })
+    }))
 }
 
 fn proposed_put_back() -> Change
     ensures { IsTrue (in_grammar result) }
 {
-    Change::Proposed {
+    Change::Proposed(Proposed {
         peer: PEER,
         deal: 2,
         what: DealWhat::PutBack {
             name: OWN,
             first: 4,
         },
-    }
+    })
 }
 
 /// The own chunk is stored against the slots 20 and 21.
 pub(super) fn settled(alloc: Global) -> Result<Change, Memory>
     ensures { IfOk result (λ c. IsTrue (in_grammar c)) }
 {
-    Ok(Change::Settled {
+    Ok(Change::Settled(Settled {
         peer: PEER,
         deal: 1,
         slots: SlotList::copy(alloc, &[20, 21])?,
         body: None,
-    })
+    }))
 }
 
 pub(super) fn forgot() -> Change
     ensures { IsTrue (in_grammar result) }
 {
-    Change::Forgot { number: 1 }
+    Change::Forgot(Forgot { number: 1 })
 }
 
 /// The own chunk stands with the peer, and is wanted no longer.
-pub(super) fn with_placed(rt: &impl Abort, alloc: Global) -> Result<Ledger, Memory> {
+pub(super) fn with_placed(rt: &impl Abort, alloc: Global) -> Result<Planner, Memory> {
     let mut ledger = with_own(rt, alloc)?;
     make(rt, &mut ledger, proposed_fresh())?;
     make(rt, &mut ledger, settled(alloc)?)?;
@@ -274,7 +276,7 @@ pub(super) fn with_placed(rt: &impl Abort, alloc: Global) -> Result<Ledger, Memo
 }
 
 /// A ledger with this deal pending.
-fn ledger_with(rt: &impl Abort, alloc: Global, pending: Pending) -> Result<Ledger, Memory> {
+fn ledger_with(rt: &impl Abort, alloc: Global, pending: Pending) -> Result<Planner, Memory> {
     match pending {
         Pending::Nothing => with_placed(rt, alloc),
         Pending::Fresh => {
@@ -331,8 +333,8 @@ fn settled_kind(alloc: Global, ledger: &Ledger, number: u64, datagram: &[u8]) ->
     let reply = ReplyView { number, answer };
     Ok(match settle(alloc, ledger, PEER, &reply)? {
         None => 0,
-        Some(Change::Settled { .. }) => 12,
-        Some(Change::Turned { .. }) => 13,
+        Some(Change::Settled(_)) => 12,
+        Some(Change::Turned(_)) => 13,
         Some(_) => 255,
     })
 }
@@ -347,7 +349,7 @@ fn run_rows(rt: &impl Abort, alloc: Global, rows: &[Row]) -> Result<(), Fail> {
         };
         let frame = sealed(alloc, kind, &body)?;
         assert_eq!(rt;
-            settled_kind(alloc, &ledger, *number, &frame)?,
+            settled_kind(alloc, ledger.ledger(), *number, &frame)?,
             *want,
             "{what}"
         );

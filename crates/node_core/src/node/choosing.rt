@@ -4,10 +4,9 @@ ghost use Rattle.std.specs.Prelude.{◌≡◌, List, ℕ, Some, option_to_list, 
 ghost use Rattle.std.specs.Option.{option_map, option_copied};
 ghost use Rattle.psb_settings.specs.declared.settings.Settings.{Settings};
 ghost use Rattle.psb_model.specs.History.{state};
-ghost use Rattle.psb_model.specs.declared.change.Change.TheVariants.{Chose};
 ghost use Rattle.wire_codec.specs.Frames.{key_in};
 ghost use Rattle.psb_machine.specs.Sampling.{question_of, open_question, questions};
-ghost use Rattle.psb_machine.specs.Machine.{Situation, choice_at};
+ghost use Rattle.psb_machine.specs.Machine.{Situation, choice_at, choice_of};
 ghost use Rattle.node_core.specs.Clocks.{clock_of};
 
 use super::Node;
@@ -32,8 +31,8 @@ impl<L: Log> Node<L> {
         ensures worked { OnOk result (IsWorkedOut self.new.question self.new.ledger.state) }
         ensures same { IsSame self.old self.new }
     {
-        if self.question.is_none() && self.ledger.chosen().is_empty() {
-            self.question = question_of(self.alloc, &self.ledger)?;
+        if self.question.is_none() && self.ledger.ledger().chosen().is_empty() {
+            self.question = question_of(self.alloc, self.ledger.ledger())?;
         }
         Ok(())
     }
@@ -43,7 +42,7 @@ impl<L: Log> Node<L> {
         requires worked { IsWorkedOut self.now.question self.now.ledger.state }
         ensures { option_copied result ≡ open_question self.now.ledger.state }
     {
-        if !self.ledger.chosen().is_empty() {
+        if !self.ledger.ledger().chosen().is_empty() {
             return None;
         }
         let Some(question) = &self.question else {
@@ -60,7 +59,7 @@ impl<L: Log> Node<L> {
         requires known { (n : Situation) × Knows self.now n }
         requires worked { IsWorkedOut self.now.question self.now.ledger.state }
         requires clock { clock_of self.now.clocks.items peer ≡ Some clock.now }
-        ensures choice { IfOk result (λ o. (n : Situation) (settings : Settings) → Knows self.now n → (state n.history).settings ≡ Some settings → o ≡ option_map Chose (choice_at settings n peer)) }
+        ensures choice { IfOk result (λ o. (n : Situation) (settings : Settings) → Knows self.now n → (state n.history).settings ≡ Some settings → o ≡ option_map choice_of (choice_at settings n peer)) }
     {
         let Some(question) = self.open_question() else {
             return Ok(None);
@@ -68,7 +67,7 @@ impl<L: Log> Node<L> {
         if !self.peers.is_last(peer) {
             return Ok(None);
         }
-        let Some(settings) = self.ledger.settings() else {
+        let Some(settings) = self.ledger.ledger().settings() else {
             return Ok(None);
         };
         let names = question.names.as_slice().len() as u32;

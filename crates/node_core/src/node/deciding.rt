@@ -125,7 +125,7 @@ impl<L: Log> Node<L> {
             Reading::Told(told) => return Decision::Hear(told),
             Reading::Offer(offer) => offer,
         };
-        let last = self.ledger.last(offer.peer);
+        let last = self.ledger.ledger().row(offer.peer).last();
         match standing(last.number, offer.number) {
             Standing::Fresh => Decision::Make(offer),
             Standing::Repeat => Decision::Again(offer, last.change),
@@ -153,7 +153,7 @@ impl<L: Log> Node<L> {
         ensures untold { IfOk result (λ r. r.out ≡ []) }
         ensures only { OnErr result (result ≡ Err Fault.Memory) }
     {
-        match deals::settle(self.alloc, &self.ledger, reply.peer, &reply.reply)? {
+        match deals::settle(self.alloc, self.ledger.ledger(), reply.peer, &reply.reply)? {
             None => Ok(quiet(self.alloc, None)),
             Some(change) => Ok(untold(self.alloc, change)),
         }
@@ -206,7 +206,7 @@ impl<L: Log> Node<L> {
         ensures only { OnErr result (result ≡ Err Fault.Memory) }
     {
         let alloc = self.alloc;
-        let bits = sample_of(&self.ledger, &inquiry.names);
+        let bits = sample_of(self.ledger.ledger(), &inquiry.names);
         let frame = sample_frame(&inquiry.salt, bits);
         let own = self.peers.own().id;
         let letter = letter_to(
@@ -270,7 +270,7 @@ impl<L: Log> Node<L> {
             self.alloc,
             &mut self.log,
             disk,
-            &self.ledger,
+            self.ledger.ledger(),
             &self.names,
             offer,
         )?;
@@ -287,7 +287,7 @@ impl<L: Log> Node<L> {
         ensures only { OnErr result (result ≡ Err Fault.Memory) }
     {
         let alloc = self.alloc;
-        let change = deals::judge(alloc, &self.ledger, offer.peer, &offer.deal, facts)?;
+        let change = deals::judge(alloc, self.ledger.ledger(), offer.peer, &offer.deal, facts)?;
         let Some(reply) = reply_to(alloc, &mut self.claims, &change)? else {
             unreachable!()
         };

@@ -24,7 +24,7 @@ use node_journal::Log;
 use psb_bytes::{Digest, Items, Memory};
 use psb_ledger::Ledger;
 use psb_machine::SnapNote;
-use psb_model::Change;
+use psb_model::{Change, Forgot, Kept, Snapped};
 use psb_station::Disk;
 use std::alloc::Global;
 
@@ -67,12 +67,12 @@ fn kept(alloc: Global, name: &Digest, bytes: &[u8], new: bool) -> Result<Change,
     ensures { IfOk result (λ c. (s : State) → new ≡ not (is_held s name.now) → c ≡ kept_with s name.now bytes.now) }
 {
     let body = if new { bytes } else { &[] };
-    Ok(Change::Kept {
+    Ok(Change::Kept(Kept {
         name: *name,
         len: bytes.len() as u32,
         new,
         body: Some(Items::copy(alloc, body)?),
-    })
+    }))
 }
 
 /// The change that notes a snapshot.
@@ -84,7 +84,7 @@ fn snapped(alloc: Global, ledger: &Ledger, note: &SnapNote) -> Result<Change, Me
         None => 0,
         Some(mark) => mark.number,
     };
-    Ok(Change::Snapped {
+    Ok(Change::Snapped(Snapped {
         number: made + 1,
         ticket: note.ticket,
         files: note.files,
@@ -92,7 +92,7 @@ fn snapped(alloc: Global, ledger: &Ledger, note: &SnapNote) -> Result<Change, Me
         bytes: note.bytes,
         left: note.left,
         names: Items::copy(alloc, note.names.as_slice())?,
-    })
+    }))
 }
 
 impl<L: Log> Node<L> {
@@ -146,7 +146,7 @@ impl<L: Log> Node<L> {
         ensures out { IfOk result (λ r. r.out ≡ []) }
         ensures only { OnErr result (result ≡ Err Fault.Memory) }
     {
-        let change = snapped(self.alloc, &self.ledger, note)?;
+        let change = snapped(self.alloc, self.ledger.ledger(), note)?;
         Ok(untold(self.alloc, change))
     }
 
@@ -161,9 +161,9 @@ impl<L: Log> Node<L> {
         ensures out { IfOk result (λ r. r.out ≡ []) }
         ensures only { OnErr result (result ≡ Err (Fault.NoSnapshot number)) }
     {
-        if !self.ledger.has_snapshot(number) {
+        if !self.ledger.ledger().has_snapshot(number) {
             return Err(Fault::NoSnapshot(number));
         }
-        Ok(untold(self.alloc, Change::Forgot { number }))
+        Ok(untold(self.alloc, Change::Forgot(Forgot { number })))
     }
 }

@@ -246,7 +246,11 @@ impl<L: Log> Node<L> {
         ensures fits { IfOk result (λ f. fits f ≡ true) }
         ensures same { IsSame self.old self.new }
     {
-        let count = self.ledger.units_out(peer, &Object::Chunk(*name));
+        let count = self
+            .ledger
+            .ledger()
+            .row(peer)
+            .units_out(&Object::Chunk(*name));
         put_back_of(self.alloc, &mut self.claims, *name, first, count)
     }
 }

@@ -1,5 +1,5 @@
 use Rattle.std.proofs.Common.{◌≡◌, inl, inr, ⊎_elim, List, Err, sym, ◌∙◌, ap, subst}
-use Rattle.psb_model.specs.declared.entries.Snapshot.{Snapshot}
+use Rattle.psb_model.specs.declared.snapshots.Snapshot.{Snapshot}
 use Rattle.psb_machine.specs.Machine.{fresh}
 use Rattle.psb_station.specs.View.{View}
 use Rattle.backup_cli.specs.Says.{Utters, IsRefusal}

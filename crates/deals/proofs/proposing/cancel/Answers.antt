@@ -7,7 +7,7 @@ use Rattle.deals.proofs.proposing.cancel.Goals as goal
 
 pub returns-then-as_slice-units : goal.returns-then-as_slice-units
 returns-then-as_slice-units c =
-    let s = c.args.ledger.now.state in
+    let s = c.args.planner.now.state in
     let p = c.args.peer in
     let slots = c.in_ok-slots.slots in
     let is : slots ≡ take c.args.units (slots_to_give s p) = search rules in
@@ -15,7 +15,7 @@ returns-then-as_slice-units c =
 
 pub returns : goal.returns
 returns c =
-    let s = c.args.ledger.now.state in
+    let s = c.args.planner.now.state in
     let p = c.args.peer in
     let name = c.args.name.now in
     let slots = c.in_ok-slots.slots in

@@ -1,4 +1,4 @@
-use Rattle.std.proofs.Common.{rules, ◌≡◌, Some, length, ◌∙◌, ap, is_none}
+use Rattle.std.proofs.Common.{rules, ◌≡◌, Some, length, ◌∙◌, is_none}
 use Rattle.std.proofs.lemmas.List.{length-map}
 use Rattle.psb_bytes.specs.declared.lists.SlotClaim.{SlotClaim}
 use Rattle.psb_model.specs.declared.deals.DealWhat.TheVariants.{Fresh}

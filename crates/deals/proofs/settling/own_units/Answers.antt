@@ -1,5 +1,5 @@
 use Rattle.std.proofs.Common.{rules, ◌≡◌, ◌∙◌, ap, unwrap_or}
-use Rattle.psb_ledger.specs.OwnList.{known_len}
+use Rattle.own_chunks.specs.OwnList.{known_len}
 use Rattle.psb_model.specs.Words.{units}
 use Rattle.deals.proofs.Pending.{known_or_none}
 use Rattle.deals.proofs.settling.own_units.Goals as goal

@@ -2,7 +2,7 @@
 use Rattle.std.proofs.Common.{◌<◌, ◌∙◌, List, length, get_or, slice_set, ap, rules}
 use Rattle.node_core.specs.declared.clocks.Clock.{Clock}
 use Rattle.node_core.specs.Clocks.{sampled}
-use Rattle.psb_ledger.proofs.PassedOn.{map_on}
+use Rattle.next_deals.proofs.Searched.{map_on}
 use Rattle.node_core.proofs.clocks.keep_sample.Goals as goal
 
 pub loop-i-preserved : goal.loop-i-preserved

@@ -12,14 +12,14 @@ loop-next-smaller c =
     let e = c.in-Some.own in
     let w = subst (λ (o : Option OwnEntry). WalkedTo s.own (kept_lists (kept_without c.args.number s.kept)) o c.loop-next.names.items) c.in-Some.is c.loop-next.invariant in
     subst (λ (o : Option OwnEntry). own_left c.own_after-next-in-Some.result s.own < own_left o s.own) (sym c.in-Some.is)
-    (walk_falls s.own (kept_lists (kept_without c.args.number s.kept)) e c.own_after-next-in-Some.result c.loop-next.names.items c.requires.own w c.own_after-next-in-Some.ensures)
+    (walk_falls s.own (kept_lists (kept_without c.args.number s.kept)) e c.own_after-next-in-Some.result c.loop-next.names.items c.requires.own w c.own_after-next-in-Some.ensures.chunk)
 
 pub loop-next-preserved : goal.loop-next-preserved
 loop-next-preserved c =
     let s = c.args.past.now.state in
     let e = c.in-Some.own in
     let w = subst (λ (o : Option OwnEntry). WalkedTo s.own (kept_lists (kept_without c.args.number s.kept)) o c.loop-next.names.items) c.in-Some.is c.loop-next.invariant in
-    walk_on s.own (kept_lists (kept_without c.args.number s.kept)) e c.own_after-next-in-Some.result c.loop-next.names.items c.add_unlisted.new.names.items c.requires.own w c.own_after-next-in-Some.ensures c.in_ok-add_unlisted.ensures
+    walk_on s.own (kept_lists (kept_without c.args.number s.kept)) e c.own_after-next-in-Some.result c.loop-next.names.items c.add_unlisted.new.names.items c.requires.own w c.own_after-next-in-Some.ensures.chunk c.in_ok-add_unlisted.ensures
 
 pub returns : goal.returns
 returns c = λ q.

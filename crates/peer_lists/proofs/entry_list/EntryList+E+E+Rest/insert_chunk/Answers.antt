@@ -1,7 +1,7 @@
 use Rattle.std.proofs.Common.{◌++◌, ap, ◌∙◌}
 use Rattle.peer_lists.specs.Entries.{in_order}
 use Rattle.peer_lists.specs.Trees.{tree_items}
-use Rattle.peer_lists.specs.SlotRuns.{runs}
+use Rattle.slot_runs.specs.SlotRuns.{runs}
 use Rattle.peer_lists.specs.Slots.{slot_items}
 use Rattle.peer_lists.specs.Chunks.{is_chunk}
 use Rattle.psb_model.proofs.ByObject.{all_with_one}
@@ -20,7 +20,7 @@ returns-clause-list g c =
     record {
       ordered = ap (in_order key) c.insert.ensures ∙ in_order_with key e l c.requires.list.ordered (lacks_front key l (slot_items key joined (runs t.slots)) (key e) c.requires.absent);
       chunks = ap (chunks key) c.insert.ensures ∙ all_with_one key (λ x. is_chunk (key x)) e l c.requires.chunk c.requires.list.chunks;
-      runs = c.requires.list.runs;
+      slots = c.requires.list.slots;
     }
 
 pub returns-clause-items : goal.returns-clause-items
@@ -29,4 +29,4 @@ returns-clause-items g c =
     let joined = g.E.Entry.joined in
     let t = c.args.self.now in
     let s = slot_items key joined (runs t.slots) in
-    ap (λ l. l ++ s) c.insert.ensures ∙ chunk_in key c.args.entry (tree_items key joined t.chunks) s c.requires.chunk (table_of key joined g.met.E.Entry.key_joined (runs t.slots) c.requires.list.runs).slots
+    ap (λ l. l ++ s) c.insert.ensures ∙ chunk_in key c.args.entry (tree_items key joined t.chunks) s c.requires.chunk (table_of key joined g.met.E.Entry.key_joined (runs t.slots) c.requires.list.slots.are).slots

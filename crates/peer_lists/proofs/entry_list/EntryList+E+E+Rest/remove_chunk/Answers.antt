@@ -2,7 +2,7 @@ use Rattle.std.proofs.Common.{◌∷◌, [], ◌++◌, not, ap, ◌∙◌}
 use Rattle.psb_model.specs.Words.{listed}
 use Rattle.peer_lists.specs.Entries.{in_order}
 use Rattle.peer_lists.specs.Trees.{tree_items}
-use Rattle.peer_lists.specs.SlotRuns.{runs}
+use Rattle.slot_runs.specs.SlotRuns.{runs}
 use Rattle.peer_lists.specs.Slots.{slot_items}
 use Rattle.peer_lists.specs.Chunks.{is_chunk}
 use Rattle.psb_model.proofs.ByObject.{all_kept}
@@ -20,7 +20,7 @@ returns-clause-list g c =
     record {
       ordered = ap (in_order key) c.remove.ensures.items ∙ in_order_kept key (λ e. not (listed (o ∷ []) (key e))) l c.requires.list.ordered;
       chunks = ap (chunks key) c.remove.ensures.items ∙ all_kept (λ x. is_chunk (key x)) (λ e. not (listed (o ∷ []) (key e))) l c.requires.list.chunks;
-      runs = c.requires.list.runs;
+      slots = c.requires.list.slots;
     }
 
 pub returns-clause-items : goal.returns-clause-items
@@ -29,4 +29,4 @@ returns-clause-items g c =
     let joined = g.E.Entry.joined in
     let t = c.args.self.now in
     let s = slot_items key joined (runs t.slots) in
-    ap (λ l. l ++ s) c.remove.ensures.items ∙ chunk_out key c.args.chunk.now (tree_items key joined t.chunks) s c.requires.chunk (table_of key joined g.met.E.Entry.key_joined (runs t.slots) c.requires.list.runs).slots
+    ap (λ l. l ++ s) c.remove.ensures.items ∙ chunk_out key c.args.chunk.now (tree_items key joined t.chunks) s c.requires.chunk (table_of key joined g.met.E.Entry.key_joined (runs t.slots) c.requires.list.slots.are).slots

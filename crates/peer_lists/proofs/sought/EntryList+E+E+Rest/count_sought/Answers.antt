@@ -2,7 +2,7 @@ use Rattle.std.proofs.Common.{◌+◌, length, refl, ap, arith}
 use Rattle.psb_bytes.specs.declared.ids.Object.TheVariants.{Slot}
 use Rattle.peer_lists.specs.Entries.{from_object}
 use Rattle.peer_lists.specs.Trees.{tree_items}
-use Rattle.peer_lists.specs.SlotRuns.{runs}
+use Rattle.slot_runs.specs.SlotRuns.{runs}
 use Rattle.peer_lists.specs.EntryLists.{items}
 use Rattle.peer_lists.specs.Sought.{sought}
 use Rattle.peer_lists.proofs.Parts.{from_first, next_is, few_more, counted}
@@ -15,7 +15,7 @@ loop-part-init g c =
     let t = c.args.self.now in
     let test = g.E.Entry.passes c.args.test.now in
     let but = c.args.but.now in
-    record { sum = omega (arith, ap length (from_first key joined g.met.E.Entry.key_joined test but (tree_items key joined t.chunks) (runs t.slots) c.requires.list.chunks c.requires.list.runs)); few = omega arith; place = omega arith }
+    record { sum = omega (arith, ap length (from_first key joined g.met.E.Entry.key_joined test but (tree_items key joined t.chunks) (runs t.slots) c.requires.list.chunks c.requires.list.slots.are)); few = omega arith; place = omega arith }
 
 pub loop-part-preserved : goal.loop-part-preserved
 loop-part-preserved g c =

@@ -2,7 +2,7 @@ use Rattle.std.proofs.Common.{◌≡◌, ◌+◌, length, take, map, rules, refl
 use Rattle.psb_bytes.specs.declared.ids.Object.TheVariants.{Slot}
 use Rattle.peer_lists.specs.Entries.{from_object}
 use Rattle.peer_lists.specs.Trees.{tree_items}
-use Rattle.peer_lists.specs.SlotRuns.{runs}
+use Rattle.slot_runs.specs.SlotRuns.{runs}
 use Rattle.peer_lists.specs.EntryLists.{items}
 use Rattle.peer_lists.specs.Sought.{sought}
 use Rattle.peer_lists.proofs.Parts.{from_first, next_is, none_pushed, pushed, all_pushed}
@@ -16,7 +16,7 @@ loop-part-init g c =
     let test = g.E.Entry.passes c.args.test.now in
     let but = c.args.but.now in
     let all = items key joined t in
-    record { same = none_pushed key c.new-numbers.result.items (sought key test but (from_object key (Slot 0) all)) (sought key test but all) c.args.most c.new-numbers.ensures.items (from_first key joined g.met.E.Entry.key_joined test but (tree_items key joined t.chunks) (runs t.slots) c.requires.list.chunks c.requires.list.runs); from = omega arith }
+    record { same = none_pushed key c.new-numbers.result.items (sought key test but (from_object key (Slot 0) all)) (sought key test but all) c.args.most c.new-numbers.ensures.items (from_first key joined g.met.E.Entry.key_joined test but (tree_items key joined t.chunks) (runs t.slots) c.requires.list.chunks c.requires.list.slots.are); from = omega arith }
 
 pub loop-part-preserved : goal.loop-part-preserved
 loop-part-preserved g c =

@@ -3,7 +3,7 @@ use Rattle.std.specs.List.{slice_get}
 use Rattle.psb_bytes.specs.declared.ids.Object.TheVariants.{Slot}
 use Rattle.peer_lists.specs.Entries.{from_object}
 use Rattle.peer_lists.specs.Trees.{tree_items}
-use Rattle.peer_lists.specs.SlotRuns.{runs}
+use Rattle.slot_runs.specs.SlotRuns.{runs}
 use Rattle.peer_lists.specs.EntryLists.{items}
 use Rattle.peer_lists.specs.Sought.{sought}
 use Rattle.peer_lists.proofs.Parts.{from_first, next_is, is_here, is_behind}
@@ -16,7 +16,7 @@ loop-part-init g c =
     let t = c.args.self.now in
     let test = g.E.Entry.passes c.args.test.now in
     let but = c.args.but.now in
-    record { same = ap (λ l. slice_get l c.args.place) (from_first key joined g.met.E.Entry.key_joined test but (tree_items key joined t.chunks) (runs t.slots) c.requires.list.chunks c.requires.list.runs); from = omega arith }
+    record { same = ap (λ l. slice_get l c.args.place) (from_first key joined g.met.E.Entry.key_joined test but (tree_items key joined t.chunks) (runs t.slots) c.requires.list.chunks c.requires.list.slots.are); from = omega arith }
 
 pub loop-part-preserved : goal.loop-part-preserved
 loop-part-preserved g c =

@@ -1,0 +1,16 @@
+-- One row more is changed.
+use Rattle.std.proofs.Common.{◌<◌, ◌∙◌, List, length, get_or, slice_set, ap, rules}
+use Rattle.next_deals.specs.declared.search.Search.{Search}
+use Rattle.next_deals.specs.Searches.{with_row}
+use Rattle.next_deals.proofs.Searched.{map_on}
+use Rattle.next_deals.proofs.search.put_row.Goals as goal
+
+pub loop-i-preserved : goal.loop-i-preserved
+loop-i-preserved c =
+    let old = c.args.searches.now in
+    let f : Search → Search = (with_row c.args.row.now) in
+    let i = c.loop-i.i in
+    let x = c.one_of.result in
+    let within : i < length old = search rules in
+    ap (λ (l : List Search). slice_set l i x) c.loop-i.invariant
+    ∙ map_on f old i c.index-searches-i.result x within (c.one_of.ensures ∙ ap (λ (l : List Search). f (get_or l i c.index-searches-i.result)) c.loop-i.invariant)

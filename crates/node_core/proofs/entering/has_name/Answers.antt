@@ -1,8 +1,0 @@
-use Rattle.std.proofs.Common.{◌∙◌, []}
-use Rattle.psb_bytes.specs.declared.ids.Object.TheVariants.{Chunk}
-use Rattle.peer_lists.proofs.Ordered.{searched}
-use Rattle.psb_ledger.proofs.Listed.{ascending}
-use Rattle.node_core.proofs.entering.has_name.Goals as goal
-
-pub returns : goal.returns
-returns c = c.is_ok.ensures.value ∙ (searched Chunk [] c.args.names.now (Chunk c.args.name.now) c.binary_search.result (ascending c.args.names.now c.requires) c.binary_search.ensures.bound c.binary_search.ensures.position).0

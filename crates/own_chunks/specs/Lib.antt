@@ -1,0 +1,2 @@
+pub mod OwnList
+pub mod OwnTree

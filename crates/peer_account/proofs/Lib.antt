@@ -1,0 +1,4 @@
+pub mod NameOrder
+pub mod Numbers
+pub mod BarredNumbers
+pub mod Accounts

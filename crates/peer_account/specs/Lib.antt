@@ -1,0 +1,4 @@
+pub mod OwnDeals
+pub mod Settling
+pub mod Taking
+pub mod View

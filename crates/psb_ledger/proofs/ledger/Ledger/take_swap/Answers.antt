@@ -1,0 +1,10 @@
+-- The account needs what follows from the condition and the room.
+use Rattle.std.proofs.Common.{subst, sym}
+use Rattle.psb_ledger.specs.View.{LedgerView}
+use Rattle.psb_ledger.specs.Moves.{MaySwap}
+use Rattle.psb_ledger.proofs.ledger.Ledger.take_swap.Goals as goal
+
+pub take_swap-requires : goal.take_swap-requires
+take_swap-requires c =
+    let may = subst (λ (v : LedgerView). MaySwap v c.args.x.now c.place_to_swap-at.result) (sym c.self.view_is) c.place_to_swap-at.ensures.may in
+    (may c.units_of-u.result c.index_mut-account.result.now c.index_mut-account.ensures.value c.units_of-u.ensures).needs

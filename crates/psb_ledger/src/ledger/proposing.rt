@@ -1,0 +1,143 @@
+//! What a ledger makes of an own deal that is proposed to a peer.
+
+ghost use Rattle.std.specs.Prelude.{◌≡◌, ◌+◌, ◌<◌, ◌^◌, ◌==◌, ◌&&◌, true, is_none, Some, position};
+ghost use Rattle.psb_model.specs.declared.change.Change.TheVariants.{Proposed};
+ghost use Rattle.psb_model.specs.declared.deals.DealWhat.TheVariants.{Fresh, Swap, Cancel, PutBack};
+ghost use Rattle.psb_model.specs.Words.{all_of};
+ghost use Rattle.psb_model.specs.Grammar.{what_in_grammar};
+ghost use Rattle.psb_model.specs.Conditions.{allowed, place_tests, propose_tests};
+ghost use Rattle.psb_model.specs.Effects.{after};
+ghost use Rattle.psb_model.specs.History.{is_built_deal};
+ghost use Rattle.peer_account.specs.OwnDeals.{drawn};
+ghost use Rattle.psb_ledger.specs.Moves.{proposing, may_take_back, MayPropose};
+
+use super::Ledger;
+use super::accounts::place_in;
+use super::taking::capacity_of;
+use peer_account::Account;
+use psb_bytes::{Digest, Object, PeerId};
+use psb_model::{Deal, DealWhat, may_issue};
+
+/// Whether the deal is the next own one, and none is pending.
+fn is_next_own(account: &Account, deal: u64) -> bool
+    ensures { result ≡ ((deal == account.now.row.mine + 1) && is_none account.now.row.pending) }
+{
+    deal != 0 && deal - 1 == account.mine() && account.pending().is_none()
+}
+
+/// The claims that the deal draws: as many as the chunk that is put back has units.
+fn drawn(account: &Account, what: &DealWhat) -> u32
+    ensures { result ≡ drawn account.now.row what.now }
+{
+    match what {
+        DealWhat::PutBack { name, .. } => account.units_out(&Object::Chunk(*name)),
+        _ => 0,
+    }
+}
+
+impl Ledger {
+    /// The chunk may be placed on the peer: a buddy that neither has it nor lost it nor turned it
+    /// down.
+    fn may_place(&self, peer: PeerId, name: &Digest) -> bool
+        ensures { result ≡ all_of (place_tests self.now.state peer name.now) }
+    {
+        let row = self.row(peer);
+        let chunk = Object::Chunk(*name);
+        self.chosen().contains(&peer)
+            && self.is_wanted(name)
+            && !row.has_out(&chunk)
+            && !row.has_debt(&chunk)
+            && !row.is_barred(name)
+    }
+
+    fn allows_fresh(&self, peer: PeerId, name: &Digest) -> bool
+        ensures { result ≡ all_of (propose_tests self.now.state peer (Fresh name.now)) }
+    {
+        let u = self.own.units_of(Some(*name));
+        self.may_place(peer, name)
+            && self.used as u64 + u as u64 <= capacity_of(&self.settings) as u64
+    }
+
+    fn allows_swap(&self, peer: PeerId, name: &Digest, slots: &[u32]) -> bool
+        ensures { result ≡ all_of (propose_tests self.now.state peer (Swap name.now slots.now)) }
+    {
+        let row = self.row(peer);
+        self.may_place(peer, name)
+            && slots.len() == self.own.units_of(Some(*name)) as usize
+            && row.are_own(slots)
+            && row.unties_out(slots)
+    }
+
+    /// The chunk stands on the peer, is wanted no more, and no deal ties it.
+    fn may_take_back(&self, peer: PeerId, name: &Digest) -> bool
+        ensures { result ≡ may_take_back self.now.state peer name.now }
+    {
+        let row = self.row(peer);
+        let chunk = Object::Chunk(*name);
+        row.has_out(&chunk) && self.own.is_marked(name) && !row.ties_out(&chunk)
+    }
+
+    fn allows_cancel(&self, peer: PeerId, name: &Digest, slots: &[u32]) -> bool
+        ensures { result ≡ all_of (propose_tests self.now.state peer (Cancel name.now slots.now)) }
+    {
+        let row = self.row(peer);
+        self.may_take_back(peer, name)
+            && slots.len() == row.units_out(&Object::Chunk(*name)) as usize
+            && row.are_ready(slots)
+            && self.unties_in(peer, slots)
+    }
+
+    fn allows_put_back(&self, peer: PeerId, name: &Digest, first: u32) -> bool
+        ensures { result ≡ all_of (propose_tests self.now.state peer (PutBack name.now first)) }
+    {
+        self.may_take_back(peer, name)
+            && first == self.issued
+            && may_issue(self.issued, self.row(peer).units_out(&Object::Chunk(*name)))
+    }
+
+    /// The objects of the deal stand where it needs them, and no deal ties them.
+    fn allows_deal(&self, peer: PeerId, what: &DealWhat) -> bool
+        ensures { result ≡ (is_built_deal what.now && all_of (propose_tests self.now.state peer what.now)) }
+    {
+        match what {
+            DealWhat::Fresh { name } => self.allows_fresh(peer, name),
+            DealWhat::Swap { name, slots } => self.allows_swap(peer, name, slots.as_slice()),
+            DealWhat::Cancel { name, slots } => self.allows_cancel(peer, name, slots.as_slice()),
+            DealWhat::PutBack { name, first } => self.allows_put_back(peer, name, *first),
+            _ => false,
+        }
+    }
+
+    pub(super) fn may_propose(&self, peer: PeerId, deal: u64, what: &DealWhat) -> bool
+        ensures { result ≡ (is_built_deal what.now && allowed self.now.state (Proposed (record { peer = peer; deal = deal; what = what.now }))) }
+    {
+        self.is_open(peer) && is_next_own(self.row(peer), deal) && self.allows_deal(peer, what)
+    }
+
+    /// The place of the peer's account, with what its deal needs.
+    fn place_to_propose(&self, peer: PeerId, deal: &Deal) -> usize
+        requires grammar { what_in_grammar deal.now.what ≡ true }
+        requires may { (is_built_deal deal.now.what && allowed self.now.state (proposing peer deal.now)) ≡ true }
+        ensures place { Some result ≡ position (λ v. v.id == peer) self.now.accounts }
+        ensures may { MayPropose self.now peer deal.now result }
+    {
+        let _issued = self.issued;
+        place_in(self.accounts.as_slice(), peer)
+    }
+
+    pub(super) fn propose(&mut self, peer: PeerId, deal: Deal)
+        requires grammar { what_in_grammar deal.what ≡ true }
+        requires few { self.old.state.changes < 2 ^ 62 }
+        requires may { (is_built_deal deal.what && allowed self.old.state (proposing peer deal)) ≡ true }
+        ensures { self.new.state ≡ after self.old.state (proposing peer deal) }
+    {
+        let at = self.place_to_propose(peer, &deal);
+        let account = &mut self.accounts[at];
+        let drawn = drawn(account, &deal.what);
+        account.propose(deal);
+        let coming = account.coming();
+        self.used += self.own.units_of(coming);
+        self.issued += drawn;
+        self.changes += 1;
+    }
+}

@@ -1,0 +1,52 @@
+//! What a ledger makes of a chunk that a peer stores in the place of slots that it has here.
+
+ghost use Rattle.std.specs.Prelude.{◌≡◌, ◌==◌, ◌+◌, ◌*◌, ◌<◌, ◌^◌, true, length, Some, position};
+ghost use Rattle.psb_model.specs.Grammar.{in_grammar};
+ghost use Rattle.psb_model.specs.declared.change.Change.TheVariants as change;
+ghost use Rattle.psb_model.specs.Conditions.{allowed};
+ghost use Rattle.psb_model.specs.Effects.{after};
+ghost use Rattle.psb_ledger.specs.View.{HasListRoom};
+ghost use Rattle.psb_ledger.specs.Moves.{MaySwap};
+
+use super::Ledger;
+use super::accounts::place_in;
+use psb_bytes::units_of;
+use psb_model::TookSwap;
+
+impl Ledger {
+    pub(super) fn may_take_swap(&self, x: &TookSwap) -> bool
+        ensures { result ≡ allowed self.now.state (change.TookSwap x.now) }
+    {
+        let is_held = self.is_held(&x.name);
+        let is_untied = self.unties_in(x.peer, x.slots.as_slice());
+        let units = units_of(x.len);
+        self.is_open(x.peer) && self.row(x.peer).allows_swap(x, units, is_held, is_untied)
+    }
+
+    /// The place of the peer's account, with what its chunk needs.
+    fn place_to_swap(&self, x: &TookSwap) -> usize
+        requires grammar { in_grammar (change.TookSwap x.now) ≡ true }
+        requires room { HasListRoom self.now x.now.peer (1 + 2 * length x.now.slots) 0 }
+        requires may { allowed self.now.state (change.TookSwap x.now) ≡ true }
+        ensures place { Some result ≡ position (λ v. v.id == x.now.peer) self.now.accounts }
+        ensures may { MaySwap self.now x.now result }
+    {
+        let _changes = self.changes;
+        place_in(self.accounts.as_slice(), x.peer)
+    }
+
+    pub(super) fn take_swap(&mut self, x: &TookSwap)
+        requires grammar { in_grammar (change.TookSwap x.now) ≡ true }
+        requires room { HasListRoom self.old x.now.peer (1 + 2 * length x.now.slots) 0 }
+        requires few { self.old.state.changes < 2 ^ 62 }
+        requires may { allowed self.old.state (change.TookSwap x.now) ≡ true }
+        ensures { self.new.state ≡ after self.old.state (change.TookSwap x.now) }
+    {
+        let at = self.place_to_swap(x);
+        let u = units_of(x.len);
+        let changes = self.changes;
+        let account = &mut self.accounts[at];
+        account.take_swap(x, u, changes);
+        self.changes = changes + 1;
+    }
+}

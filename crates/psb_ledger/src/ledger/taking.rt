@@ -1,0 +1,81 @@
+//! What a ledger makes of a chunk that a peer stores against new slots.
+
+ghost use Rattle.std.specs.Prelude.{◌≡◌, ◌==◌, ◌<◌, ◌^◌, true, Some, position};
+ghost use Rattle.psb_model.specs.Words.{units};
+ghost use Rattle.psb_model.specs.State.{used, is_held};
+ghost use Rattle.psb_model.specs.Grammar.{in_grammar};
+ghost use Rattle.psb_model.specs.declared.change.Change.TheVariants as change;
+ghost use Rattle.psb_model.specs.Conditions.{allowed, capacity};
+ghost use Rattle.psb_model.specs.Effects.{after};
+ghost use Rattle.psb_ledger.specs.View.{HasListRoom};
+ghost use Rattle.psb_ledger.specs.Moves.{MayTake};
+
+use super::Ledger;
+use super::accounts::place_in;
+use peer_account::Measure;
+use psb_bytes::units_of;
+use psb_model::TookFresh;
+use psb_settings::Settings;
+
+pub(super) fn capacity_of(settings: &Option<Settings>) -> u32
+    ensures { result ≡ capacity settings.now }
+{
+    match settings {
+        None => 0,
+        Some(x) => x.capacity,
+    }
+}
+
+impl Ledger {
+    fn measure(&self, x: &TookFresh) -> Measure
+        ensures is_held { result.is_held ≡ is_held self.now.state x.now.name }
+        ensures used { result.used ≡ used self.now.state }
+        ensures units { result.units ≡ units x.now.len }
+        ensures capacity { result.capacity ≡ capacity self.now.state.settings }
+        ensures issued { result.issued ≡ self.now.state.issued }
+    {
+        Measure {
+            is_held: self.is_held(&x.name),
+            used: self.used,
+            units: units_of(x.len),
+            capacity: capacity_of(&self.settings),
+            issued: self.issued,
+        }
+    }
+
+    pub(super) fn may_take_fresh(&self, x: &TookFresh) -> bool
+        ensures { result ≡ allowed self.now.state (change.TookFresh x.now) }
+    {
+        let measure = self.measure(x);
+        self.is_open(x.peer) && self.row(x.peer).allows_fresh(x, &measure)
+    }
+
+    /// The place of the peer's account, with what its chunk needs.
+    fn place_to_take(&self, x: &TookFresh) -> usize
+        requires grammar { in_grammar (change.TookFresh x.now) ≡ true }
+        requires room { HasListRoom self.now x.now.peer 1 1 }
+        requires may { allowed self.now.state (change.TookFresh x.now) ≡ true }
+        ensures place { Some result ≡ position (λ v. v.id == x.now.peer) self.now.accounts }
+        ensures may { MayTake self.now x.now result }
+    {
+        let _changes = self.changes;
+        place_in(self.accounts.as_slice(), x.peer)
+    }
+
+    pub(super) fn take_fresh(&mut self, x: &TookFresh)
+        requires grammar { in_grammar (change.TookFresh x.now) ≡ true }
+        requires room { HasListRoom self.old x.now.peer 1 1 }
+        requires few { self.old.state.changes < 2 ^ 62 }
+        requires may { allowed self.old.state (change.TookFresh x.now) ≡ true }
+        ensures { self.new.state ≡ after self.old.state (change.TookFresh x.now) }
+    {
+        let at = self.place_to_take(x);
+        let u = units_of(x.len);
+        let changes = self.changes;
+        let account = &mut self.accounts[at];
+        account.take_fresh(x, u, changes);
+        self.issued += u;
+        self.used += u;
+        self.changes = changes + 1;
+    }
+}
