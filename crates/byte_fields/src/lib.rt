@@ -4,7 +4,10 @@
 
 ghost use Rattle.byte_fields.specs.Fields.{Takes, u8_at, u16_at, u32_at, u64_at, digest_at, object_at};
 
+mod splitting;
+
 use psb_bytes::{Cursor, Digest, Object, Short};
+pub use splitting::{split_bytes, split_u8, split_u16, split_u32, split_u64};
 use thiserror::Error;
 
 /// The bytes begin with no such field.

@@ -6,20 +6,18 @@ ghost use Rattle.wire_codec.specs.Frames.{store_at, cancel_at, put_back_at, rele
 ghost use Rattle.wire_codec.specs.Views.{frame_of};
 
 use crate::cells::digest_in;
-use crate::fields::{
-    take_bytes, take_claims, take_names, take_places, take_slots, take_text, take_u8, take_u32,
-    take_u64,
-};
+use crate::fields::{take_claims, take_names, take_places, take_slots, take_text};
 use crate::limits::{CLAIM_BYTES, DIGEST_BYTES};
 use crate::objects::take_objects;
 use crate::view::BodyView;
+use byte_fields::{split_bytes, split_u8, split_u32, split_u64};
 use psb_bytes::LAST_REASON;
 
 #[tactic(auto, unfolding(crate::specs::Frames::store_at))]
 fn store(body: &[u8]) -> Option<BodyView<'_>>
     ensures { Gives frame_of result (store_at body.now) }
 {
-    let (name, rest) = take_bytes(body, DIGEST_BYTES)?;
+    let (name, rest) = split_bytes(body, DIGEST_BYTES)?;
     let (slots, rest) = take_slots(rest, 0)?;
     let (bytes, rest) = take_text(rest, 1)?;
     if !rest.is_empty() {
@@ -67,8 +65,8 @@ fn put_back<'a>(name: &[u8], rest: &'a [u8]) -> Option<BodyView<'a>>
 fn release(body: &[u8]) -> Option<BodyView<'_>>
     ensures { Gives frame_of result (release_at body.now) }
 {
-    let (name, rest) = take_bytes(body, DIGEST_BYTES)?;
-    let (mode, rest) = take_u8(rest)?;
+    let (name, rest) = split_bytes(body, DIGEST_BYTES)?;
+    let (mode, rest) = split_u8(rest)?;
     match mode {
         0 => cancel(name, rest),
         1 => put_back(name, rest),
@@ -80,8 +78,8 @@ fn release(body: &[u8]) -> Option<BodyView<'_>>
 fn replace(body: &[u8]) -> Option<BodyView<'_>>
     ensures { Gives frame_of result (replace_at body.now) }
 {
-    let (slot, rest) = take_u32(body)?;
-    let (bytes, rest) = take_bytes(rest, CLAIM_BYTES)?;
+    let (slot, rest) = split_u32(body)?;
+    let (bytes, rest) = split_bytes(rest, CLAIM_BYTES)?;
     if !rest.is_empty() {
         return None;
     }
@@ -103,8 +101,8 @@ fn accepted(body: &[u8]) -> Option<BodyView<'_>>
 fn refused(body: &[u8]) -> Option<BodyView<'_>>
     ensures { Gives frame_of result (refused_at body.now) }
 {
-    let (why, rest) = take_u8(body)?;
-    let (detail, rest) = take_u64(rest)?;
+    let (why, rest) = split_u8(body)?;
+    let (detail, rest) = split_u64(rest)?;
     if why < 1 || why > LAST_REASON || !rest.is_empty() {
         return None;
     }
@@ -115,7 +113,7 @@ fn refused(body: &[u8]) -> Option<BodyView<'_>>
 fn declined(body: &[u8]) -> Option<BodyView<'_>>
     ensures { Gives frame_of result (declined_at body.now) }
 {
-    let (nonce, rest) = take_bytes(body, DIGEST_BYTES)?;
+    let (nonce, rest) = split_bytes(body, DIGEST_BYTES)?;
     let (places, rest) = take_places(rest)?;
     if !rest.is_empty() {
         return None;
@@ -130,7 +128,7 @@ fn declined(body: &[u8]) -> Option<BodyView<'_>>
 fn get(body: &[u8]) -> Option<BodyView<'_>>
     ensures { Gives frame_of result (get_at body.now) }
 {
-    let (name, rest) = take_bytes(body, DIGEST_BYTES)?;
+    let (name, rest) = split_bytes(body, DIGEST_BYTES)?;
     if !rest.is_empty() {
         return None;
     }
@@ -143,7 +141,7 @@ fn get(body: &[u8]) -> Option<BodyView<'_>>
 fn here(body: &[u8]) -> Option<BodyView<'_>>
     ensures { Gives frame_of result (here_at body.now) }
 {
-    let (name, rest) = take_bytes(body, DIGEST_BYTES)?;
+    let (name, rest) = split_bytes(body, DIGEST_BYTES)?;
     let (bytes, rest) = take_text(rest, 0)?;
     if !rest.is_empty() {
         return None;
@@ -158,7 +156,7 @@ fn here(body: &[u8]) -> Option<BodyView<'_>>
 fn probe(body: &[u8]) -> Option<BodyView<'_>>
     ensures { Gives frame_of result (probe_at body.now) }
 {
-    let (nonce, rest) = take_bytes(body, DIGEST_BYTES)?;
+    let (nonce, rest) = split_bytes(body, DIGEST_BYTES)?;
     let (objects, rest) = take_objects(rest)?;
     if !rest.is_empty() {
         return None;
@@ -173,8 +171,8 @@ fn probe(body: &[u8]) -> Option<BodyView<'_>>
 fn proof(body: &[u8]) -> Option<BodyView<'_>>
     ensures { Gives frame_of result (proof_at body.now) }
 {
-    let (nonce, rest) = take_bytes(body, DIGEST_BYTES)?;
-    let (value, rest) = take_bytes(rest, DIGEST_BYTES)?;
+    let (nonce, rest) = split_bytes(body, DIGEST_BYTES)?;
+    let (value, rest) = split_bytes(rest, DIGEST_BYTES)?;
     if !rest.is_empty() {
         return None;
     }
@@ -188,7 +186,7 @@ fn proof(body: &[u8]) -> Option<BodyView<'_>>
 fn ask(body: &[u8]) -> Option<BodyView<'_>>
     ensures { Gives frame_of result (ask_at body.now) }
 {
-    let (salt, rest) = take_bytes(body, DIGEST_BYTES)?;
+    let (salt, rest) = split_bytes(body, DIGEST_BYTES)?;
     let (names, rest) = take_names(rest)?;
     if !rest.is_empty() {
         return None;
@@ -203,8 +201,8 @@ fn ask(body: &[u8]) -> Option<BodyView<'_>>
 fn sample(body: &[u8]) -> Option<BodyView<'_>>
     ensures { Gives frame_of result (sample_at body.now) }
 {
-    let (salt, rest) = take_bytes(body, DIGEST_BYTES)?;
-    let (bits, rest) = take_u32(rest)?;
+    let (salt, rest) = split_bytes(body, DIGEST_BYTES)?;
+    let (bits, rest) = split_u32(rest)?;
     if !rest.is_empty() {
         return None;
     }

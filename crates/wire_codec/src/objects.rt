@@ -3,8 +3,9 @@ ghost use Rattle.std.specs.Prelude.{◌≡◌, ◌<◌, ◌≤◌, ◌*◌, ◌+
 ghost use Rattle.wire_codec.specs.Fields.{Gives, object_in, object_at, objects_at};
 
 use crate::cells::digest_in;
-use crate::fields::{take_bytes, take_count, take_u8, take_u32};
+use crate::fields::take_count;
 use crate::limits::{DIGEST_BYTES, MOST_OBJECTS};
+use byte_fields::{split_bytes, split_u8, split_u32};
 use psb_bytes::{Memory, Object, ObjectList};
 use std::alloc::Global;
 use std::marker::Model;
@@ -73,14 +74,14 @@ fn object_of(bytes: &[u8]) -> Option<(Object, usize)>
     ensures within { IfSome result (λ x. x.1 ≤ length bytes.now) }
     ensures exact { Gives (λ x. (x.0, drop x.1 bytes.now)) result (object_at bytes.now) }
 {
-    let (kind, rest) = take_u8(bytes)?;
+    let (kind, rest) = split_u8(bytes)?;
     match kind {
         0 => {
-            let (name, _) = take_bytes(rest, DIGEST_BYTES)?;
+            let (name, _) = split_bytes(rest, DIGEST_BYTES)?;
             Some((Object::Chunk(digest_in(name)), 1 + DIGEST_BYTES))
         }
         1 => {
-            let (slot, _) = take_u32(rest)?;
+            let (slot, _) = split_u32(rest)?;
             Some((Object::Slot(slot), 1 + 4))
         }
         _ => None,
