@@ -1,0 +1,4 @@
+mod Seats
+mod OneToOne
+mod LatestLink
+pub mod Joined

@@ -1,0 +1,3 @@
+pub mod Grades
+pub mod Drawing
+pub mod Choices
