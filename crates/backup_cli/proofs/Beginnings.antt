@@ -14,7 +14,7 @@ use Rattle.psb_station.proofs.Spans.{shows_wider, at_some, if_some, tells_some, 
 use Rattle.node_journal.specs.Entry.{Entry}
 use Rattle.psb_model.proofs.ByObject.{by_cases}
 use Rattle.node_core.specs.Begun.{begun_with, first_situation}
-use Rattle.node_core.specs.Stands.{ReopensTo}
+use Rattle.node_history.specs.Stands.{ReopensTo}
 use Rattle.node_core.specs.Stored.{Knows, Stored}
 use Rattle.node_core.specs.declared.node.Node.{Node}
 use Rattle.node_core.proofs.Reopened.{image_reopens}

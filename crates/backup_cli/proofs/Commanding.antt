@@ -14,7 +14,7 @@ use Rattle.psb_machine.specs.Course.{Step, Tell, Say, Telling, after_all, tellin
 use Rattle.psb_machine.specs.Commands.{says}
 use Rattle.psb_machine.proofs.Courses.{after_all-append, tellings-append, sent_in-append, taken_in-append, dropped_in-append, told_by_append}
 use Rattle.node_core.specs.declared.node.Node.{Node}
-use Rattle.node_core.specs.Stands.{ReopensTo}
+use Rattle.node_history.specs.Stands.{ReopensTo}
 use Rattle.node_core.specs.Stored.{Stored}
 use Rattle.node_core.proofs.Reopened.{image_reopens}
 use Rattle.node_serve.specs.Sends.{ToldMore, AreSent}

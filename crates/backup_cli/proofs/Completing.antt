@@ -1,5 +1,5 @@
 -- A command to which nothing is lacking is done, or memory was short.
-use Rattle.std.proofs.Common.{◌≡◌, ◌==◌, ◌≢◌, ◌⊎◌, inl, inr, ⊎_elim, ℕ, Bool, true, false, List, [], Bor, IfSome, is_some, Option, None, Some, refl, sym, ◌∙◌, ap, subst}
+use Rattle.std.proofs.Common.{◌≡◌, ◌==◌, ◌≢◌, ◌⊎◌, inl, inr, ℕ, true, false, List, Bor, IfSome, is_some, Option, None, Some, refl, sym, ◌∙◌, ap}
 use Rattle.psb_digest.specs.Clashes.{Pair}
 use Rattle.std.proofs.lemmas.Bool.{false≢true, eq-eqb}
 use Rattle.psb_station.specs.View.{View}
@@ -11,11 +11,10 @@ use Rattle.psb_model.specs.History.{state}
 use Rattle.psb_model.specs.Needed.{IsValid}
 use Rattle.psb_model.specs.declared.change.Change.{Change}
 use Rattle.psb_machine.specs.Machine.{has_snapshot}
-use Rattle.node_core.specs.Stands.{HoldsHistory}
+use Rattle.node_history.specs.Stands.{HoldsHistory}
 use Rattle.backup_cli.specs.Begun.{Begins}
 use Rattle.backup_cli.specs.Completeness.{Holds, CanBegin, NoDiskFault, NoFolderFault, NoSayFault}
 use Rattle.backup_cli.specs.Forgotten.{Finds}
-use Rattle.backup_cli.specs.Served.{IsNode}
 use Rattle.backup_cli.specs.Status.{IsElsewhere}
 use Rattle.backup_cli.specs.Words.{IsCommand, IsServe, IsLedger, IsSnapshots, IsForget, IsInit, IsBackup, IsRestore, IsKind, IsNoCommand, Kind, OfServe, OfLedger, OfInit, OfSnapshots, OfForget, OfBackup, OfRestore}
 use Rattle.backup_cli.specs.declared.status.Status.{Status}

@@ -8,7 +8,7 @@ use Rattle.node_journal.specs.Entry.{Entry}
 use Rattle.psb_settings.specs.Settings.{settings_of}
 use Rattle.psb_settings.specs.declared.settings.Settings.{Settings}
 use Rattle.node_core.specs.Begun.{begun_with}
-use Rattle.node_core.specs.Stands.{ReopensTo}
+use Rattle.node_history.specs.Stands.{ReopensTo}
 use Rattle.node_serve.specs.Sends.{ToldMore}
 use Rattle.backup_cli.specs.Files.{OnlyReads}
 use Rattle.backup_cli.specs.Lines.{node_line}

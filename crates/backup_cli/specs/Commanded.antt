@@ -7,7 +7,7 @@ use Rattle.node_journal.specs.Entry.{Entry}
 use Rattle.psb_model.specs.declared.change.Change.{Change}
 use Rattle.psb_machine.specs.Machine.{fresh}
 use Rattle.psb_machine.specs.Course.{Step, after_all, tellings, sent_in, said_in, tried_in}
-use Rattle.node_core.specs.Stands.{ReopensTo}
+use Rattle.node_history.specs.Stands.{ReopensTo}
 use Rattle.node_serve.specs.Sends.{ToldMore, AreSent, LostFor}
 use Rattle.node_serve.specs.Spans.{IsPrefix, Tally, Counted}
 

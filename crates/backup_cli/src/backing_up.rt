@@ -9,7 +9,7 @@ ghost use Rattle.psb_model.specs.History.{state};
 ghost use Rattle.psb_model.specs.Needed.{IsValid};
 ghost use Rattle.psb_model.specs.declared.change.Change.{Change};
 ghost use Rattle.psb_machine.specs.Machine.{fresh};
-ghost use Rattle.node_core.specs.Stands.{HoldsHistory};
+ghost use Rattle.node_history.specs.Stands.{HoldsHistory};
 ghost use Rattle.node_core.specs.Stored.{Knows, Stored};
 ghost use Rattle.snapshot_backup.specs.Backed.{ListsThenReads};
 ghost use Rattle.node_serve.specs.Spans.{IsUp};

@@ -8,7 +8,7 @@ ghost use Rattle.psb_model.specs.Needed.{IsValid};
 ghost use Rattle.psb_model.specs.declared.change.Change.{Change};
 ghost use Rattle.psb_machine.specs.Course.{Absorb};
 ghost use Rattle.psb_machine.specs.Machine.{Situation, Forget, fresh, has_snapshot};
-ghost use Rattle.node_core.specs.Stands.{HoldsHistory};
+ghost use Rattle.node_history.specs.Stands.{HoldsHistory};
 ghost use Rattle.node_core.specs.Stored.{Knows, Stored, IsCounted};
 ghost use Rattle.node_serve.specs.Spans.{IsReady, Fed};
 ghost use Rattle.backup_cli.specs.Says.{Refuses};

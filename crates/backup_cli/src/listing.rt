@@ -7,7 +7,7 @@ ghost use Rattle.psb_settings.specs.declared.settings.Settings.{Settings};
 ghost use Rattle.psb_model.specs.History.{state};
 ghost use Rattle.psb_model.specs.Needed.{IsValid};
 ghost use Rattle.psb_model.specs.declared.change.Change.{Change};
-ghost use Rattle.node_core.specs.Stands.{HoldsHistory};
+ghost use Rattle.node_history.specs.Stands.{HoldsHistory};
 ghost use Rattle.backup_cli.specs.Says.{OnlySays, SaysLines, Refuses};
 ghost use Rattle.backup_cli.specs.Status.{IsElsewhere};
 ghost use Rattle.backup_cli.specs.Served.{IsNode};

@@ -5,7 +5,7 @@ ghost use Rattle.psb_station.specs.Span.{Tells_bytes, Keeps};
 ghost use Rattle.psb_model.specs.Needed.{IsValid};
 ghost use Rattle.psb_model.specs.declared.change.Change.{Change};
 ghost use Rattle.psb_machine.specs.Machine.{fresh};
-ghost use Rattle.node_core.specs.Stands.{HoldsHistory};
+ghost use Rattle.node_history.specs.Stands.{HoldsHistory};
 ghost use Rattle.node_core.specs.Stored.{Knows, Stored, IsCounted};
 ghost use Rattle.backup_cli.specs.Says.{IsUnopened, NotOpened};
 

@@ -92,7 +92,7 @@ placed_first s p probed capacity (e ∷ es) h =
     (λ k. rw (here, k) (placed_first s p probed capacity es a.1))
 
 pub own_fits : (s : State) → IsReached s → list_all is_fit_len s.own ≡ true
-own_fits s r = subst (λ (x : State). list_all is_fit_len x.own ≡ true) r.gives (fit_state r.history r.lawful r.built).own
+own_fits s r = subst (λ (x : State). list_all is_fit_len x.own ≡ true) r.gives (fit_state r.history r.lawful).own
 
 -- what is found by the first slots and the most units is what is placed
 pub placed_by : (s : State) (p : ℕ) (probed : List Object) (capacity : ℕ) (slots : List ℕ) (most : ℕ) (found : Option OwnEntry) → IsReached s

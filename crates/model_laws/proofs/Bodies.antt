@@ -1,12 +1,13 @@
 -- The bodies that a history needs, and valid histories with one change more.
 use Rattle.std.proofs.Common.{◌≡◌, ℕ, ◌≤◌, Bool, true, false, not, ◌&&◌, ◌||◌, List, [], ◌∷◌, ◌++◌, Option, Some, None, refl, sym, ap, ◌∙◌, subst, arith}
+use Rattle.std.specs.Prelude.{◌==◌}
 use Rattle.std.specs.List.{list_any, list_all}
 use Rattle.std.proofs.lemmas.Bool.{false≢true, eq-eqb, and_parts}
 use Rattle.std.proofs.lemmas.List.{length-append}
 use Rattle.psb_settings.specs.declared.settings.Settings.{Settings}
 use Rattle.psb_settings.specs.Settings.{settings_of}
 use Rattle.psb_model.specs.declared.change.Change.{Change}
-use Rattle.psb_model.specs.declared.change.Change.TheVariants.{Begun, Kept, Snapped, Forgot, TookFresh, TookSwap, LetGo, LetGoBack, Refused, Proposed, Settled, Turned, Chose}
+use Rattle.psb_model.specs.declared.change.Change.TheVariants.{Begun, Kept, Snapped, Forgot, TookFresh, TookSwap, LetGo, LetGoBack, Replaced, Refused, Proposed, Settled, Turned, Chose}
 use Rattle.psb_model.specs.Words.{name_eq}
 use Rattle.psb_model.specs.State.{State, row, is_held}
 use Rattle.psb_model.specs.Grammar.{in_grammar, is_u8, fits_widths}
@@ -14,10 +15,11 @@ use Rattle.psb_model.specs.Conditions.{peer_of, is_begun, allowed}
 use Rattle.psb_model.specs.Effects.{after}
 use Rattle.psb_model.specs.History.{state, is_lawful, is_built}
 use Rattle.psb_model.specs.Needed.{brings, brings_name, slots_given, gives_slot, no_slots, needs_name, needs_slot, is_needed_by, body_is_right, bodies_right, brings_right, IsValid}
+use Rattle.psb_model.proofs.ByObject.{by_cases}
 use Rattle.psb_model.proofs.Own.{name_refl}
 use Rattle.psb_model.proofs.Prefixes.{lawful_snoc, all_snoc, changes_counted, state_snoc}
-use Rattle.psb_model.proofs.Built.{IsPlain, plain_state}
-use Rattle.psb_model.proofs.Held.{or_none, or_true, or_last, either_was, was_held, brought_held}
+use Rattle.psb_model.proofs.Held.{or_none, or_last, either_was, was_held, brought_held}
+use Rattle.psb_model.proofs.Steady.{or_true}
 use Rattle.model_laws.proofs.Directs.{has_direct, was_direct, given_is_direct}
 
 -- WHICH BODIES ARE NEEDED
@@ -27,10 +29,10 @@ pub record WereHeld (s s' : State) (c : Change) : Type 0 where
   pub names : (n : List ℕ) → is_held s' n ≡ true → brings_name n c ≡ false → is_held s n ≡ true
   pub slots : (p n : ℕ) → has_direct (row s' p).ins n ≡ true → gives_slot p n c ≡ false → has_direct (row s p).ins n ≡ true
 
-pub were_held : (s : State) (c : Change) → 1 ≤ s.changes → IsPlain s → is_built c ≡ true → allowed s c ≡ true → WereHeld s (after s c) c
-were_held s c some plain b h = record {
-  names = λ n is none. was_held s c n some plain b h is none;
-  slots = λ p n is none. was_direct s c p n some plain b h is none;
+pub were_held : (s : State) (c : Change) → 1 ≤ s.changes → allowed s c ≡ true → WereHeld s (after s c) c
+were_held s c some h = record {
+  names = λ n is none. was_held s c n some h is none;
+  slots = λ p n is none. was_direct s c p n some h is none;
 }
 
 -- what is needed with one change more was needed before it
@@ -81,54 +83,56 @@ right_more s s' c (d ∷ ds) law last r =
     was false b r f h = refl
 
 -- a change that brings bytes has them, and the beginning has its text
-right_here : (s : State) (c : Change) (later : List Change) → is_built c ≡ true → in_grammar c ≡ true → brings_right c ≡ true → (not (is_needed_by s c later) || body_is_right c) ≡ true
-right_here s (Begun x) later b g r = by_body x.body g
+right_here : (s : State) (c : Change) (later : List Change) → in_grammar c ≡ true → brings_right c ≡ true → (not (is_needed_by s c later) || body_is_right c) ≡ true
+right_here s (Begun x) later g r = by_body x.body g
   where
     by_body : (body : Option (List ℕ)) → in_grammar (Begun (record { body = body })) ≡ true → (not (is_needed_by s (Begun (record { body = body })) later) || body_is_right (Begun (record { body = body }))) ≡ true
     by_body None k = absurd (false≢true k)
     by_body (Some text) k = refl
-right_here s (Kept x) later b g r = by_new x.new r
+right_here s (Kept x) later g r = by_new x.new r
   where
     by_new : (new : Bool) → brings_right (Kept (record x { new = new })) ≡ true → (not (is_needed_by s (Kept (record x { new = new })) later) || body_is_right (Kept (record x { new = new }))) ≡ true
     by_new true k = rw k (or_true (not (is_needed_by s (Kept (record x { new = true })) later)))
     by_new false k = refl
-right_here s (Snapped x) later b g r = refl
-right_here s (Forgot x) later b g r = refl
-right_here s (TookFresh x) later b g r = by_new x.new r
+right_here s (Snapped x) later g r = refl
+right_here s (Forgot x) later g r = refl
+right_here s (TookFresh x) later g r = by_new x.new r
   where
     by_new : (new : Bool) → brings_right (TookFresh (record x { new = new })) ≡ true → (not (is_needed_by s (TookFresh (record x { new = new })) later) || body_is_right (TookFresh (record x { new = new }))) ≡ true
     by_new true k = rw k (or_true (not (is_needed_by s (TookFresh (record x { new = true })) later)))
     by_new false k = refl
-right_here s (TookSwap x) later b g r = by_new x.new r
+right_here s (TookSwap x) later g r = by_new x.new r
   where
     by_new : (new : Bool) → brings_right (TookSwap (record x { new = new })) ≡ true → (not (is_needed_by s (TookSwap (record x { new = new })) later) || body_is_right (TookSwap (record x { new = new }))) ≡ true
     by_new true k = rw k (or_true (not (is_needed_by s (TookSwap (record x { new = true })) later)))
     by_new false k = refl
-right_here s (LetGo x) later b g r = refl
-right_here s (LetGoBack x) later b g r = by_slots x.slots r
+right_here s (LetGo x) later g r = refl
+right_here s (LetGoBack x) later g r = by_slots x.slots r
   where
     by_slots : (numbers : List ℕ) → brings_right (LetGoBack (record x { slots = numbers })) ≡ true → (not (is_needed_by s (LetGoBack (record x { slots = numbers })) later) || body_is_right (LetGoBack (record x { slots = numbers }))) ≡ true
     by_slots [] k = refl
     by_slots (n ∷ ns) k = rw k (or_true (not (is_needed_by s (LetGoBack (record x { slots = n ∷ ns })) later)))
-right_here s (Refused x) later b g r = refl
-right_here s (Proposed x) later b g r = refl
-right_here s (Settled x) later b g r = by_slots x.slots r
+right_here s (Refused x) later g r = refl
+right_here s (Proposed x) later g r = refl
+right_here s (Settled x) later g r = by_slots x.slots r
   where
     by_slots : (numbers : List ℕ) → brings_right (Settled (record x { slots = numbers })) ≡ true → (not (is_needed_by s (Settled (record x { slots = numbers })) later) || body_is_right (Settled (record x { slots = numbers }))) ≡ true
     by_slots [] k = refl
     by_slots (n ∷ ns) k = rw k (or_true (not (is_needed_by s (Settled (record x { slots = n ∷ ns })) later)))
-right_here s (Turned x) later b g r = refl
-right_here s (Chose x) later b g r = refl
-right_here s _ later b g r = absurd (false≢true b)
+right_here s (Turned x) later g r = refl
+right_here s (Chose x) later g r = refl
+right_here s (Replaced x) later g r = by_cases (x.place == 0)
+    (λ k. let right : body_is_right (Replaced x) ≡ true = rw k at r in rw right (or_true (not (is_needed_by s (Replaced x) later))))
+    (λ k. rw k refl)
+right_here s _ later g r = refl
 
 -- a history has the bodies that it needs where each change has those that it brings
-pub all_right : (s : State) (l : List Change) → list_all is_built l ≡ true → list_all in_grammar l ≡ true → list_all brings_right l ≡ true → bodies_right s l ≡ true
-all_right s [] b g r = refl
-all_right s (c ∷ cs) b g r =
-    let built = and_parts (is_built c) (list_all is_built cs) b in
+pub all_right : (s : State) (l : List Change) → list_all in_grammar l ≡ true → list_all brings_right l ≡ true → bodies_right s l ≡ true
+all_right s [] g r = refl
+all_right s (c ∷ cs) g r =
     let grammar = and_parts (in_grammar c) (list_all in_grammar cs) g in
     let right = and_parts (brings_right c) (list_all brings_right cs) r in
-    rw (right_here s c cs built.0 grammar.0 right.0, all_right s cs built.1 grammar.1 right.1) refl
+    rw (right_here s c cs grammar.0 right.0, all_right s cs grammar.1 right.1) refl
 
 -- VALID HISTORIES
 
@@ -140,54 +144,63 @@ some_changes h v = omega (arith, changes_counted h, v.some)
 pub valid_snoc : (h : List Change) (c : Change) → IsValid h → in_grammar c ≡ true → allowed (state h) c ≡ true → fits_widths c ≡ true → is_built c ≡ true → brings_right c ≡ true → IsValid (h ++ c ∷ [])
 valid_snoc h c v g a f b r =
     let s = state h in
-    let law = were_held s c (some_changes h v) (plain_state h v.lawful v.built) b a in
+    let law = were_held s c (some_changes h v) a in
     record {
       lawful = lawful_snoc h c ∙ rw (v.lawful, g, a) refl;
       fit = all_snoc fits_widths h c ∙ rw (v.fit, f) refl;
       built = all_snoc is_built h c ∙ rw (v.built, b) refl;
       some = omega (arith, length-append h (c ∷ []));
-      sound = subst (λ t. bodies_right t (h ++ c ∷ []) ≡ true) (sym (state_snoc h c)) (right_more s (after s c) c h law (right_here (after s c) c [] b g r) v.sound);
+      sound = subst (λ t. bodies_right t (h ++ c ∷ []) ≡ true) (sym (state_snoc h c)) (right_more s (after s c) c h law (right_here (after s c) c [] g r) v.sound);
     }
 
 if_needed : (a r : Bool) → a ≡ true → (not a || r) ≡ true → r ≡ true
 if_needed a r k h = rw k at h
 
 -- so a change that gives slots their bytes has them, where it has what is needed
-slots_right : (s : State) (c : Change) → IsPlain s → is_built c ≡ true → allowed s c ≡ true → (not (is_needed_by (after s c) c []) || body_is_right c) ≡ true → (no_slots (slots_given c) || body_is_right c) ≡ true
-slots_right s (Begun x) p b h r = refl
-slots_right s (Kept x) p b h r = refl
-slots_right s (Snapped x) p b h r = refl
-slots_right s (Forgot x) p b h r = refl
-slots_right s (TookFresh x) p b h r = refl
-slots_right s (TookSwap x) p b h r = refl
-slots_right s (LetGo x) p b h r = refl
-slots_right s (LetGoBack x) p b h r = by_slots x.slots h r
+slots_right : (s : State) (c : Change) → allowed s c ≡ true → (not (is_needed_by (after s c) c []) || body_is_right c) ≡ true → (no_slots (slots_given c) || body_is_right c) ≡ true
+slots_right s (Begun x) h r = refl
+slots_right s (Kept x) h r = refl
+slots_right s (Snapped x) h r = refl
+slots_right s (Forgot x) h r = refl
+slots_right s (TookFresh x) h r = refl
+slots_right s (TookSwap x) h r = refl
+slots_right s (LetGo x) h r = refl
+slots_right s (LetGoBack x) h r = by_slots x.slots h r
   where
     by_slots : (numbers : List ℕ) → allowed s (LetGoBack (record x { slots = numbers })) ≡ true → (not (is_needed_by (after s (LetGoBack (record x { slots = numbers }))) (LetGoBack (record x { slots = numbers })) []) || body_is_right (LetGoBack (record x { slots = numbers }))) ≡ true → (no_slots numbers || body_is_right (LetGoBack (record x { slots = numbers }))) ≡ true
     by_slots [] a k = refl
     by_slots (n ∷ ns) a k =
         let c : Change = LetGoBack (record x { slots = n ∷ ns }) in
         let it : gives_slot x.peer n c ≡ true = rw (eq-eqb x.peer x.peer refl, eq-eqb n n refl) refl in
-        let needed : is_needed_by (after s c) c [] ≡ true = rw (given_is_direct s c x.peer n p refl a it) refl in
+        let needed : is_needed_by (after s c) c [] ≡ true = rw (given_is_direct s c x.peer n a it) refl in
         if_needed (is_needed_by (after s c) c []) (body_is_right c) needed k
-slots_right s (Refused x) p b h r = refl
-slots_right s (Proposed x) p b h r = refl
-slots_right s (Settled x) p b h r = by_slots x.slots h r
+slots_right s (Refused x) h r = refl
+slots_right s (Proposed x) h r = refl
+slots_right s (Settled x) h r = by_slots x.slots h r
   where
     by_slots : (numbers : List ℕ) → allowed s (Settled (record x { slots = numbers })) ≡ true → (not (is_needed_by (after s (Settled (record x { slots = numbers }))) (Settled (record x { slots = numbers })) []) || body_is_right (Settled (record x { slots = numbers }))) ≡ true → (no_slots numbers || body_is_right (Settled (record x { slots = numbers }))) ≡ true
     by_slots [] a k = refl
     by_slots (n ∷ ns) a k =
         let c : Change = Settled (record x { slots = n ∷ ns }) in
         let it : gives_slot x.peer n c ≡ true = rw (eq-eqb x.peer x.peer refl, eq-eqb n n refl) refl in
-        let needed : is_needed_by (after s c) c [] ≡ true = rw (given_is_direct s c x.peer n p refl a it) refl in
+        let needed : is_needed_by (after s c) c [] ≡ true = rw (given_is_direct s c x.peer n a it) refl in
         if_needed (is_needed_by (after s c) c []) (body_is_right c) needed k
-slots_right s (Turned x) p b h r = refl
-slots_right s (Chose x) p b h r = refl
-slots_right s _ p b h r = absurd (false≢true b)
+slots_right s (Turned x) h r = refl
+slots_right s (Chose x) h r = refl
+slots_right s (Replaced x) h r = by_cases (x.place == 0)
+    (λ k.
+    let c : Change = Replaced x in
+    let it : gives_slot x.peer x.slot c ≡ true = rw (eq-eqb x.peer x.peer refl, k, eq-eqb x.slot x.slot refl) refl in
+    let direct = given_is_direct s c x.peer x.slot h it in
+    let given : slots_given c ≡ x.slot ∷ [] = rw k refl in
+    let needed : is_needed_by (after s c) c [] ≡ true = ap (λ l. needs_slot (after s c) (Some x.peer) l []) given ∙ rw direct refl in
+    rw k (if_needed (is_needed_by (after s c) c []) (body_is_right c) needed r))
+    (λ k. rw k refl)
+slots_right s _ h r = refl
 
 -- the last change of a valid history has the bytes that it brings
-pub last_brings : (h : List Change) (c : Change) → is_lawful h ≡ true → list_all is_built h ≡ true → allowed (state h) c ≡ true → is_built c ≡ true → bodies_right (state (h ++ c ∷ [])) (h ++ c ∷ []) ≡ true → brings_right c ≡ true
-last_brings h c lawful built a b right = by_name (brings c) refl
+pub last_brings : (h : List Change) (c : Change) → is_lawful h ≡ true → allowed (state h) c ≡ true → bodies_right (state (h ++ c ∷ [])) (h ++ c ∷ []) ≡ true → brings_right c ≡ true
+last_brings h c lawful a right = by_name (brings c) refl
   where
     at_end : (t : State) (l : List Change) → bodies_right t (l ++ c ∷ []) ≡ true → (not (is_needed_by t c []) || body_is_right c) ≡ true
     at_end t [] r = (and_parts (not (is_needed_by t c []) || body_is_right c) true r).0
@@ -200,10 +213,10 @@ last_brings h c lawful built a b right = by_name (brings c) refl
     right_by o = elim o [ None ↦ no_slots (slots_given c) || body_is_right c | Some name ↦ body_is_right c ]
 
     by_name : (o : Option (List ℕ)) → brings c ≡ o → brings_right c ≡ true
-    by_name None e = ap right_by e ∙ slots_right (state h) c (plain_state h lawful built) b a here
+    by_name None e = ap right_by e ∙ slots_right (state h) c a here
     by_name (Some n) e =
         let it : brings_name n c ≡ true = ap (λ (o : Option (List ℕ)). elim o [ None ↦ false | Some m ↦ name_eq m n ]) e ∙ name_refl n in
-        let held = brought_held (state h) c n (plain_state h lawful built) b a it in
+        let held = brought_held (state h) c n a it in
         let name_needed : needs_name (after (state h) c) (brings c) [] ≡ true = ap (λ o. needs_name (after (state h) c) o []) e ∙ rw held refl in
         let needed : is_needed_by (after (state h) c) c [] ≡ true = ap (λ x. (is_begun c || x) || needs_slot (after (state h) c) (peer_of c) (slots_given c) []) name_needed ∙ ap (λ x. x || needs_slot (after (state h) c) (peer_of c) (slots_given c) []) (or_true (is_begun c)) in
         ap right_by e ∙ if_needed (is_needed_by (after (state h) c) c []) (body_is_right c) needed here

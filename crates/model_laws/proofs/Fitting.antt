@@ -1,11 +1,11 @@
--- Numbers that stay small in each history of the kinds that are built: the length of an own chunk, the units of
+-- Numbers that stay small in each lawful history: the length of an own chunk, the units of
 -- an entry there, and the number of an own deal.
-use Rattle.std.proofs.Common.{◌≡◌, ℕ, ◌+◌, ◌≤◌, Bool, true, false, not, cond, List, [], ◌∷◌, Option, Some, None, refl, sym, subst, arith}
+use Rattle.std.proofs.Common.{◌≡◌, ℕ, ◌+◌, ◌-◌, ◌≤◌, Bool, true, false, not, cond, List, [], ◌∷◌, ◌++◌, map, filter, Option, Some, None, refl, sym, ap, ◌∙◌, subst, arith}
 use Rattle.std.specs.Prelude.{zero, suc, ◌==◌, nat_le, if◌then◌else◌}
 use Rattle.std.specs.List.{list_all}
 use Rattle.std.specs.Ordering.{is_lt, nat_cmp}
 use Rattle.std.specs.Cmp.Lexicographic.{slice_cmp}
-use Rattle.std.proofs.lemmas.Bool.{and_parts, false≢true, leb-true, le-leb, eqb-true}
+use Rattle.std.proofs.lemmas.Bool.{and_parts, leb-true, le-leb, eqb-true}
 use Rattle.psb_bytes.specs.declared.ids.Object.{Object}
 use Rattle.psb_bytes.specs.declared.ids.Object.TheVariants.{Chunk}
 use Rattle.psb_bytes.specs.Tickets.{is_chunk_len}
@@ -15,19 +15,21 @@ use Rattle.psb_model.specs.declared.deals.Deal.{Deal}
 use Rattle.psb_model.specs.declared.deals.DealWhat.{DealWhat}
 use Rattle.psb_model.specs.declared.deals.DealWhat.TheVariants.{Fresh, Swap, Cancel, PutBack, Forward, Return}
 use Rattle.psb_model.specs.declared.change.Change.{Change}
-use Rattle.psb_model.specs.declared.change.Change.TheVariants.{Begun, Kept, Snapped, Forgot, TookFresh, TookSwap, LetGo, LetGoBack, Refused, Proposed, Settled, Turned, Chose}
-use Rattle.psb_model.specs.Words.{units, units_at, listed, slots, name_eq, with_one, with_all, without}
+use Rattle.psb_model.specs.declared.change.Change.TheVariants.{Begun, Kept, Snapped, Forgot, TookFresh, TookSwap, LetGo, LetGoBack, Replaced, Refused, Proposed, Settled, Turned, Asked, Passed, Failed, Declined, Discarded, Chose}
+use Rattle.psb_model.specs.declared.entries.DebtEntry.{DebtEntry}
+use Rattle.psb_model.specs.Words.{units, units_at, listed, only, slots, name_eq, with_one, with_all, without}
 use Rattle.psb_model.specs.State.{Row, State, nothing_yet, row, is_peer, out_key, out_size, own_len}
 use Rattle.psb_model.specs.Grammar.{in_grammar, body_fits}
-use Rattle.psb_model.specs.Conditions.{peer_of, settings_of_body, tests, allowed}
-use Rattle.psb_model.specs.Move.{after_move}
-use Rattle.psb_model.specs.Effects.{chunk_out, own_slot, own_slots, own_with, set_marks, own_after, settle_move, after}
-use Rattle.psb_model.specs.History.{state_from, lawful_from, state, is_lawful, is_built}
+use Rattle.psb_model.specs.Conditions.{peer_of, settings_of_body, declined_objects, tests, allowed}
+use Rattle.psb_model.specs.Move.{Move, use_up, after_move}
+use Rattle.psb_model.specs.Effects.{chunk_out, own_slot, own_slots, own_with, set_marks, own_after, settle_move, move_of, debt_row, lost_rows, out_again, is_whole_listed, after}
+use Rattle.psb_model.specs.History.{state_from, lawful_from, state, is_lawful}
 use Rattle.psb_model.proofs.ByObject.{by_cases, all_with_one, all_kept}
 use Rattle.psb_model.proofs.Steps.{parts}
-use Rattle.psb_model.proofs.Rows.{row_in-first_rows}
+use Rattle.psb_model.proofs.Rows.{row_in-first_rows, note_lists}
 use Rattle.psb_model.proofs.Prefixes.{lawful_cons}
-use Rattle.psb_model.proofs.Built.{IsPlain, plain_nothing, plain_after, allows, changed, row_then}
+use Rattle.psb_model.proofs.Bare.{bare, bare_out, bare_debt, all_bare, changed, row_bare}
+use Rattle.psb_model.proofs.Steady.{allows}
 
 -- an entry has no more units than the longest chunk
 abbrev pub is_small : OutEntry → Bool
@@ -39,6 +41,7 @@ is_fit_len e = nat_le e.len 32768
 pub record IsFitRow (changes : ℕ) (r : Row) : Type 0 where
   pub mine : r.mine ≤ changes
   pub small : list_all is_small r.outs ≡ true
+  pub owed : list_all (λ (d : DebtEntry). nat_le d.units 64) r.debts ≡ true
 
 pub record IsFit (s : State) : Type 0 where
   pub rows : (q : ℕ) → IsFitRow s.changes (row s q)
@@ -89,26 +92,98 @@ settles s r (Some d) numbers own h = by_what d.what
     by_what (Forward slot entry) = small_less [] r.outs h
     by_what (Return slot) = small_less [] r.outs h
 
-row_fits : (s : State) (c : Change) (p : ℕ) → IsFit s → is_built c ≡ true → allowed s c ≡ true → peer_of c ≡ Some p → IsFitRow (s.changes + 1) (changed s c (row s p))
-row_fits s (Begun x) p f b h e = absurd (cc (e))
-row_fits s (Kept x) p f b h e = absurd (cc (e))
-row_fits s (Snapped x) p f b h e = absurd (cc (e))
-row_fits s (Forgot x) p f b h e = absurd (cc (e))
-row_fits s (Chose x) p f b h e = absurd (cc (e))
-row_fits s (TookFresh x) p f b h e = record { mine = omega (arith, (f.rows p).mine); small = all_slots x.first (units x.len) _ (small_less [] (row s p).outs (f.rows p).small) }
-row_fits s (TookSwap x) p f b h e = record { mine = omega (arith, (f.rows p).mine); small = small_less [] (row s p).outs (f.rows p).small }
-row_fits s (LetGo x) p f b h e = record { mine = omega (arith, (f.rows p).mine); small = small_less (slots x.slots) (row s p).outs (f.rows p).small }
-row_fits s (LetGoBack x) p f b h e = record { mine = omega (arith, (f.rows p).mine); small = small_less [] (row s p).outs (f.rows p).small }
-row_fits s (Refused x) p f b h e = record { mine = omega (arith, (f.rows p).mine); small = small_less [] (row s p).outs (f.rows p).small }
-row_fits s (Turned x) p f b h e = record { mine = omega (arith, (f.rows p).mine); small = small_less [] (row s p).outs (f.rows p).small }
-row_fits s (Proposed x) p f b h e =
-    let ts = parts (tests s (Proposed x)) (allows s (Proposed x) h).tests in
-    let next : x.deal ≡ (row s x.peer).mine + 1 = eqb-true x.deal ((row s x.peer).mine + 1) ts.0 in
-    record { mine = omega (arith, next, (f.rows x.peer).mine); small = small_less [] (row s p).outs (f.rows p).small }
-row_fits s (Settled y) p f b h e =
-    let same : y.peer ≡ p = cc (e) in
-    record { mine = omega (arith, (f.rows p).mine); small = subst (λ x. list_all is_small (after_move (settle_move s (row s x) (row s x).pending y.slots) (row s p)).outs ≡ true) (sym same) (settles s (row s p) (row s p).pending y.slots f.own (f.rows p).small) }
-row_fits s _ p f b h e = absurd (false≢true b)
+-- rows of debt came of entries there
+abbrev pub is_small_debt : DebtEntry → Bool
+is_small_debt d = nat_le d.units 64
+
+again_small : (objects : List Object) (ds : List DebtEntry) → list_all is_small_debt ds ≡ true → list_all is_small (map out_again (filter (is_whole_listed objects) ds)) ≡ true
+again_small objects [] h = refl
+again_small objects (d ∷ ds) h =
+    let a = and_parts (is_small_debt d) (list_all is_small_debt ds) h in
+    by_cases (is_whole_listed objects d) (λ k. rw (k, a.0) (again_small objects ds a.1)) (λ k. rw k (again_small objects ds a.1))
+
+all_small : (es l : List OutEntry) → list_all is_small es ≡ true → list_all is_small l ≡ true → list_all is_small (with_all out_key es l) ≡ true
+all_small [] l a b = b
+all_small (e ∷ es) l a b = let two = and_parts (is_small e) (list_all is_small es) a in all_small es (with_one out_key e l) two.1 (all_with_one out_key is_small e l two.0 b)
+
+-- what is booked is as small as what was there
+booked_small : (n : ℕ) (declined : Bool) (l : List OutEntry) → list_all is_small l ≡ true → list_all is_small_debt (map (debt_row n declined) l) ≡ true
+booked_small n declined [] h = refl
+booked_small n declined (e ∷ es) h = let a = and_parts (is_small e) (list_all is_small es) h in rw a.0 (booked_small n declined es a.1)
+
+debts_both : (xs ys : List DebtEntry) → list_all is_small_debt xs ≡ true → list_all is_small_debt ys ≡ true → list_all is_small_debt (xs ++ ys) ≡ true
+debts_both [] ys a b = b
+debts_both (x ∷ xs) ys a b = let two = and_parts (is_small_debt x) (list_all is_small_debt xs) a in rw two.0 (debts_both xs ys two.1 b)
+
+lost_small : (n : ℕ) (declined : Bool) (objects : List Object) (l : List OutEntry) → list_all is_small l ≡ true → list_all is_small_debt (lost_rows n declined objects l) ≡ true
+lost_small n declined [] l h = refl
+lost_small n declined (o ∷ os) l h = debts_both (map (debt_row n declined) (only out_key (o ∷ []) l)) (lost_rows n declined os l) (booked_small n declined (only out_key (o ∷ []) l) (all_kept is_small (λ (e : OutEntry). listed (o ∷ []) (out_key e)) l h)) (lost_small n declined os l h)
+
+used_small : (k : ℕ) (ds : List DebtEntry) → list_all is_small_debt ds ≡ true → list_all is_small_debt (use_up k ds) ≡ true
+used_small zero ds h = h
+used_small (suc k) [] h = refl
+used_small (suc k) (d ∷ ds) h =
+    let a = and_parts (is_small_debt d) (list_all is_small_debt ds) h in
+    by_cases (nat_le d.left (suc k)) (λ j. rw j (used_small (suc k - d.left) ds a.1)) (λ j. rw j h)
+
+debts_moved : (m : Move) (r : Row) → list_all is_small_debt m.booked ≡ true → list_all is_small_debt r.debts ≡ true → list_all is_small_debt (after_move m r).debts ≡ true
+debts_moved m r b h = debts_both (use_up m.used_up (filter (λ d. not (m.returned d)) r.debts)) m.booked (used_small m.used_up _ (all_kept is_small_debt (λ (d : DebtEntry). not (m.returned d)) r.debts h)) b
+
+settle_books : (s : State) (r : Row) (o : Option Deal) (numbers : List ℕ) → list_all is_small_debt (settle_move s r o numbers).booked ≡ true
+settle_books s r None numbers = refl
+settle_books s r (Some d) numbers = by_what d.what
+  where
+    by_what : (what : DealWhat) → list_all is_small_debt (settle_move s r (Some (record { number = d.number; what = what })) numbers).booked ≡ true
+    by_what (Fresh name) = refl
+    by_what (Swap name mine) = refl
+    by_what (Cancel name theirs) = refl
+    by_what (PutBack name first) = refl
+    by_what (Forward slot entry) = refl
+    by_what (Return slot) = refl
+
+books_small : (s : State) (c : Change) (p : ℕ) → IsFit s → peer_of c ≡ Some p → list_all is_small_debt (move_of s c).booked ≡ true
+books_small s (Failed x) p f e = lost_small s.changes false x.objects (row s x.peer).outs (f.rows x.peer).small
+books_small s (Declined x) p f e = lost_small s.changes true (declined_objects s x.peer x.asked x.places) (row s x.peer).outs (f.rows x.peer).small
+books_small s (Settled x) p f e = settle_books s (row s x.peer) (row s x.peer).pending x.slots
+books_small s _ p f e = refl
+
+row_fits : (s : State) (c : Change) (p : ℕ) → IsFit s → allowed s c ≡ true → peer_of c ≡ Some p → IsFitRow (s.changes + 1) (changed s c (row s p))
+row_fits s c p f h e = record {
+  mine = mine_fits s c p f h e;
+  small = ap (list_all is_small) (note_lists s c (after_move (move_of s c) (row s p))).outs ∙ outs_fit s c p f e;
+  owed = ap (list_all is_small_debt) (note_lists s c (after_move (move_of s c) (row s p))).debts ∙ debts_moved (move_of s c) (row s p) (books_small s c p f e) (f.rows p).owed;
+}
+  where
+    mine_fits : (s : State) (c : Change) (p : ℕ) → IsFit s → allowed s c ≡ true → peer_of c ≡ Some p → (changed s c (row s p)).mine ≤ s.changes + 1
+    mine_fits s (Proposed x) p f h e =
+        let ts = parts (tests s (Proposed x)) (allows s (Proposed x) h).tests in
+        let next : x.deal ≡ (row s x.peer).mine + 1 = eqb-true x.deal ((row s x.peer).mine + 1) ts.0 in
+        omega (arith, next, (f.rows x.peer).mine)
+    mine_fits s (Passed x) p f h e = by_cases (x.asked == 0) (λ k. rw k (omega (arith, (f.rows p).mine))) (λ k. rw k (omega (arith, (f.rows p).mine)))
+    mine_fits s (TookFresh x) p f h e = omega (arith, (f.rows p).mine)
+    mine_fits s (TookSwap x) p f h e = omega (arith, (f.rows p).mine)
+    mine_fits s (LetGo x) p f h e = omega (arith, (f.rows p).mine)
+    mine_fits s (LetGoBack x) p f h e = omega (arith, (f.rows p).mine)
+    mine_fits s (Replaced x) p f h e = omega (arith, (f.rows p).mine)
+    mine_fits s (Refused x) p f h e = omega (arith, (f.rows p).mine)
+    mine_fits s (Settled x) p f h e = omega (arith, (f.rows p).mine)
+    mine_fits s (Turned x) p f h e = omega (arith, (f.rows p).mine)
+    mine_fits s (Asked x) p f h e = omega (arith, (f.rows p).mine)
+    mine_fits s (Failed x) p f h e = omega (arith, (f.rows p).mine)
+    mine_fits s (Declined x) p f h e = omega (arith, (f.rows p).mine)
+    mine_fits s (Discarded x) p f h e = omega (arith, (f.rows p).mine)
+    mine_fits s _ p f h e = omega (arith, (f.rows p).mine)
+
+    outs_fit : (s : State) (c : Change) (p : ℕ) → IsFit s → peer_of c ≡ Some p → list_all is_small (after_move (move_of s c) (row s p)).outs ≡ true
+    outs_fit s (TookFresh x) p f e = all_slots x.first (units x.len) _ (small_less [] (row s p).outs (f.rows p).small)
+    outs_fit s (LetGo x) p f e = small_less (slots x.slots) (row s p).outs (f.rows p).small
+    outs_fit s (Settled y) p f e =
+        let same : y.peer ≡ p = cc (e) in
+        subst (λ x. list_all is_small (after_move (settle_move s (row s x) (row s x).pending y.slots) (row s p)).outs ≡ true) (sym same) (settles s (row s p) (row s p).pending y.slots f.own (f.rows p).small)
+    outs_fit s (Passed y) p f e = all_small (map out_again (filter (is_whole_listed y.objects) (row s y.peer).debts)) (without out_key [] (row s p).outs) (again_small y.objects (row s y.peer).debts (f.rows y.peer).owed) (small_less [] (row s p).outs (f.rows p).small)
+    outs_fit s (Failed x) p f e = small_less x.objects (row s p).outs (f.rows p).small
+    outs_fit s (Declined x) p f e = small_less (declined_objects s x.peer x.asked x.places) (row s p).outs (f.rows p).small
+    outs_fit s _ p f e = small_less [] (row s p).outs (f.rows p).small
 
 -- ---- every change
 
@@ -121,44 +196,56 @@ own_fits s (Forgot x) f g = all_marked _ s.own f.own
 own_fits s _ f g = f.own
 
 later : (changes : ℕ) (r : Row) → IsFitRow changes r → IsFitRow (changes + 1) r
-later changes r f = record { mine = omega (arith, f.mine); small = f.small }
+later changes r f = record { mine = omega (arith, f.mine); small = f.small; owed = f.owed }
 
 after_fits : (s : State) (c : Change) → IsFit s → in_grammar c ≡ true → ((q : ℕ) → IsFitRow (s.changes + 1) (row (after s c) q)) → IsFit (after s c)
 after_fits s c f g rows = record { rows = rows; own = all_kept is_fit_len _ (own_after s c) (own_fits s c f g) }
 
-of_peer : (s : State) (c : Change) (p : ℕ) → IsPlain s → IsFit s → is_built c ≡ true → in_grammar c ≡ true → allowed s c ≡ true → peer_of c ≡ Some p → is_peer s p ≡ true → IsFit (after s c)
-of_peer s c p plain f b g h e here = after_fits s c f g (λ q. subst (IsFitRow (s.changes + 1)) (sym (row_then s c p q plain.rows b e here)) (by_peer q))
+-- states of entries do not matter
+fits_bare : (changes : ℕ) (r r' : Row) → bare r ≡ bare r' → IsFitRow changes r' → IsFitRow changes r
+fits_bare changes r r' e f = record {
+  mine = omega (arith, ap (λ (x : Row). x.mine) e, f.mine);
+  small = sym (all_bare bare_out is_small (λ x. refl) r.outs) ∙ ap (λ (x : Row). list_all is_small x.outs) e ∙ all_bare bare_out is_small (λ x. refl) r'.outs ∙ f.small;
+  owed = sym (all_bare bare_debt is_small_debt (λ x. refl) r.debts) ∙ ap (λ (x : Row). list_all is_small_debt x.debts) e ∙ all_bare bare_debt is_small_debt (λ x. refl) r'.debts ∙ f.owed;
+}
+
+of_peer : (s : State) (c : Change) (p : ℕ) → IsFit s → in_grammar c ≡ true → allowed s c ≡ true → peer_of c ≡ Some p → is_peer s p ≡ true → IsFit (after s c)
+of_peer s c p f g h e here = after_fits s c f g (λ q. fits_bare (s.changes + 1) (row (after s c) q) (cond (p == q) (changed s c (row s q)) (row s q)) (row_bare s c p q e here) (by_peer q))
   where
     by_peer : (q : ℕ) → IsFitRow (s.changes + 1) (cond (p == q) (changed s c (row s q)) (row s q))
     by_peer q = by_cases (p == q)
-        (λ k. rw k (subst (λ x. IsFitRow (s.changes + 1) (changed s c (row s x))) (eqb-true p q k) (row_fits s c p f b h e)))
+        (λ k. rw k (subst (λ x. IsFitRow (s.changes + 1) (changed s c (row s x))) (eqb-true p q k) (row_fits s c p f h e)))
         (λ k. rw k (later s.changes (row s q) (f.rows q)))
 
-fit_after : (s : State) (c : Change) → IsPlain s → IsFit s → is_built c ≡ true → in_grammar c ≡ true → allowed s c ≡ true → IsFit (after s c)
-fit_after s (Begun x) plain f b g h = after_fits s (Begun x) f g (λ q. subst (IsFitRow (s.changes + 1)) (sym (row_in-first_rows (settings_of_body x.body) q)) (record { mine = omega arith; small = refl }))
-fit_after s (Kept x) plain f b g h = after_fits s (Kept x) f g (λ q. later s.changes (row s q) (f.rows q))
-fit_after s (Snapped x) plain f b g h = after_fits s (Snapped x) f g (λ q. later s.changes (row s q) (f.rows q))
-fit_after s (Forgot x) plain f b g h = after_fits s (Forgot x) f g (λ q. later s.changes (row s q) (f.rows q))
-fit_after s (Chose x) plain f b g h = after_fits s (Chose x) f g (λ q. later s.changes (row s q) (f.rows q))
-fit_after s (TookFresh x) plain f b g h = let c : Change = TookFresh x in of_peer s c x.peer plain f b g h refl (allows s c h).peer
-fit_after s (TookSwap x) plain f b g h = let c : Change = TookSwap x in of_peer s c x.peer plain f b g h refl (allows s c h).peer
-fit_after s (LetGo x) plain f b g h = let c : Change = LetGo x in of_peer s c x.peer plain f b g h refl (allows s c h).peer
-fit_after s (LetGoBack x) plain f b g h = let c : Change = LetGoBack x in of_peer s c x.peer plain f b g h refl (allows s c h).peer
-fit_after s (Refused x) plain f b g h = let c : Change = Refused x in of_peer s c x.peer plain f b g h refl (allows s c h).peer
-fit_after s (Proposed x) plain f b g h = let c : Change = Proposed x in of_peer s c x.peer plain f b g h refl (allows s c h).peer
-fit_after s (Settled x) plain f b g h = let c : Change = Settled x in of_peer s c x.peer plain f b g h refl (allows s c h).peer
-fit_after s (Turned x) plain f b g h = let c : Change = Turned x in of_peer s c x.peer plain f b g h refl (allows s c h).peer
-fit_after s _ plain f b g h = absurd (false≢true b)
+fit_after : (s : State) (c : Change) → IsFit s → in_grammar c ≡ true → allowed s c ≡ true → IsFit (after s c)
+fit_after s (Begun x) f g h = after_fits s (Begun x) f g (λ q. subst (IsFitRow (s.changes + 1)) (sym (row_in-first_rows (settings_of_body x.body) q)) (record { mine = omega arith; small = refl; owed = refl }))
+fit_after s (Kept x) f g h = after_fits s (Kept x) f g (λ q. later s.changes (row s q) (f.rows q))
+fit_after s (Snapped x) f g h = after_fits s (Snapped x) f g (λ q. later s.changes (row s q) (f.rows q))
+fit_after s (Forgot x) f g h = after_fits s (Forgot x) f g (λ q. later s.changes (row s q) (f.rows q))
+fit_after s (Chose x) f g h = after_fits s (Chose x) f g (λ q. later s.changes (row s q) (f.rows q))
+fit_after s (TookFresh x) f g h = let c : Change = TookFresh x in of_peer s c x.peer f g h refl (allows s c h).peer
+fit_after s (TookSwap x) f g h = let c : Change = TookSwap x in of_peer s c x.peer f g h refl (allows s c h).peer
+fit_after s (LetGo x) f g h = let c : Change = LetGo x in of_peer s c x.peer f g h refl (allows s c h).peer
+fit_after s (LetGoBack x) f g h = let c : Change = LetGoBack x in of_peer s c x.peer f g h refl (allows s c h).peer
+fit_after s (Replaced x) f g h = let c : Change = Replaced x in of_peer s c x.peer f g h refl (allows s c h).peer
+fit_after s (Refused x) f g h = let c : Change = Refused x in of_peer s c x.peer f g h refl (allows s c h).peer
+fit_after s (Proposed x) f g h = let c : Change = Proposed x in of_peer s c x.peer f g h refl (allows s c h).peer
+fit_after s (Settled x) f g h = let c : Change = Settled x in of_peer s c x.peer f g h refl (allows s c h).peer
+fit_after s (Turned x) f g h = let c : Change = Turned x in of_peer s c x.peer f g h refl (allows s c h).peer
+fit_after s (Asked x) f g h = let c : Change = Asked x in of_peer s c x.peer f g h refl (allows s c h).peer
+fit_after s (Passed x) f g h = let c : Change = Passed x in of_peer s c x.peer f g h refl (allows s c h).peer
+fit_after s (Failed x) f g h = let c : Change = Failed x in of_peer s c x.peer f g h refl (allows s c h).peer
+fit_after s (Declined x) f g h = let c : Change = Declined x in of_peer s c x.peer f g h refl (allows s c h).peer
+fit_after s (Discarded x) f g h = let c : Change = Discarded x in of_peer s c x.peer f g h refl (allows s c h).peer
 
 fit_nothing : IsFit nothing_yet
-fit_nothing = record { rows = λ q. record { mine = omega arith; small = refl }; own = refl }
+fit_nothing = record { rows = λ q. record { mine = omega arith; small = refl; owed = refl }; own = refl }
 
-fit_from : (s : State) (h : List Change) → IsPlain s → IsFit s → lawful_from s h ≡ true → list_all is_built h ≡ true → IsFit (state_from s h)
-fit_from s [] plain f v b = f
-fit_from s (c ∷ cs) plain f v b =
+fit_from : (s : State) (h : List Change) → IsFit s → lawful_from s h ≡ true → IsFit (state_from s h)
+fit_from s [] f v = f
+fit_from s (c ∷ cs) f v =
     let l = lawful_cons s c cs v in
-    let built = and_parts (is_built c) (list_all is_built cs) b in
-    fit_from (after s c) cs (plain_after s c plain built.0 l.grammar l.allows) (fit_after s c plain f built.0 l.grammar l.allows) l.rest built.1
+    fit_from (after s c) cs (fit_after s c f l.grammar l.allows) l.rest
 
-pub fit_state : (h : List Change) → is_lawful h ≡ true → list_all is_built h ≡ true → IsFit (state h)
-fit_state h v b = fit_from nothing_yet h plain_nothing fit_nothing v b
+pub fit_state : (h : List Change) → is_lawful h ≡ true → IsFit (state h)
+fit_state h v = fit_from nothing_yet h fit_nothing v

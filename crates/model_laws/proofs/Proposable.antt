@@ -23,7 +23,7 @@ use Rattle.psb_model.proofs.ByObject.{by_cases, object_eq-refl, has-occurs}
 use Rattle.psb_model.proofs.Standing.{occurs_none}
 use Rattle.model_laws.proofs.RowOrder.{IsSortedRow, numbers_that, numbers_ascend, ascend_take}
 use Rattle.psb_model.proofs.Own.{name_refl, name_same}
-use Rattle.psb_model.proofs.Built.{IsPlain, names_apart}
+use Rattle.psb_model.proofs.Steady.{IsSteady, names_apart}
 use Rattle.model_laws.proofs.Widths.{AreWide, in_fits, out_fits, name_fits}
 use Rattle.model_laws.proofs.Fitting.{IsFit, is_small, is_fit_len, few_units}
 
@@ -184,7 +184,7 @@ placeable s p name chosen missing =
     let one = and_parts b c two.0 in
     rw (chosen, all.0, one.0, one.1, two.1) refl
 
-placed : (s : State) (p : ℕ) (probed : List Object) (what : DealWhat) → IsPlain s → IsFit s → AreWide s → IsSortedRow (row s p) → place s p probed (capacity s.settings) ≡ Some what → MayBe s p what
+placed : (s : State) (p : ℕ) (probed : List Object) (what : DealWhat) → IsSteady s → IsFit s → AreWide s → IsSortedRow (row s p) → place s p probed (capacity s.settings) ≡ Some what → MayBe s p what
 placed s p probed what plain fit wide sorted h =
     by_cases (list_any (λ q. q == p) s.chosen)
     (λ chosen. let h' : first_place s p probed (capacity s.settings) s.own ≡ Some what = rw chosen at h in
@@ -207,7 +207,7 @@ placed s p probed what plain fit wide sorted h =
     subst (MayBe s p) same (record { tests = rw (placeable s p e.name chosen missing, room) refl; listed = refl; fits = name; built = refl }))))
     (λ other. let h' : None ≡ Some what = rw other at h in absurd (cc (h')))
 
-released : (s : State) (p : ℕ) (probed : List Object) (what : DealWhat) → IsPlain s → IsFit s → AreWide s → IsSortedRow (row s p) → release s p probed s.issued ≡ Some what → MayBe s p what
+released : (s : State) (p : ℕ) (probed : List Object) (what : DealWhat) → IsSteady s → IsFit s → AreWide s → IsSortedRow (row s p) → release s p probed s.issued ≡ Some what → MayBe s p what
 released s p probed what plain fit wide sorted h =
     let tidy = (plain.good.rows p).tidy in
     let once : (e : OutEntry) (name : List ℕ) → In e (row s p).outs → e.object ≡ Chunk name → units_at out_key out_size (row s p).outs (Chunk name) ≡ e.units = λ e name there is.
@@ -234,7 +234,7 @@ released s p probed what plain fit wide sorted h =
     let few : nat_le (s.issued + units_at out_key out_size (row s p).outs (Chunk name)) most_claims ≡ true = ap (λ u. nat_le (s.issued + u) most_claims) (once e name there is) ∙ fits in
     subst (MayBe s p) same (record { tests = rw (here e name there is, mark.0, free.0, same_number, few) refl; listed = refl; fits = rw (digest e name there is, number) refl; built = refl }))
 
-pub proposable : (s : State) (p : ℕ) (probed : List Object) (facts : ProposeFacts) (what : DealWhat) → IsPlain s → IsFit s → AreWide s → IsSortedRow (row s p) → facts.issued ≡ s.issued → facts.capacity ≡ capacity s.settings → proposal s p probed facts ≡ Some what → MayBe s p what
+pub proposable : (s : State) (p : ℕ) (probed : List Object) (facts : ProposeFacts) (what : DealWhat) → IsSteady s → IsFit s → AreWide s → IsSortedRow (row s p) → facts.issued ≡ s.issued → facts.capacity ≡ capacity s.settings → proposal s p probed facts ≡ Some what → MayBe s p what
 proposable s p probed facts what plain fit wide sorted issued most h =
     option_cases (release s p probed facts.issued) (place s p probed facts.capacity) what h
     (λ is. released s p probed what plain fit wide sorted (ap (release s p probed) (sym issued) ∙ is))

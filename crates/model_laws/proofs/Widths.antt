@@ -1,11 +1,11 @@
--- The widths of what a state keeps, in each history of the kinds that are built: a name has 32 bytes and a slot's
+-- The widths of what a state keeps, in each lawful history: a name has 32 bytes and a slot's
 -- number four, and no more claims are drawn than there are.
-use Rattle.std.proofs.Common.{◌≡◌, ℕ, ◌+◌, ◌≤◌, ◌^◌, Bool, true, false, not, ◌&&◌, cond, List, [], ◌∷◌, Option, Some, None, refl, sym, subst, arith}
-use Rattle.std.specs.Prelude.{zero, suc, ◌==◌}
+use Rattle.std.proofs.Common.{◌≡◌, ℕ, ◌+◌, ◌-◌, ◌≤◌, ◌^◌, Bool, true, false, not, ◌&&◌, cond, List, [], ◌∷◌, ◌++◌, map, filter, Option, Some, None, refl, sym, ap, ◌∙◌, subst, arith}
+use Rattle.std.specs.Prelude.{zero, suc, ◌==◌, nat_le}
 use Rattle.std.specs.List.{list_all}
 use Rattle.std.specs.Ordering.{is_lt, nat_cmp}
 use Rattle.std.specs.Cmp.Lexicographic.{slice_cmp}
-use Rattle.std.proofs.lemmas.Bool.{and_parts, false≢true, leb-true, lt-ltb, eqb-true}
+use Rattle.std.proofs.lemmas.Bool.{and_parts, leb-true, lt-ltb, eqb-true}
 use Rattle.psb_bytes.specs.declared.ids.Object.{Object}
 use Rattle.psb_bytes.specs.declared.ids.Object.TheVariants.{Chunk}
 use Rattle.psb_model.specs.declared.entries.InEntry.{InEntry}
@@ -15,26 +15,31 @@ use Rattle.psb_model.specs.declared.deals.Deal.{Deal}
 use Rattle.psb_model.specs.declared.deals.DealWhat.{DealWhat}
 use Rattle.psb_model.specs.declared.deals.DealWhat.TheVariants.{Fresh, Swap, Cancel, PutBack, Forward, Return}
 use Rattle.psb_model.specs.declared.change.Change.{Change}
-use Rattle.psb_model.specs.declared.change.Change.TheVariants.{Begun, Kept, Snapped, Forgot, TookFresh, TookSwap, LetGo, LetGoBack, Refused, Proposed, Settled, Turned, Chose}
-use Rattle.psb_model.specs.Words.{units, units_at, all_of, slots, with_one, with_all, without, listed}
+use Rattle.psb_model.specs.declared.change.Change.TheVariants.{Begun, Kept, Snapped, Forgot, TookFresh, TookSwap, LetGo, LetGoBack, Replaced, Refused, Proposed, Settled, Turned, Asked, Passed, Failed, Declined, Discarded, Chose}
+use Rattle.psb_model.specs.declared.entries.DebtEntry.{DebtEntry}
+use Rattle.psb_model.specs.Words.{units, units_at, all_of, slots, only, with_one, with_all, without, listed}
 use Rattle.psb_model.specs.State.{Row, State, blank, nothing_yet, row, is_peer, in_key, out_key, out_size, own_len}
 use Rattle.psb_model.specs.Grammar.{is_u32, is_u64, is_digest, are_bytes, object_fits, what_fits, fits_widths}
-use Rattle.psb_model.specs.Conditions.{most_claims, peer_of, settings_of_body, tests, propose_tests, allowed}
-use Rattle.psb_model.specs.Move.{after_move}
-use Rattle.psb_model.specs.Effects.{chunk_in, chunk_out, direct_slot, direct_slots, own_slot, own_slots, own_with, set_marks, own_after, settle_move, issued_after, after}
-use Rattle.psb_model.specs.History.{state_from, lawful_from, state, is_lawful, is_built}
+use Rattle.psb_model.specs.Conditions.{most_claims, peer_of, settings_of_body, declined_objects, tests, propose_tests, allowed}
+use Rattle.psb_model.specs.Move.{Move, use_up, after_move}
+use Rattle.psb_model.specs.Effects.{chunk_in, chunk_out, direct_slot, direct_slots, own_slot, own_slots, own_with, set_marks, own_after, settle_move, move_of, debt_row, lost_rows, out_again, is_whole_listed, issued_after, after}
+use Rattle.psb_model.specs.History.{state_from, lawful_from, state, is_lawful}
 use Rattle.psb_model.proofs.ByObject.{by_cases, all_with_one, all_kept}
 use Rattle.psb_model.proofs.Steps.{parts}
 use Rattle.psb_model.proofs.Standing.{StandsFor}
-use Rattle.psb_model.proofs.Rows.{row_in-first_rows}
+use Rattle.psb_model.proofs.Rows.{row_in-first_rows, note_lists}
 use Rattle.psb_model.proofs.Prefixes.{lawful_cons}
-use Rattle.psb_model.proofs.Built.{IsPlain, plain_nothing, plain_after, allows, changed, row_then}
+use Rattle.psb_model.proofs.Bare.{bare, bare_in, bare_out, bare_debt, all_bare, changed, row_bare}
+use Rattle.psb_model.proofs.Steady.{IsSteady, steady_nothing, steady_after, allows}
 
 abbrev pub in_fits : InEntry → Bool
 in_fits e = object_fits e.object
 
 abbrev pub out_fits : OutEntry → Bool
 out_fits e = object_fits e.object
+
+abbrev pub debt_fits : DebtEntry → Bool
+debt_fits d = object_fits d.object
 
 abbrev pub name_fits : OwnEntry → Bool
 name_fits e = is_digest e.name
@@ -46,6 +51,7 @@ pending_fits (Some d) = what_fits d.what
 pub record IsWideRow (r : Row) : Type 0 where
   pub ins : list_all in_fits r.ins ≡ true
   pub outs : list_all out_fits r.outs ≡ true
+  pub debts : list_all debt_fits r.debts ≡ true
   pub deal : pending_fits r.pending ≡ true
 
 pub record AreWide (s : State) : Type 0 where
@@ -100,15 +106,76 @@ settle_fits s r (Some d) numbers w p n stands few = by_what d.what p (stands d r
     by_what (Forward slot entry) fit st = record { ins = ins_left [] r.ins w.ins; outs = outs_left [] r.outs w.outs }
     by_what (Return slot) fit st = record { ins = ins_left [] r.ins w.ins; outs = outs_left [] r.outs w.outs }
 
+-- ---- what is lost, and what returns
+
+again_wide : (objects : List Object) (ds : List DebtEntry) → list_all debt_fits ds ≡ true → list_all out_fits (map out_again (filter (is_whole_listed objects) ds)) ≡ true
+again_wide objects [] h = refl
+again_wide objects (d ∷ ds) h =
+    let a = and_parts (debt_fits d) (list_all debt_fits ds) h in
+    by_cases (is_whole_listed objects d) (λ k. rw (k, a.0) (again_wide objects ds a.1)) (λ k. rw k (again_wide objects ds a.1))
+
+all_wide : (es l : List OutEntry) → list_all out_fits es ≡ true → list_all out_fits l ≡ true → list_all out_fits (with_all out_key es l) ≡ true
+all_wide [] l a b = b
+all_wide (e ∷ es) l a b = let two = and_parts (out_fits e) (list_all out_fits es) a in all_wide es (with_one out_key e l) two.1 (all_with_one out_key out_fits e l two.0 b)
+
+booked_wide : (n : ℕ) (declined : Bool) (l : List OutEntry) → list_all out_fits l ≡ true → list_all debt_fits (map (debt_row n declined) l) ≡ true
+booked_wide n declined [] h = refl
+booked_wide n declined (e ∷ es) h = let a = and_parts (out_fits e) (list_all out_fits es) h in rw a.0 (booked_wide n declined es a.1)
+
+debts_both : (xs ys : List DebtEntry) → list_all debt_fits xs ≡ true → list_all debt_fits ys ≡ true → list_all debt_fits (xs ++ ys) ≡ true
+debts_both [] ys a b = b
+debts_both (x ∷ xs) ys a b = let two = and_parts (debt_fits x) (list_all debt_fits xs) a in rw two.0 (debts_both xs ys two.1 b)
+
+lost_wide : (n : ℕ) (declined : Bool) (objects : List Object) (l : List OutEntry) → list_all out_fits l ≡ true → list_all debt_fits (lost_rows n declined objects l) ≡ true
+lost_wide n declined [] l h = refl
+lost_wide n declined (o ∷ os) l h = debts_both (map (debt_row n declined) (only out_key (o ∷ []) l)) (lost_rows n declined os l) (booked_wide n declined (only out_key (o ∷ []) l) (all_kept out_fits (λ (e : OutEntry). listed (o ∷ []) (out_key e)) l h)) (lost_wide n declined os l h)
+
+used_wide : (k : ℕ) (ds : List DebtEntry) → list_all debt_fits ds ≡ true → list_all debt_fits (use_up k ds) ≡ true
+used_wide zero ds h = h
+used_wide (suc k) [] h = refl
+used_wide (suc k) (d ∷ ds) h =
+    let a = and_parts (debt_fits d) (list_all debt_fits ds) h in
+    by_cases (nat_le d.left (suc k)) (λ j. rw j (used_wide (suc k - d.left) ds a.1)) (λ j. rw j h)
+
+debts_moved : (m : Move) (r : Row) → list_all debt_fits m.booked ≡ true → list_all debt_fits r.debts ≡ true → list_all debt_fits (after_move m r).debts ≡ true
+debts_moved m r b h = debts_both (use_up m.used_up (filter (λ d. not (m.returned d)) r.debts)) m.booked (used_wide m.used_up _ (all_kept debt_fits (λ (d : DebtEntry). not (m.returned d)) r.debts h)) b
+
+settle_books : (s : State) (r : Row) (o : Option Deal) (numbers : List ℕ) → list_all debt_fits (settle_move s r o numbers).booked ≡ true
+settle_books s r None numbers = refl
+settle_books s r (Some d) numbers = by_what d.what
+  where
+    by_what : (what : DealWhat) → list_all debt_fits (settle_move s r (Some (record { number = d.number; what = what })) numbers).booked ≡ true
+    by_what (Fresh name) = refl
+    by_what (Swap name mine) = refl
+    by_what (Cancel name theirs) = refl
+    by_what (PutBack name first) = refl
+    by_what (Forward slot entry) = refl
+    by_what (Return slot) = refl
+
+books_wide : (s : State) (c : Change) (p : ℕ) → AreWide s → peer_of c ≡ Some p → list_all debt_fits (move_of s c).booked ≡ true
+books_wide s (Failed x) p w e = lost_wide s.changes false x.objects (row s x.peer).outs (w.rows x.peer).outs
+books_wide s (Declined x) p w e = lost_wide s.changes true (declined_objects s x.peer x.asked x.places) (row s x.peer).outs (w.rows x.peer).outs
+books_wide s (Settled x) p w e = settle_books s (row s x.peer) (row s x.peer).pending x.slots
+books_wide s _ p w e = refl
+
+debts_wide : (s : State) (c : Change) (p : ℕ) → AreWide s → peer_of c ≡ Some p → list_all debt_fits (changed s c (row s p)).debts ≡ true
+debts_wide s c p w e = ap (list_all debt_fits) (note_lists s c (after_move (move_of s c) (row s p))).debts ∙ debts_moved (move_of s c) (row s p) (books_wide s c p w e) (w.rows p).debts
+
 -- ---- a change of the peer
 
-row_wide : (s : State) (c : Change) (p : ℕ) → IsPlain s → AreWide s → is_built c ≡ true → fits_widths c ≡ true → allowed s c ≡ true → peer_of c ≡ Some p → IsWideRow (changed s c (row s p))
-row_wide s (Begun x) p plain w b f h e = absurd (cc (e))
-row_wide s (Kept x) p plain w b f h e = absurd (cc (e))
-row_wide s (Snapped x) p plain w b f h e = absurd (cc (e))
-row_wide s (Forgot x) p plain w b f h e = absurd (cc (e))
-row_wide s (Chose x) p plain w b f h e = absurd (cc (e))
-row_wide s (TookFresh x) p plain w b f h e =
+-- the entries, and the own deal
+record AreWideEntries (r : Row) : Type 0 where
+  ins : list_all in_fits r.ins ≡ true
+  outs : list_all out_fits r.outs ≡ true
+  deal : pending_fits r.pending ≡ true
+
+entries_wide : (s : State) (c : Change) (p : ℕ) → IsSteady s → AreWide s → fits_widths c ≡ true → allowed s c ≡ true → peer_of c ≡ Some p → AreWideEntries (changed s c (row s p))
+entries_wide s (Begun x) p steady w f h e = absurd (cc (e))
+entries_wide s (Kept x) p steady w f h e = absurd (cc (e))
+entries_wide s (Snapped x) p steady w f h e = absurd (cc (e))
+entries_wide s (Forgot x) p steady w f h e = absurd (cc (e))
+entries_wide s (Chose x) p steady w f h e = absurd (cc (e))
+entries_wide s (TookFresh x) p steady w f h e =
     let ts = parts (tests s (TookFresh x)) (allows s (TookFresh x) h).tests in
     let begins : x.first ≡ s.issued = eqb-true x.first s.issued ts.1.1.1.1.1.0 in
     let few = leb-true (s.issued + units x.len) most_claims ts.1.1.1.1.1.1.0 in
@@ -119,7 +186,7 @@ row_wide s (TookFresh x) p plain w b f h e =
       outs = own_fit x.first (units x.len) (without out_key [] (row s p).outs) (omega (arith, begins, few)) (outs_left [] (row s p).outs r.outs);
       deal = r.deal;
     }
-row_wide s (TookSwap x) p plain w b f h e =
+entries_wide s (TookSwap x) p steady w f h e =
     let names = and_parts (is_u32 x.peer && is_u64 x.deal) (is_digest x.name) (and_parts (is_u32 x.peer && is_u64 x.deal && is_digest x.name) (list_all is_u32 x.slots) (and_parts (is_u32 x.peer && is_u64 x.deal && is_digest x.name && list_all is_u32 x.slots) (is_u32 x.len) (and_parts (is_u32 x.peer && is_u64 x.deal && is_digest x.name && list_all is_u32 x.slots && is_u32 x.len) (are_bytes x.body) f).0).0).0 in
     let r = w.rows p in
     record {
@@ -127,26 +194,41 @@ row_wide s (TookSwap x) p plain w b f h e =
       outs = outs_left [] (row s p).outs r.outs;
       deal = r.deal;
     }
-row_wide s (LetGo x) p plain w b f h e =
+entries_wide s (LetGo x) p steady w f h e =
     let r = w.rows p in
     record { ins = ins_left (Chunk x.name ∷ []) (row s p).ins r.ins; outs = outs_left (slots x.slots) (row s p).outs r.outs; deal = r.deal }
-row_wide s (LetGoBack x) p plain w b f h e =
+entries_wide s (LetGoBack x) p steady w f h e =
     let listed = and_parts (is_u32 x.peer && is_u64 x.deal && is_digest x.name) (list_all is_u32 x.slots) (and_parts (is_u32 x.peer && is_u64 x.deal && is_digest x.name && list_all is_u32 x.slots) (are_bytes x.body) f).0 in
     let r = w.rows p in
     record { ins = direct_fit x.slots (without in_key (Chunk x.name ∷ []) (row s p).ins) listed.1 (ins_left (Chunk x.name ∷ []) (row s p).ins r.ins); outs = outs_left [] (row s p).outs r.outs; deal = r.deal }
-row_wide s (Refused x) p plain w b f h e = let r = w.rows p in record { ins = ins_left [] (row s p).ins r.ins; outs = outs_left [] (row s p).outs r.outs; deal = r.deal }
-row_wide s (Turned x) p plain w b f h e = let r = w.rows p in record { ins = ins_left [] (row s p).ins r.ins; outs = outs_left [] (row s p).outs r.outs; deal = refl }
-row_wide s (Proposed x) p plain w b f h e = let r = w.rows p in record { ins = ins_left [] (row s p).ins r.ins; outs = outs_left [] (row s p).outs r.outs; deal = deal_widths (is_u32 x.peer) (is_u64 x.deal) (what_fits x.what) f }
-row_wide s (Settled y) p plain w b f h e =
+entries_wide s (Refused x) p steady w f h e = let r = w.rows p in record { ins = ins_left [] (row s p).ins r.ins; outs = outs_left [] (row s p).outs r.outs; deal = r.deal }
+entries_wide s (Turned x) p steady w f h e = let r = w.rows p in record { ins = ins_left [] (row s p).ins r.ins; outs = outs_left [] (row s p).outs r.outs; deal = refl }
+entries_wide s (Proposed x) p steady w f h e = let r = w.rows p in record { ins = ins_left [] (row s p).ins r.ins; outs = outs_left [] (row s p).outs r.outs; deal = deal_widths (is_u32 x.peer) (is_u64 x.deal) (what_fits x.what) f }
+entries_wide s (Settled y) p steady w f h e =
     let same : y.peer ≡ p = cc (e) in
     let listed = and_parts (is_u32 y.peer && is_u64 y.deal) (list_all is_u32 y.slots) (and_parts (is_u32 y.peer && is_u64 y.deal && list_all is_u32 y.slots) (are_bytes y.body) f).0 in
-    let m = settle_fits s (row s p) (row s p).pending y.slots (w.rows p) (w.rows p).deal listed.1 (plain.good.rows p).stands w.issued in
+    let m = settle_fits s (row s p) (row s p).pending y.slots (w.rows p) (w.rows p).deal listed.1 (steady.good.rows p).stands w.issued in
     record {
       ins = subst (λ x. list_all in_fits (after_move (settle_move s (row s x) (row s x).pending y.slots) (row s p)).ins ≡ true) (sym same) m.ins;
       outs = subst (λ x. list_all out_fits (after_move (settle_move s (row s x) (row s x).pending y.slots) (row s p)).outs ≡ true) (sym same) m.outs;
       deal = refl;
     }
-row_wide s _ p plain w b f h e = absurd (false≢true b)
+entries_wide s (Replaced x) p steady w f h e = let r = w.rows p in record { ins = ins_left [] (row s p).ins r.ins; outs = outs_left [] (row s p).outs r.outs; deal = r.deal }
+entries_wide s (Asked x) p steady w f h e = let r = w.rows p in record { ins = ins_left [] (row s p).ins r.ins; outs = outs_left [] (row s p).outs r.outs; deal = r.deal }
+entries_wide s (Passed y) p steady w f h e =
+    let r = w.rows p in
+    let lists = note_lists s (Passed y) (after_move (move_of s (Passed y)) (row s p)) in
+    record {
+      ins = ap (list_all in_fits) lists.ins ∙ ins_left [] (row s p).ins r.ins;
+      outs = ap (list_all out_fits) lists.outs ∙ all_wide (map out_again (filter (is_whole_listed y.objects) (row s y.peer).debts)) (without out_key [] (row s p).outs) (again_wide y.objects (row s y.peer).debts (w.rows y.peer).debts) (outs_left [] (row s p).outs r.outs);
+      deal = by_cases (y.asked == 0) (λ k. rw k r.deal) (λ k. rw k r.deal);
+    }
+entries_wide s (Failed x) p steady w f h e = let r = w.rows p in record { ins = ins_left [] (row s p).ins r.ins; outs = outs_left x.objects (row s p).outs r.outs; deal = r.deal }
+entries_wide s (Declined x) p steady w f h e = let r = w.rows p in record { ins = ins_left [] (row s p).ins r.ins; outs = outs_left (declined_objects s x.peer x.asked x.places) (row s p).outs r.outs; deal = r.deal }
+entries_wide s (Discarded x) p steady w f h e = let r = w.rows p in record { ins = ins_left x.objects (row s p).ins r.ins; outs = outs_left [] (row s p).outs r.outs; deal = r.deal }
+
+row_wide : (s : State) (c : Change) (p : ℕ) → IsSteady s → AreWide s → fits_widths c ≡ true → allowed s c ≡ true → peer_of c ≡ Some p → IsWideRow (changed s c (row s p))
+row_wide s c p steady w f h e = let x = entries_wide s c p steady w f h e in record { ins = x.ins; outs = x.outs; debts = debts_wide s c p w e; deal = x.deal }
 
 -- ---- every change
 
@@ -177,43 +259,56 @@ issued_few s _ w h = w.issued
 after_wide : (s : State) (c : Change) → AreWide s → fits_widths c ≡ true → allowed s c ≡ true → ((q : ℕ) → IsWideRow (row (after s c) q)) → AreWide (after s c)
 after_wide s c w f h rows = record { rows = rows; own = all_kept name_fits _ (own_after s c) (own_wide s c w f); issued = issued_few s c w h }
 
-of_peer : (s : State) (c : Change) (p : ℕ) → IsPlain s → AreWide s → is_built c ≡ true → fits_widths c ≡ true → allowed s c ≡ true → peer_of c ≡ Some p → is_peer s p ≡ true → AreWide (after s c)
-of_peer s c p plain w b f h e here = after_wide s c w f h (λ q. subst IsWideRow (sym (row_then s c p q plain.rows b e here)) (by_peer q))
+-- states of entries do not matter
+wide_bare : (r r' : Row) → bare r ≡ bare r' → IsWideRow r' → IsWideRow r
+wide_bare r r' e w = record {
+  ins = sym (all_bare bare_in in_fits (λ x. refl) r.ins) ∙ ap (λ (x : Row). list_all in_fits x.ins) e ∙ all_bare bare_in in_fits (λ x. refl) r'.ins ∙ w.ins;
+  outs = sym (all_bare bare_out out_fits (λ x. refl) r.outs) ∙ ap (λ (x : Row). list_all out_fits x.outs) e ∙ all_bare bare_out out_fits (λ x. refl) r'.outs ∙ w.outs;
+  debts = sym (all_bare bare_debt debt_fits (λ x. refl) r.debts) ∙ ap (λ (x : Row). list_all debt_fits x.debts) e ∙ all_bare bare_debt debt_fits (λ x. refl) r'.debts ∙ w.debts;
+  deal = ap (λ (x : Row). pending_fits x.pending) e ∙ w.deal;
+}
+
+of_peer : (s : State) (c : Change) (p : ℕ) → IsSteady s → AreWide s → fits_widths c ≡ true → allowed s c ≡ true → peer_of c ≡ Some p → is_peer s p ≡ true → AreWide (after s c)
+of_peer s c p steady w f h e here = after_wide s c w f h (λ q. wide_bare (row (after s c) q) (cond (p == q) (changed s c (row s q)) (row s q)) (row_bare s c p q e here) (by_peer q))
   where
     by_peer : (q : ℕ) → IsWideRow (cond (p == q) (changed s c (row s q)) (row s q))
     by_peer q = by_cases (p == q)
-        (λ k. rw k (subst (λ x. IsWideRow (changed s c (row s x))) (eqb-true p q k) (row_wide s c p plain w b f h e)))
+        (λ k. rw k (subst (λ x. IsWideRow (changed s c (row s x))) (eqb-true p q k) (row_wide s c p steady w f h e)))
         (λ k. rw k (w.rows q))
 
 blank_wide : IsWideRow blank
-blank_wide = record { ins = refl; outs = refl; deal = refl }
+blank_wide = record { ins = refl; outs = refl; debts = refl; deal = refl }
 
-wide_after : (s : State) (c : Change) → IsPlain s → AreWide s → is_built c ≡ true → fits_widths c ≡ true → allowed s c ≡ true → AreWide (after s c)
-wide_after s (Begun x) plain w b f h = after_wide s (Begun x) w f h (λ q. subst IsWideRow (sym (row_in-first_rows (settings_of_body x.body) q)) blank_wide)
-wide_after s (Kept x) plain w b f h = after_wide s (Kept x) w f h w.rows
-wide_after s (Snapped x) plain w b f h = after_wide s (Snapped x) w f h w.rows
-wide_after s (Forgot x) plain w b f h = after_wide s (Forgot x) w f h w.rows
-wide_after s (Chose x) plain w b f h = after_wide s (Chose x) w f h w.rows
-wide_after s (TookFresh x) plain w b f h = let c : Change = TookFresh x in of_peer s c x.peer plain w b f h refl (allows s c h).peer
-wide_after s (TookSwap x) plain w b f h = let c : Change = TookSwap x in of_peer s c x.peer plain w b f h refl (allows s c h).peer
-wide_after s (LetGo x) plain w b f h = let c : Change = LetGo x in of_peer s c x.peer plain w b f h refl (allows s c h).peer
-wide_after s (LetGoBack x) plain w b f h = let c : Change = LetGoBack x in of_peer s c x.peer plain w b f h refl (allows s c h).peer
-wide_after s (Refused x) plain w b f h = let c : Change = Refused x in of_peer s c x.peer plain w b f h refl (allows s c h).peer
-wide_after s (Proposed x) plain w b f h = let c : Change = Proposed x in of_peer s c x.peer plain w b f h refl (allows s c h).peer
-wide_after s (Settled x) plain w b f h = let c : Change = Settled x in of_peer s c x.peer plain w b f h refl (allows s c h).peer
-wide_after s (Turned x) plain w b f h = let c : Change = Turned x in of_peer s c x.peer plain w b f h refl (allows s c h).peer
-wide_after s _ plain w b f h = absurd (false≢true b)
+wide_after : (s : State) (c : Change) → IsSteady s → AreWide s → fits_widths c ≡ true → allowed s c ≡ true → AreWide (after s c)
+wide_after s (Begun x) steady w f h = after_wide s (Begun x) w f h (λ q. subst IsWideRow (sym (row_in-first_rows (settings_of_body x.body) q)) blank_wide)
+wide_after s (Kept x) steady w f h = after_wide s (Kept x) w f h w.rows
+wide_after s (Snapped x) steady w f h = after_wide s (Snapped x) w f h w.rows
+wide_after s (Forgot x) steady w f h = after_wide s (Forgot x) w f h w.rows
+wide_after s (Chose x) steady w f h = after_wide s (Chose x) w f h w.rows
+wide_after s (TookFresh x) steady w f h = let c : Change = TookFresh x in of_peer s c x.peer steady w f h refl (allows s c h).peer
+wide_after s (TookSwap x) steady w f h = let c : Change = TookSwap x in of_peer s c x.peer steady w f h refl (allows s c h).peer
+wide_after s (LetGo x) steady w f h = let c : Change = LetGo x in of_peer s c x.peer steady w f h refl (allows s c h).peer
+wide_after s (LetGoBack x) steady w f h = let c : Change = LetGoBack x in of_peer s c x.peer steady w f h refl (allows s c h).peer
+wide_after s (Replaced x) steady w f h = let c : Change = Replaced x in of_peer s c x.peer steady w f h refl (allows s c h).peer
+wide_after s (Refused x) steady w f h = let c : Change = Refused x in of_peer s c x.peer steady w f h refl (allows s c h).peer
+wide_after s (Proposed x) steady w f h = let c : Change = Proposed x in of_peer s c x.peer steady w f h refl (allows s c h).peer
+wide_after s (Settled x) steady w f h = let c : Change = Settled x in of_peer s c x.peer steady w f h refl (allows s c h).peer
+wide_after s (Turned x) steady w f h = let c : Change = Turned x in of_peer s c x.peer steady w f h refl (allows s c h).peer
+wide_after s (Asked x) steady w f h = let c : Change = Asked x in of_peer s c x.peer steady w f h refl (allows s c h).peer
+wide_after s (Passed x) steady w f h = let c : Change = Passed x in of_peer s c x.peer steady w f h refl (allows s c h).peer
+wide_after s (Failed x) steady w f h = let c : Change = Failed x in of_peer s c x.peer steady w f h refl (allows s c h).peer
+wide_after s (Declined x) steady w f h = let c : Change = Declined x in of_peer s c x.peer steady w f h refl (allows s c h).peer
+wide_after s (Discarded x) steady w f h = let c : Change = Discarded x in of_peer s c x.peer steady w f h refl (allows s c h).peer
 
 wide_nothing : AreWide nothing_yet
 wide_nothing = record { rows = λ q. blank_wide; own = refl; issued = omega arith }
 
-wide_from : (s : State) (h : List Change) → IsPlain s → AreWide s → lawful_from s h ≡ true → list_all is_built h ≡ true → list_all fits_widths h ≡ true → AreWide (state_from s h)
-wide_from s [] plain w v b f = w
-wide_from s (c ∷ cs) plain w v b f =
+wide_from : (s : State) (h : List Change) → IsSteady s → AreWide s → lawful_from s h ≡ true → list_all fits_widths h ≡ true → AreWide (state_from s h)
+wide_from s [] steady w v f = w
+wide_from s (c ∷ cs) steady w v f =
     let l = lawful_cons s c cs v in
-    let built = and_parts (is_built c) (list_all is_built cs) b in
     let fit = and_parts (fits_widths c) (list_all fits_widths cs) f in
-    wide_from (after s c) cs (plain_after s c plain built.0 l.grammar l.allows) (wide_after s c plain w built.0 fit.0 l.allows) l.rest built.1 fit.1
+    wide_from (after s c) cs (steady_after s c steady l.grammar l.allows) (wide_after s c steady w fit.0 l.allows) l.rest fit.1
 
-pub wide_state : (h : List Change) → is_lawful h ≡ true → list_all is_built h ≡ true → list_all fits_widths h ≡ true → AreWide (state h)
-wide_state h v b f = wide_from nothing_yet h plain_nothing wide_nothing v b f
+pub wide_state : (h : List Change) → is_lawful h ≡ true → list_all fits_widths h ≡ true → AreWide (state h)
+wide_state h v f = wide_from nothing_yet h steady_nothing wide_nothing v f

@@ -11,8 +11,8 @@ pub fn balance_law()
     ensures { Balances }
 {}
 
-/// After every lawful history of the kinds that are built: what the node answers for to all peers, with
-/// the units of each chunk that a pending deal stores fresh, is within the capacity of its settings.
+/// After every lawful history: what the node answers for to all peers, with the units of each chunk that
+/// a pending deal stores fresh, is within the capacity of its settings.
 pub fn capacity_law()
     ensures { StaysWithin }
 {}
@@ -31,7 +31,8 @@ pub fn sums_law()
 {}
 
 /// Worked histories are lawful, with these numbers and states: a chunk that was taken, a slot that
-/// was lost, a slot that was forwarded, and one that came loose.
+/// was lost and found again by a later probe, one that was declined, a slot that was forwarded, one
+/// that came loose and was returned, and a claim that came home.
 pub fn worked_rows()
     ensures { WorkedRows }
 {}

@@ -12,14 +12,13 @@ use Rattle.psb_model.specs.declared.deals.Deal.{Deal}
 use Rattle.psb_model.specs.declared.deals.DealWhat.{DealWhat}
 use Rattle.psb_model.specs.declared.deals.DealWhat.TheVariants.{Fresh, Swap, Cancel, PutBack, Forward, Return}
 use Rattle.psb_model.specs.declared.change.Change.{Change}
-use Rattle.psb_model.specs.declared.change.Change.TheVariants.{Begun, Kept, Snapped, Forgot, TookFresh, TookSwap, LetGo, LetGoBack, Refused, Proposed, Settled, Turned, Chose}
+use Rattle.psb_model.specs.declared.change.Change.TheVariants.{Begun, Kept, Snapped, Forgot, TookFresh, TookSwap, LetGo, LetGoBack, Replaced, Refused, Proposed, Settled, Turned, Asked, Passed, Failed, Declined, Discarded, Chose}
 use Rattle.psb_model.specs.State.{State, row, is_peer, own_marked}
 use Rattle.psb_model.specs.Conditions.{peer_of, allowed}
 use Rattle.psb_model.specs.Effects.{own_after, kept_after, all_rows_after, after}
-use Rattle.psb_model.specs.History.{is_built}
 use Rattle.psb_model.specs.Proposing.{none_marked, none_missing, is_missing}
 use Rattle.psb_model.proofs.ByObject.{by_cases}
-use Rattle.psb_model.proofs.Built.{IsPlain, allows}
+use Rattle.psb_model.proofs.Steady.{IsSteady, allows}
 use Rattle.psb_model.proofs.Passing.{settles_marked, settles_release, places_marked, releases, still_unmarked, still_not_missing, chosen_unmarked, chosen_not_missing}
 use Rattle.next_deals.specs.Searches.{is_past, is_past_own, at_start, search_in, IsSearched, settled_restarts, restarts_of, restarted, all_restarted, missing_from, with_row}
 use Rattle.next_deals.proofs.Reaching.{fewer_units}
@@ -104,9 +103,9 @@ marked_place All q x P start was = start
 marked_place (Marked p) q x P start was = by_cases (p == q) (λ k. rw k start) (λ k. rw k was)
 marked_place (Missing p) q x P start was = by_cases (p == q) (λ k. rw k was) (λ k. rw k was)
 
-of_peer : (s : State) (c : Change) (p : ℕ) (l : List Search) → IsPlain s → is_built c ≡ true → peer_of c ≡ Some p → is_peer s p ≡ true → own_after s c ≡ s.own → kept_after s c ≡ s.kept
+of_peer : (s : State) (c : Change) (p : ℕ) (l : List Search) → IsSteady s → peer_of c ≡ Some p → is_peer s p ≡ true → own_after s c ≡ s.own → kept_after s c ≡ s.kept
     → (places_marked s c ≡ true → restarts_of s c ≡ Marked p) → (releases s c ≡ true → restarts_of s c ≡ Missing p) → IsSearched s l → IsSearched (after s c) (all_restarted (restarts_of s c) l)
-of_peer s c p l plain b e here own kept marks frees was = record { marked = marked; missing = missing }
+of_peer s c p l steady e here own kept marks frees was = record { marked = marked; missing = missing }
   where
     at : (q : ℕ) → search_in (all_restarted (restarts_of s c) l) q ≡ restarted (restarts_of s c) q (search_in l q)
     at q = passed_restarted (restarts_of s c) l q
@@ -125,7 +124,7 @@ of_peer s c p l plain b e here own kept marks frees was = record { marked = mark
     stays_marked q quiet =
         marked_place (restarts_of s c) q (search_in l q) (λ m. none_marked (is_past m) (after s c).own (row (after s c) q).outs ≡ true)
         (start_unmarked (after s c).own (row (after s c) q).outs)
-        (still_unmarked (is_past (search_in l q).marked) s c p q plain b e here own quiet (was.marked q))
+        (still_unmarked (is_past (search_in l q).marked) s c p q steady e here own quiet (was.marked q))
 
     marked : (q : ℕ) → none_marked (is_past (search_in (all_restarted (restarts_of s c) l) q).marked) (after s c).own (row (after s c) q).outs ≡ true
     marked q = subst (λ (x : Search). none_marked (is_past x.marked) (after s c).own (row (after s c) q).outs ≡ true) (sym (at q))
@@ -136,7 +135,7 @@ of_peer s c p l plain b e here own kept marks frees was = record { marked = mark
         (λ k. stays_marked q (λ same. k)))
 
     stays_missing : (q : ℕ) → ((p == q) ≡ true → releases s c ≡ false) → none_missing (is_past_own (restarted (restarts_of s c) q (search_in l q)).missing (restarted (restarts_of s c) q (search_in l q)).most) (after s c) q ≡ true
-    stays_missing q quiet = by_what (restarts_of s c) (still_not_missing (is_past_own (search_in l q).missing (search_in l q).most) s c p q plain b e here own kept quiet (was.missing q))
+    stays_missing q quiet = by_what (restarts_of s c) (still_not_missing (is_past_own (search_in l q).missing (search_in l q).most) s c p q e here own kept quiet (was.missing q))
       where
         by_what : (what : Restarts) → none_missing (is_past_own (search_in l q).missing (search_in l q).most) (after s c) q ≡ true → none_missing (is_past_own (restarted what q (search_in l q)).missing (restarted what q (search_in l q)).most) (after s c) q ≡ true
         by_what Nothing h = h
@@ -158,27 +157,32 @@ all_anew s l = record {
   missing = λ q. subst (λ (x : Search). none_missing (is_past_own x.missing x.most) s q ≡ true) (sym (passed_restarted All l q)) (start_not_missing 0 s q);
 }
 
-chosen : (s : State) (c : Change) (l : List Search) → IsPlain s → own_after s c ≡ s.own → kept_after s c ≡ s.kept → all_rows_after s c ≡ s.rows → IsSearched s l → IsSearched (after s c) (all_restarted Nothing l)
-chosen s c l plain own kept rows was = record {
-  marked = λ q. subst (λ (x : Search). none_marked (is_past x.marked) (after s c).own (row (after s c) q).outs ≡ true) (sym (passed_restarted Nothing l q)) (chosen_unmarked (is_past (search_in l q).marked) s c q plain own rows (was.marked q));
+chosen : (s : State) (c : Change) (l : List Search) → IsSteady s → own_after s c ≡ s.own → kept_after s c ≡ s.kept → all_rows_after s c ≡ s.rows → IsSearched s l → IsSearched (after s c) (all_restarted Nothing l)
+chosen s c l steady own kept rows was = record {
+  marked = λ q. subst (λ (x : Search). none_marked (is_past x.marked) (after s c).own (row (after s c) q).outs ≡ true) (sym (passed_restarted Nothing l q)) (chosen_unmarked (is_past (search_in l q).marked) s c q steady own rows (was.marked q));
   missing = λ q. subst (λ (x : Search). none_missing (is_past_own x.missing x.most) (after s c) q ≡ true) (sym (passed_restarted Nothing l q)) (chosen_not_missing (is_past_own (search_in l q).missing (search_in l q).most) s c q own kept rows (was.missing q));
 }
 
-pub passed_after : (s : State) (c : Change) (l : List Search) → IsPlain s → is_built c ≡ true → allowed s c ≡ true → IsSearched s l → IsSearched (after s c) (all_restarted (restarts_of s c) l)
-passed_after s (Begun x) l plain b h was = all_anew (after s (Begun x)) l
-passed_after s (Kept x) l plain b h was = all_anew (after s (Kept x)) l
-passed_after s (Snapped x) l plain b h was = all_anew (after s (Snapped x)) l
-passed_after s (Forgot x) l plain b h was = all_anew (after s (Forgot x)) l
-passed_after s (Chose x) l plain b h was = chosen s (Chose x) l plain refl refl refl was
-passed_after s (TookFresh x) l plain b h was = let c : Change = TookFresh x in of_peer s c x.peer l plain b refl (allows s c h).peer refl refl (λ k. absurd (false≢true k)) (λ k. absurd (false≢true k)) was
-passed_after s (TookSwap x) l plain b h was = let c : Change = TookSwap x in of_peer s c x.peer l plain b refl (allows s c h).peer refl refl (λ k. absurd (false≢true k)) (λ k. absurd (false≢true k)) was
-passed_after s (LetGo x) l plain b h was = let c : Change = LetGo x in of_peer s c x.peer l plain b refl (allows s c h).peer refl refl (λ k. absurd (false≢true k)) (λ k. absurd (false≢true k)) was
-passed_after s (LetGoBack x) l plain b h was = let c : Change = LetGoBack x in of_peer s c x.peer l plain b refl (allows s c h).peer refl refl (λ k. absurd (false≢true k)) (λ k. absurd (false≢true k)) was
-passed_after s (Refused x) l plain b h was = let c : Change = Refused x in of_peer s c x.peer l plain b refl (allows s c h).peer refl refl (λ k. absurd (false≢true k)) (λ k. absurd (false≢true k)) was
-passed_after s (Proposed x) l plain b h was = let c : Change = Proposed x in of_peer s c x.peer l plain b refl (allows s c h).peer refl refl (λ k. absurd (false≢true k)) (λ k. absurd (false≢true k)) was
-passed_after s (Turned x) l plain b h was = let c : Change = Turned x in of_peer s c x.peer l plain b refl (allows s c h).peer refl refl (λ k. absurd (false≢true k)) (λ k. absurd (false≢true k)) was
-passed_after s (Settled x) l plain b h was = let c : Change = Settled x in of_peer s c x.peer l plain b refl (allows s c h).peer refl refl (places s x.peer (row s x.peer).pending) (takes_away s x.peer (row s x.peer).pending) was
-passed_after s _ l plain b h was = absurd (false≢true b)
+pub passed_after : (s : State) (c : Change) (l : List Search) → IsSteady s → allowed s c ≡ true → IsSearched s l → IsSearched (after s c) (all_restarted (restarts_of s c) l)
+passed_after s (Begun x) l steady h was = all_anew (after s (Begun x)) l
+passed_after s (Kept x) l steady h was = all_anew (after s (Kept x)) l
+passed_after s (Snapped x) l steady h was = all_anew (after s (Snapped x)) l
+passed_after s (Forgot x) l steady h was = all_anew (after s (Forgot x)) l
+passed_after s (Chose x) l steady h was = chosen s (Chose x) l steady refl refl refl was
+passed_after s (TookFresh x) l steady h was = let c : Change = TookFresh x in of_peer s c x.peer l steady refl (allows s c h).peer refl refl (λ k. absurd (false≢true k)) (λ k. absurd (false≢true k)) was
+passed_after s (TookSwap x) l steady h was = let c : Change = TookSwap x in of_peer s c x.peer l steady refl (allows s c h).peer refl refl (λ k. absurd (false≢true k)) (λ k. absurd (false≢true k)) was
+passed_after s (LetGo x) l steady h was = let c : Change = LetGo x in of_peer s c x.peer l steady refl (allows s c h).peer refl refl (λ k. absurd (false≢true k)) (λ k. absurd (false≢true k)) was
+passed_after s (LetGoBack x) l steady h was = let c : Change = LetGoBack x in of_peer s c x.peer l steady refl (allows s c h).peer refl refl (λ k. absurd (false≢true k)) (λ k. absurd (false≢true k)) was
+passed_after s (Refused x) l steady h was = let c : Change = Refused x in of_peer s c x.peer l steady refl (allows s c h).peer refl refl (λ k. absurd (false≢true k)) (λ k. absurd (false≢true k)) was
+passed_after s (Proposed x) l steady h was = let c : Change = Proposed x in of_peer s c x.peer l steady refl (allows s c h).peer refl refl (λ k. absurd (false≢true k)) (λ k. absurd (false≢true k)) was
+passed_after s (Turned x) l steady h was = let c : Change = Turned x in of_peer s c x.peer l steady refl (allows s c h).peer refl refl (λ k. absurd (false≢true k)) (λ k. absurd (false≢true k)) was
+passed_after s (Settled x) l steady h was = let c : Change = Settled x in of_peer s c x.peer l steady refl (allows s c h).peer refl refl (places s x.peer (row s x.peer).pending) (takes_away s x.peer (row s x.peer).pending) was
+passed_after s (Replaced x) l steady h was = let c : Change = Replaced x in of_peer s c x.peer l steady refl (allows s c h).peer refl refl (λ k. absurd (false≢true k)) (λ k. absurd (false≢true k)) was
+passed_after s (Asked x) l steady h was = let c : Change = Asked x in of_peer s c x.peer l steady refl (allows s c h).peer refl refl (λ k. absurd (false≢true k)) (λ k. absurd (false≢true k)) was
+passed_after s (Failed x) l steady h was = let c : Change = Failed x in of_peer s c x.peer l steady refl (allows s c h).peer refl refl (λ k. absurd (false≢true k)) (λ k. absurd (false≢true k)) was
+passed_after s (Declined x) l steady h was = let c : Change = Declined x in of_peer s c x.peer l steady refl (allows s c h).peer refl refl (λ k. absurd (false≢true k)) (λ k. absurd (false≢true k)) was
+passed_after s (Passed x) l steady h was = let c : Change = Passed x in of_peer s c x.peer l steady refl (allows s c h).peer refl refl (λ k. refl) (λ k. absurd (false≢true k)) was
+passed_after s (Discarded x) l steady h was = let c : Change = Discarded x in of_peer s c x.peer l steady refl (allows s c h).peer refl refl (λ k. absurd (false≢true k)) (λ k. refl) was
 
 -- before the first change
 pub passed_none : (s : State) → IsSearched s []

@@ -7,7 +7,7 @@ use Rattle.psb_model.specs.declared.entries.OwnEntry.{OwnEntry}
 use Rattle.psb_model.specs.declared.deals.Deal.{Deal}
 use Rattle.psb_model.specs.declared.deals.DealWhat.TheVariants.{Fresh, Swap, Cancel, PutBack}
 use Rattle.psb_model.specs.declared.change.Change.{Change}
-use Rattle.psb_model.specs.declared.change.Change.TheVariants.{TookFresh, TookSwap, LetGo, LetGoBack, Refused, Proposed, Settled, Turned, Chose}
+use Rattle.psb_model.specs.declared.change.Change.TheVariants.{TookFresh, TookSwap, LetGo, LetGoBack, Refused, Proposed, Settled, Turned, Chose, Replaced, Asked, Passed, Failed, Declined, Discarded}
 use Rattle.psb_model.specs.Words.{units}
 use Rattle.psb_model.specs.State.{State, row, own_marked}
 use Rattle.psb_model.specs.Proposing.{none_marked, none_missing}
@@ -58,6 +58,12 @@ restarts_of s (Refused x) = Nothing
 restarts_of s (Proposed x) = Nothing
 restarts_of s (Settled x) = settled_restarts s x.peer (row s x.peer).pending
 restarts_of s (Turned x) = Nothing
+restarts_of s (Replaced x) = Nothing
+restarts_of s (Asked x) = Nothing
+restarts_of s (Passed x) = Marked x.peer
+restarts_of s (Failed x) = Nothing
+restarts_of s (Declined x) = Nothing
+restarts_of s (Discarded x) = Missing x.peer
 restarts_of s (Chose x) = Nothing
 restarts_of s _ = All
 

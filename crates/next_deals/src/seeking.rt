@@ -43,10 +43,16 @@ pub fn restarts(ledger: &Ledger, c: &Change) -> Restarts
         | Change::TookSwap(_)
         | Change::LetGo(_)
         | Change::LetGoBack(_)
+        | Change::Replaced(_)
         | Change::Refused(_)
         | Change::Proposed(_)
         | Change::Turned(_)
+        | Change::Asked(_)
+        | Change::Failed(_)
+        | Change::Declined(_)
         | Change::Chose(_) => Restarts::Nothing,
+        Change::Passed(x) => Restarts::Marked(x.peer),
+        Change::Discarded(x) => Restarts::Missing(x.peer),
         Change::Settled(x) => settled_restarts(ledger, x.peer),
         _ => Restarts::All,
     }

@@ -16,7 +16,7 @@ use Rattle.psb_model.specs.Needed.{IsValid}
 use Rattle.psb_model.specs.declared.change.Change.{Change}
 use Rattle.psb_model.specs.declared.change.Change.TheVariants.{Begun}
 use Rattle.psb_model.proofs.Steps.{parts}
-use Rattle.psb_model.proofs.Built.{allows}
+use Rattle.psb_model.proofs.Steady.{allows}
 use Rattle.psb_model.proofs.Prefixes.{state_snoc, changes_counted}
 use Rattle.claims.specs.Source.{Source}
 use Rattle.psb_model.specs.State.{own_has}
@@ -27,10 +27,10 @@ use Rattle.psb_machine.specs.declared.question.Question.{Question}
 use Rattle.psb_machine.proofs.Unticked.{passed, clocks_pass, noted_pass}
 use Rattle.psb_machine.proofs.Questions.{question_stays}
 use Rattle.psb_model.specs.History.{is_built}
-use Rattle.psb_model.proofs.Built.{plain_state}
+use Rattle.psb_model.proofs.Steady.{steady_state}
 use Rattle.node_core.specs.declared.clocks.Clock.{Clock}
 use Rattle.node_core.specs.Peers.{PeersView}
-use Rattle.node_core.specs.Names.{KnowsNames}
+use Rattle.node_history.specs.Names.{KnowsNames}
 use Rattle.node_core.specs.Clocks.{KnowsClocks, clocks_after, clocks_noted, clocks_changed}
 use Rattle.node_core.specs.Letters.{is_own}
 use Rattle.node_core.specs.Refusing.{when_taken}
@@ -38,18 +38,19 @@ use Rattle.node_core.proofs.ClockTables.{clocks_grown, clocks_ticked, clocks_kep
 use Rattle.node_core.specs.declared.node.Node.{Node}
 use Rattle.chunk_store.specs.declared.store.Store.{Store}
 use Rattle.chunk_store.specs.Store.{record_of, is_owner}
-use Rattle.node_core.specs.Names.{SameNames, Enters}
-use Rattle.node_core.specs.Less.{IsLess}
+use Rattle.node_history.specs.Names.{SameNames, Enters}
+use Rattle.node_history.specs.Less.{IsLess}
 use Rattle.node_core.specs.Making.{MayMake}
 use Rattle.node_core.specs.declared.reaction.Reaction.{Reaction}
 use Rattle.node_core.specs.declared.reaction.PeerSample.{PeerSample}
 use Rattle.node_core.specs.Reacting.{IsStep, told_by, Reacts, SameOwner, IsSame, IsTicked, steady, numbered}
-use Rattle.node_core.specs.Stands.{HoldsHistory, ReopensTo}
+use Rattle.node_history.specs.Stands.{HoldsHistory, ReopensTo}
 use Rattle.node_core.specs.Stored.{Knows, KnowsSettings, IsKnown, Stored, IsCounted}
-use Rattle.node_core.proofs.Entered.{names_grown, names_same}
-use Rattle.node_core.proofs.Less.{less_all, less_append, valid_less}
-use Rattle.node_core.proofs.Making.{pushed, leaves_histories}
-use Rattle.node_core.proofs.Reopened.{reopens, stored_reopens}
+use Rattle.node_history.proofs.Entered.{names_grown, names_same}
+use Rattle.node_history.proofs.Less.{less_all, less_append, valid_less}
+use Rattle.node_history.proofs.Appending.{pushed, leaves_histories}
+use Rattle.node_history.proofs.Reopened.{reopens}
+use Rattle.node_core.proofs.Reopened.{stored_reopens}
 
 -- ---- the history after a change
 
@@ -84,7 +85,7 @@ question_stepped : {L : Type 0} (old : Node L) (n : Situation) (c : Change) (q :
 question_stepped old n c q k built may kept =
     ⊎_elim
     (λ both. subst (λ (o : Option Question). IsKnown o (after (state n.history) c)) (sym both.0)
-    (known_then old.question (state n.history) (after (state n.history) c) (question_stays (state n.history) c (plain_state n.history k.valid.lawful k.valid.built) built may both.1) k.question))
+    (known_then old.question (state n.history) (after (state n.history) c) (question_stays (state n.history) c (steady_state n.history k.valid.lawful) may both.1) k.question))
     (λ none. subst (λ (o : Option Question). IsKnown o (after (state n.history) c)) (sym none) tt)
     kept
   where

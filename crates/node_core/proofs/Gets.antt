@@ -33,7 +33,7 @@ use Rattle.node_core.specs.Offers.{IsGet}
 use Rattle.node_core.specs.Peers.{PeersView}
 use Rattle.node_core.specs.Reacting.{GivesBytes, IsGiven}
 use Rattle.node_core.specs.Stored.{Knows}
-use Rattle.node_core.proofs.Brought.{or_this, bytes_of}
+use Rattle.node_history.proofs.Brought.{or_this, bytes_of}
 use Rattle.node_core.proofs.Offered.{reads_as, keyed_in, read_is}
 
 -- ---- what the machine makes of a Get

@@ -14,7 +14,7 @@ use Rattle.psb_model.specs.declared.change.Change.{Change}
 use Rattle.psb_model.proofs.ByObject.{by_cases}
 use Rattle.psb_machine.specs.Deals.{StoreFresh, StoreSwap, meets_others}
 use Rattle.node_core.specs.Making.{refused_by}
-use Rattle.node_core.specs.Names.{KnowsNames}
+use Rattle.node_history.specs.Names.{KnowsNames}
 
 -- the bytes do not have their name, or the peer has it here, or the two answers are one
 abbrev pub IsIdle : State → ℕ → List ℕ → List ℕ → Bool → Bool → Type 0

@@ -4,8 +4,9 @@ use Rattle.std.proofs.lemmas.Bool.{true≢false}
 use Rattle.chunk_store.specs.declared.store.Store.{Store}
 use Rattle.chunk_store.specs.Store.{record_of}
 use Rattle.psb_machine.specs.Deals.{Deal, StoreFresh, StoreSwap, Cancel, PutBack, Facts as MachineFacts, is_compared, are_others, judge, clashes as deal_clashes}
-use Rattle.node_core.specs.Less.{IsLess}
-use Rattle.node_core.specs.Names.{KnowsNames, HasNone}
+use Rattle.node_history.specs.Less.{IsLess}
+use Rattle.node_history.specs.Names.{KnowsNames}
+use Rattle.node_core.specs.Compared.{HasNone}
 use Rattle.deals.specs.declared.facts.Facts.{Facts}
 use Rattle.deals.specs.Views.{deal_in, facts_in}
 use Rattle.psb_station.specs.View.{View}
@@ -37,7 +38,8 @@ use Rattle.node_core.specs.Reacting.{MakesChange, TellsAgain, GivesBytes, Makes,
 use Rattle.node_core.specs.Stored.{Knows, Stored}
 use Rattle.node_core.specs.Unread.{IsUnread, NeedsRecord}
 use Rattle.node_core.proofs.Again.{answer_is}
-use Rattle.node_core.proofs.Less.{state_less, meets_less}
+use Rattle.node_history.proofs.Less.{state_less}
+use Rattle.node_core.proofs.Compared.{meets_less}
 
 -- ---- an offer that makes a change
 

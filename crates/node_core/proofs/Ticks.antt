@@ -200,11 +200,11 @@ proposed_short p number what few =
 
 -- a tick after which the next deal has a number
 pub tick_fits : (n : Situation) (p : ℕ) → IsValid n.history → p < 2 ^ 32 → (state n.history).changes < 2 ^ 62 → TickFits (state n.history) p
-tick_fits n p v small few = record { peer = lt-ltb p (2 ^ 32) small; more = omega (arith, few, ((fit_state n.history v.lawful v.built).rows p).mine) }
+tick_fits n p v small few = record { peer = lt-ltb p (2 ^ 32) small; more = omega (arith, few, ((fit_state n.history v.lawful).rows p).mine) }
 
 pub next_number : {L : Type 0} (node : Node L) (n : Situation) (p : ℕ) → Knows node n → node.ledger.state.changes < 2 ^ 62 → (row node.ledger.state p).mine + 1 < 2 ^ 64
 next_number node n p k few =
-    let less = ((fit_state n.history k.valid.lawful k.valid.built).rows p).mine in
+    let less = ((fit_state n.history k.valid.lawful).rows p).mine in
     subst (λ (s : State). (row s p).mine + 1 < 2 ^ 64) (sym k.ledger) (omega (arith, less, ap (λ (s : State). s.changes) k.ledger, few))
 
 record MayPropose (n : Situation) (c : Change) : Type 0 where

@@ -1,5 +1,5 @@
 -- What peers ask and tell of names is read as the machine reads it, and answered as it answers it.
-use Rattle.std.proofs.Common.{◌≡◌, ◌≤◌, ℕ, true, false, if◌then◌else◌, List, [], ◌∷◌, length, is_some, option_map, Option, Some, None, Ok, refl, sym, IfSome, ◌∙◌, ap, subst}
+use Rattle.std.proofs.Common.{◌≡◌, ◌≤◌, ℕ, true, if◌then◌else◌, List, [], ◌∷◌, length, is_some, option_map, Option, Some, None, Ok, refl, sym, IfSome, ◌∙◌, ap, subst}
 use Rattle.std.specs.Prelude.{nat_le}
 use Rattle.std.specs.List.{list_all}
 use Rattle.std.proofs.lemmas.Bool.{and_parts, leb-true, true≢false}

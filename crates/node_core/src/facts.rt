@@ -10,10 +10,11 @@ ghost use Rattle.psb_model.specs.History.{state};
 ghost use Rattle.psb_model.specs.declared.change.Change.{Change};
 ghost use Rattle.psb_machine.specs.Deals.{meets_others, is_named, is_new};
 ghost use Rattle.deals.specs.Views.{deal_in};
-ghost use Rattle.node_core.specs.Stands.{AreDecoded};
+ghost use Rattle.node_history.specs.Stands.{AreDecoded};
 ghost use Rattle.chunk_store.specs.Store.{record_of, is_owner};
 ghost use Rattle.chunk_store.specs.declared.owner.Owner.TheVariants.{Peer};
-ghost use Rattle.node_core.specs.Names.{KnowsNames, AreThere, HasNone};
+ghost use Rattle.node_history.specs.Names.{KnowsNames, AreThere};
+ghost use Rattle.node_core.specs.Compared.{HasNone};
 ghost use Rattle.node_core.specs.Making.{AreFacts, why_refused, clashes};
 
 use crate::Fault;

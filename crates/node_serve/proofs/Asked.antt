@@ -14,7 +14,7 @@ use Rattle.psb_settings.specs.Settings.{most_peers}
 use Rattle.node_core.specs.Letters.{letters_of}
 use Rattle.node_core.specs.declared.outcome.Letter.{Letter}
 use Rattle.node_core.specs.declared.node.Node.{Node}
-use Rattle.node_core.specs.Stands.{ReopensTo}
+use Rattle.node_history.specs.Stands.{ReopensTo}
 use Rattle.node_core.specs.Stored.{Knows, Stored}
 use Rattle.node_core.proofs.Reopened.{stored_at, stored_reopens}
 use Rattle.node_serve.specs.Asks.{sends, only_lost}

@@ -16,7 +16,7 @@ use Rattle.psb_machine.specs.Commands.{Turn, ticks, came_steps, clock_steps, tur
 use Rattle.node_core.specs.declared.fault.Fault.{Fault as NodeFault}
 use Rattle.node_core.specs.declared.fault.Fault.TheVariants as fault
 use Rattle.node_core.specs.declared.node.Node.{Node}
-use Rattle.node_core.specs.Stands.{ReopensTo}
+use Rattle.node_history.specs.Stands.{ReopensTo}
 use Rattle.node_core.specs.Stored.{Knows, Stored}
 use Rattle.node_core.specs.Reacting.{IsSame}
 use Rattle.node_core.proofs.Committing.{same_knows, stored_room}

@@ -9,11 +9,11 @@ use Rattle.psb_machine.specs.Machine.{Situation, Input as MachineInput, Datagram
 use Rattle.psb_machine.specs.Course.{Absorb, datagrams}
 use Rattle.node_core.specs.Letters.{input_of, is_own}
 use Rattle.node_core.specs.Refusing.{IsApt, Refuses}
-use Rattle.node_core.specs.Stands.{ReopensTo}
+use Rattle.node_history.specs.Stands.{ReopensTo}
 use Rattle.node_core.specs.Stored.{Knows, Stored}
 use Rattle.node_core.specs.declared.fault.Fault.{Fault}
 use Rattle.node_core.specs.declared.fault.Fault.TheVariants.{DiskFault, Broken, Memory}
-use Rattle.node_core.proofs.Presence.{err_as}
+use Rattle.node_history.proofs.Presence.{err_as}
 use Rattle.node_core.specs.declared.input.Input.{Input}
 use Rattle.node_core.specs.declared.input.Input.TheVariants as input
 use Rattle.node_core.specs.declared.node.Node.{Node}

@@ -8,7 +8,7 @@ use Rattle.psb_machine.specs.Machine.{Situation}
 use Rattle.psb_machine.specs.Course.{Step, after_all, tellings, sent_in, said_in, taken_in, dropped_in, told_by, tried_in}
 use Rattle.psb_machine.specs.Commands.{Turn}
 use Rattle.node_core.specs.declared.node.Node.{Node}
-use Rattle.node_core.specs.Stands.{ReopensTo}
+use Rattle.node_history.specs.Stands.{ReopensTo}
 use Rattle.node_core.specs.Stored.{Knows, Stored, IsCounted}
 use Rattle.node_serve.specs.Sends.{ToldMore, AreSent, LostFor}
 use Rattle.node_serve.specs.Hears.{steps_of, clock_of, of_turns, Hears, End, AnswersAs, CameIn, EndsAs, EndsInLast, is_fed}

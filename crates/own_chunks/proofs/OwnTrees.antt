@@ -23,12 +23,12 @@ use Rattle.psb_model.specs.Effects.{own_with, set_marks, given_up, is_named}
 use Rattle.psb_model.proofs.Own.{name_same, name_refl, own_with_other}
 use Rattle.psb_model.proofs.Held.{own_with_is}
 use Rattle.psb_model.proofs.ByObject.{by_cases}
-use Rattle.psb_model.proofs.Built.{neither}
+use Rattle.psb_model.proofs.Steady.{neither}
 use Rattle.psb_model.proofs.ObjectOrder.{less_then}
-use Rattle.peer_account.proofs.NameOrder.{IsNameOrder, same_name}
+use Rattle.own_deals.proofs.NameOrder.{IsNameOrder, same_name}
 use Rattle.own_chunks.specs.declared.own.OwnChunk.{OwnChunk}
 use Rattle.peer_lists.specs.Entries.{in_order}
-use Rattle.own_chunks.specs.OwnList.{own_key, own_entry, with_newest, is_newest, newest_len, newest_marked, newest_other, newest_lifted, newest_left, lifts, marks, without_name, newest_behind, nearer, is_behind, known_len, next_own}
+use Rattle.own_chunks.specs.OwnList.{own_key, own_entry, with_newest, is_newest, newest_len, newest_marked, newest_other, newest_lifted, newest_left, newest_named, lifts, marks, without_name, newest_behind, nearer, is_behind, known_len, next_own}
 use Rattle.peer_lists.proofs.Ordered.{in_order_with, or_false, apart, in_order_but, in_order_kept, kept_with}
 use Rattle.peer_lists.proofs.Trees.{by_order}
 use Rattle.peer_lists.proofs.Found.{none_behind, rest_ordered}
@@ -216,6 +216,17 @@ left_marked kept rows es ns (Some c) after ordered tree is =
     ∙ with_choice (q (marked_so (marks kept) c)) (marked_so (marks kept) c) (filter q m)
     ∙ filter_with q (marked_so (marks kept) c) m (ordered_marks (marks kept) l ∙ before_newest c l ordered)
     ∙ ap (filter q) (marks_with (marks kept) c l)
+
+pub marks_same : (l : List OwnEntry) → set_marks (λ e. e.marked) l ≡ l
+marks_same [] = refl
+marks_same (e ∷ es) = ap (λ l. e ∷ l) (marks_same es)
+
+pub left_named : (rows : List (ℕ × Row)) (es ns : List (List ℕ × OwnChunk)) (newest after : Option OwnEntry) → in_order own_key (with_newest newest (map own_entry es)) ≡ true → map own_entry ns ≡ given_up rows (map own_entry es) → after ≡ newest_named rows newest → with_newest after (map own_entry ns) ≡ given_up rows (with_newest newest (map own_entry es))
+left_named rows es ns None after ordered tree is = (λ i. with_newest (is i) (tree i))
+left_named rows es ns (Some c) after ordered tree is =
+    let l = map own_entry es in
+    let q : OwnEntry → Bool = λ e. not e.marked || is_named rows e.name in
+    (λ i. with_newest (is i) (tree i)) ∙ with_choice (q c) c (filter q l) ∙ filter_with q c l (before_newest c l ordered)
 
 all_pass : (l : List OwnEntry) → filter (λ (e : OwnEntry). true) l ≡ l
 all_pass [] = refl

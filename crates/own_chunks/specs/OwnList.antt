@@ -83,6 +83,11 @@ abbrev pub newest_left : List Snapshot → List (ℕ × Row) → Option OwnEntry
 newest_left kept rows None = None
 newest_left kept rows (Some c) = if not (marks kept c) || is_named rows c.name then Some (record c { marked = marks kept c }) else None
 
+-- the chunk, unless it is marked and no row names it
+abbrev pub newest_named : List (ℕ × Row) → Option OwnEntry → Option OwnEntry
+newest_named rows None = None
+newest_named rows (Some c) = if not c.marked || is_named rows c.name then Some c else None
+
 -- the chunk, where it has another name
 abbrev pub newest_other : List ℕ → Option OwnEntry → Option OwnEntry
 newest_other name None = None

@@ -11,7 +11,7 @@ ghost use Rattle.psb_model.specs.Conditions.{names_ascend};
 ghost use Rattle.psb_model.specs.State.{own_has, own_marked};
 ghost use Rattle.psb_model.specs.Effects.{own_with, set_marks, given_up, is_named};
 ghost use Rattle.peer_lists.specs.Entries.{in_order};
-ghost use Rattle.own_chunks.specs.OwnList.{own_entry, is_newest, newest_len, newest_marked, newest_lifted, newest_left, newest_other, newest_behind, nearer, known_len, next_own, lifts, marks, without_name, released, own_key, own_units};
+ghost use Rattle.own_chunks.specs.OwnList.{own_entry, is_newest, newest_len, newest_marked, newest_lifted, newest_left, newest_named, newest_other, newest_behind, nearer, known_len, next_own, lifts, marks, without_name, released, own_key, own_units};
 
 use crate::snapshots::is_below;
 use peer_account::{Account, is_named};
@@ -104,6 +104,22 @@ fn if_left(chunk: Option<OwnEntry>, kept: &[Snapshot], accounts: &[Account]) -> 
         len: c.len,
         marked,
     })
+}
+
+/// The chunk, unless it is marked and no account names it.
+fn if_named(chunk: Option<OwnEntry>, accounts: &[Account]) -> Option<OwnEntry>
+    ensures { result ≡ newest_named (map named_row accounts.now) chunk }
+{
+    let Some(c) = chunk else { return None };
+    let stays = !c.marked || is_named(accounts, &c.name);
+    stays.then_some(c)
+}
+
+/// Whether an own chunk stays: it is not marked, or some account names it.
+fn is_kept(chunk: &OwnChunk, name: &Digest, accounts: &[Account]) -> bool
+    ensures { result ≡ (not chunk.now.marked || is_named (map named_row accounts.now) name.now) }
+{
+    !chunk.marked || is_named(accounts, name)
 }
 
 /// The chunk, where it has another name.
@@ -261,6 +277,16 @@ impl Own {
         self.tree
             .retain(|name, chunk| is_left(chunk, name, kept, accounts));
         self.latest = if_left(self.latest, kept, accounts);
+    }
+
+    /// Gives up the marked chunks that no account names.
+    pub fn give_up(&mut self, accounts: &[Account])
+        requires { in_order own_key self.old.items ≡ true }
+        ensures { self.new.items ≡ given_up (map named_row accounts.now) self.old.items }
+    {
+        self.tree
+            .retain(|name, chunk| is_kept(chunk, name, accounts));
+        self.latest = if_named(self.latest, accounts);
     }
 
     /// Takes out the chunk of this name, if it is there.

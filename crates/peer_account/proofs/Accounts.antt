@@ -14,7 +14,8 @@ use Rattle.psb_model.proofs.ByObject.{sum_by-with_one, sum_by-with_all, by_cases
 use Rattle.psb_model.proofs.Parts.{sum-own_slots}
 use Rattle.peer_account.specs.declared.probes.Probes.{Probes}
 use Rattle.peer_account.specs.OwnDeals.{row_names}
-use Rattle.peer_account.specs.View.{AccountView, OwnDealsView, lacks_all, named_row, whole_row, fresh_row}
+use Rattle.own_deals.specs.OwnDeals.{OwnDealsView}
+use Rattle.peer_account.specs.View.{AccountView, lacks_all, named_row, whole_row, fresh_row}
 use Rattle.peer_lists.proofs.Ordered.{is_false}
 
 -- what a list lacks, it lacks when others are gone

@@ -1,4 +1,3 @@
-pub mod NameOrder
-pub mod Numbers
-pub mod BarredNumbers
 pub mod Accounts
+pub mod Probed
+pub mod Discarded

@@ -1,6 +1,7 @@
 -- What contracts see of an account: its row, and the memory that was taken for a change. And the row after each
 -- move.
-use Rattle.std.specs.Prelude.{◌≡◌, ℕ, ◌+◌, ◌*◌, List, [], ◌∷◌, length, sum_by, Option, Some, None}
+use Rattle.std.specs.Prelude.{◌≡◌, ℕ, Bool, false, true, not, List, [], ◌∷◌, ◌++◌, map, filter, sum_by, Option, Some, None}
+use Rattle.psb_bytes.specs.declared.ids.Object.{Object}
 use Rattle.psb_bytes.specs.declared.ids.Object.TheVariants.{Chunk}
 use Rattle.psb_model.specs.declared.entries.InEntry.{InEntry}
 use Rattle.psb_model.specs.declared.entries.OutEntry.{OutEntry}
@@ -9,24 +10,17 @@ use Rattle.psb_model.specs.declared.deals.LastDeal.{LastDeal}
 use Rattle.psb_model.specs.declared.deals.Deal.{Deal}
 use Rattle.psb_model.specs.declared.deals.DealWhat.{DealWhat}
 use Rattle.psb_model.specs.declared.deals.DealWhat.TheVariants.{Fresh, Swap, Cancel, PutBack}
-use Rattle.psb_model.specs.Words.{slots, units_at, with_one, with_all, without}
+use Rattle.psb_model.specs.Words.{slots, units_at, with_one, with_all, without, only}
 use Rattle.psb_model.specs.State.{Row, in_key, in_size, out_key, out_size, debt_size}
-use Rattle.psb_model.specs.Effects.{chunk_in, chunk_out, own_slots, direct_slots, took_deal}
+use Rattle.psb_model.specs.Conditions.{objects_at}
+use Rattle.psb_model.specs.Move.{use_up}
+use Rattle.psb_model.specs.Effects.{chunk_in, chunk_out, own_slots, direct_slots, took_deal, lost_rows, out_again, is_whole_listed, failed_again, was_passed, was_failed}
+use Rattle.own_deals.specs.OwnDeals.{OwnDealsView, ins_of, outs_of}
 use Rattle.peer_account.specs.declared.probes.Probes.{Probes}
 pub use Rattle.peer_lists.specs.Entries.{in_order, lacks_all}
 
--- the node's own deals with a peer: the one that has no reply yet, the number of the last, what the peer
--- turned down, and how many more names the two lists of these have room for
-pub record OwnDealsView : Type 0 where
-  pub pending : Option Deal
-  pub mine : ℕ
-  pub barred : List (List ℕ × ℕ)
-  pub turned_cancels : List (List ℕ)
-  pub barred_room : ℕ
-  pub cancel_room : ℕ
-
--- a peer's row, how many more entries its two lists of entries have room for, and how many more names
--- those of what it turned down
+-- a peer's row, how many more entries its two lists of entries have room for, how many more names
+-- those of what it turned down, and how many more rows its debt
 pub record AccountView : Type 0 where
   pub id : ℕ
   pub row : Row
@@ -34,6 +28,7 @@ pub record AccountView : Type 0 where
   pub out_room : ℕ
   pub barred_room : ℕ
   pub cancel_room : ℕ
+  pub debt_room : ℕ
 
 -- the row that these lists, this last deal, these own deals and these probes are
 abbrev pub whole_row : List InEntry → List OutEntry → List DebtEntry → LastDeal → OwnDealsView → Probes → Row
@@ -76,20 +71,42 @@ settled_by u numbers r (Some d) = settled_deal u numbers (record r { pending = N
 abbrev pub settled_row : ℕ → List ℕ → Row → Row
 settled_row u numbers r = settled_by u numbers r r.pending
 
+-- a row after a probe asked for objects, by the change of this number
+abbrev pub asked_row : ℕ → List Object → Row → Row
+asked_row change objects r = record r { asked = Some (change, objects) }
+
+-- the entries of out(p) that these rows of debt were, as far as they are listed and whole
+abbrev pub out_anew : List Object → List DebtEntry → List OutEntry
+out_anew objects debts = map out_again (filter (is_whole_listed objects) debts)
+
+-- a row after these objects stand there again, and after a probe of them was passed
+abbrev pub regained_row : List Object → Row → Row
+regained_row objects r = record r { outs = with_all out_key (out_anew objects r.debts) r.outs; debts = filter (λ d. not (is_whole_listed objects d)) r.debts }
+
+abbrev pub passed_row : ℕ → List Object → Row → Row
+passed_row asked objects r = was_passed asked (regained_row objects r)
+
+-- a row after these objects were lost by the change of this number, and after a probe of them failed, or was declined
+-- for the places of some
+abbrev pub lost_row : ℕ → Bool → List Object → Row → Row
+lost_row change declined objects r = record r { outs = without out_key objects r.outs; debts = r.debts ++ lost_rows change declined objects r.outs }
+
+abbrev pub failed_row : ℕ → ℕ → List Object → Row → Row
+failed_row change asked objects r = was_failed asked (lost_row change false objects r)
+
+abbrev pub declined_row : ℕ → ℕ → List ℕ → Row → Row
+declined_row change asked places r = failed_again (lost_row change true (objects_at r asked places) r)
+
+-- a row after these objects left what is answered for, and after they were discarded against debt
+abbrev pub left_row : List Object → Row → Row
+left_row objects r = record r { ins = without in_key objects r.ins }
+
+abbrev pub discarded_row : List Object → Row → Row
+discarded_row objects r = record r { ins = without in_key objects r.ins; debts = use_up (sum_by in_size (only in_key objects r.ins)) r.debts; due = false }
+
 -- ROOM
 
--- what comes to the two lists when the pending deal is settled, but for the slots of the reply: a chunk, or a run;
--- and each slot that goes leaves two runs at most
-abbrev pub ins_of : DealWhat → ℕ
-ins_of (Cancel name numbers) = 2 * length numbers
-ins_of _ = 0
-
-abbrev pub outs_of : DealWhat → ℕ
-outs_of (Fresh name) = 1
-outs_of (Swap name numbers) = 1 + 2 * length numbers
-outs_of (PutBack name first) = 1
-outs_of _ = 0
-
+-- what comes to the two lists when the pending deal is settled, but for the slots of the reply
 abbrev pub ins_settled : Option Deal → ℕ
 ins_settled None = 0
 ins_settled (Some d) = ins_of d.what

@@ -1,6 +1,6 @@
 //! What the ledger keeps of one peer, with its running sums.
 
-ghost use Rattle.std.specs.Prelude.{◌≡◌, ◌≤◌, not, true, map, option_to_list, OnOk, IfOk};
+ghost use Rattle.std.specs.Prelude.{◌≡◌, ◌≤◌, ◌<◌, ◌*◌, ◌^◌, not, true, map, option_to_list, OnOk, IfOk};
 ghost use Rattle.std.specs.List.{list_any};
 ghost use Rattle.std.specs.Option.{option_copied};
 ghost use Rattle.psb_bytes.specs.declared.ids.Object.TheVariants.{Chunk, Slot};
@@ -13,16 +13,16 @@ ghost use Rattle.psb_model.specs.Proposing.{is_absent};
 ghost use Rattle.peer_account.specs.OwnDeals.{barring, placed_name, coming_name, row_names};
 ghost use Rattle.peer_account.specs.View.{AccountView, named_row, whole_row, ins_settled, outs_settled, IsAccount};
 
-mod barred;
+mod asking;
 mod conditions;
+mod discarding;
 mod moves;
-mod own_deals;
 mod own_moves;
+mod probing;
 
 use crate::probes::Probes;
 pub use conditions::Measure;
-pub use own_deals::Room;
-use own_deals::{OwnDeals, room_of};
+use own_deals::{OwnDeals, Room, room_of};
 use peer_lists::{DebtList, InList, OutList};
 use psb_bytes::{Digest, Memory, Object, ObjectList, PeerId};
 use psb_model::{Deal, DealWhat, DebtEntry, InEntry, InState, LastDeal, OutEntry, OutState};
@@ -49,7 +49,7 @@ pub struct Account {
 impl Model for Account {
     ghost Value = { AccountView };
 
-    ghost view = { λ a. record { id = a.id; row = whole_row a.ins.items a.outs.items a.debts.items a.last a.deals a.probes; in_room = a.ins.room; out_room = a.outs.room; barred_room = a.deals.barred_room; cancel_room = a.deals.cancel_room } };
+    ghost view = { λ a. record { id = a.id; row = whole_row a.ins.items a.outs.items a.debts.items a.last a.deals a.probes; in_room = a.ins.room; out_room = a.outs.room; barred_room = a.deals.barred_room; cancel_room = a.deals.cancel_room; debt_room = a.debts.room } };
 
     ghost invariant = { λ a. IsAccount a.held a.back a.debt a.ins.items a.outs.items a.debts.items };
 }
@@ -471,6 +471,19 @@ impl Account {
     {
         self.ins.reserve(ins)?;
         self.outs.reserve(outs)
+    }
+
+    /// Makes room for so many rows of debt, and for their objects to be taken out of what the node has
+    /// there.
+    pub fn reserve_debts(&mut self, count: usize) -> Result<(), Memory>
+        requires { count < 2 ^ 62 }
+        ensures id { self.new.id ≡ self.old.id }
+        ensures row { self.new.row ≡ self.old.row }
+        ensures out_room { OnOk result (2 * count ≤ self.new.out_room) }
+        ensures debt_room { OnOk result (count ≤ self.new.debt_room) }
+    {
+        self.outs.reserve(2 * count)?;
+        self.debts.reserve(count)
     }
 }
 

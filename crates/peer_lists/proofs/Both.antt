@@ -12,7 +12,7 @@ use Rattle.psb_bytes.specs.declared.ids.Object.TheVariants.{Chunk, Slot}
 use Rattle.psb_model.specs.Words.{has, listed, slots, with_one, with_all, without}
 use Rattle.psb_model.specs.Grammar.{ascend}
 use Rattle.psb_model.proofs.ByObject.{by_cases}
-use Rattle.psb_model.proofs.Built.{neither}
+use Rattle.psb_model.proofs.Steady.{neither}
 use Rattle.peer_lists.specs.Chunks.{is_chunk}
 use Rattle.peer_lists.specs.Entries.{in_order, find_at, from_object, lacks_all}
 use Rattle.slot_runs.specs.declared.run.Run.{Run}

@@ -7,3 +7,5 @@ pub mod States
 pub mod Walks
 pub mod Parts
 pub mod Counts
+pub mod Owed
+pub mod Next

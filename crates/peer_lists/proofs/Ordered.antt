@@ -1,21 +1,18 @@
 -- Lists in object order: what a search in one finds, and what goes in or is kept.
-use Rattle.std.proofs.Common.{◌≡◌, ℕ, zero, suc, ◌+◌, ◌<◌, ◌≤◌, Bool, true, false, not, ◌||◌, cond, List, [], ◌∷◌, length, filter, get_or, Result, Ok, Err, IfOk, IfErr, refl, sym, ap, ◌∙◌, arith}
-use Rattle.std.specs.Prelude.{nat_lt, is_ok, insert}
-use Rattle.std.specs.List.{list_any, list_all, position_or_len, prefix_len}
-use Rattle.std.specs.List.Sorted.{IsSearchInRange, IsBinarySearchResult}
+use Rattle.std.proofs.Common.{◌≡◌, ℕ, suc, ◌+◌, ◌≤◌, Bool, true, false, not, ◌||◌, cond, List, [], ◌∷◌, length, filter, refl, sym, ap, ◌∙◌, arith}
+use Rattle.std.specs.Prelude.{insert}
+use Rattle.std.specs.List.{list_all, position_or_len, prefix_len}
 use Rattle.std.specs.declared.cmp.Ordering.{Ordering}
 use Rattle.std.specs.declared.cmp.Ordering.TheVariants.{Less, Equal, Greater}
 use Rattle.std.specs.Ordering.{is_lt, is_eq, ordering_reverse}
-use Rattle.std.proofs.lemmas.Bool.{and_parts, ltb-true, ltb-false, true≢false}
-use Rattle.std.proofs.lemmas.List.Sums.{position_or_len_is, prefix_len-le-length}
-use Rattle.std.proofs.lemmas.List.Folds.{list_any_at}
-use Rattle.std.proofs.lemmas.List.Sorted.{searchable_from_sorted}
+use Rattle.std.proofs.lemmas.Bool.{and_parts, true≢false}
+use Rattle.std.proofs.lemmas.List.Sums.{prefix_len-le-length}
 use Rattle.psb_bytes.specs.Objects.{object_eq, object_cmp}
 use Rattle.psb_bytes.specs.declared.ids.Object.{Object}
 use Rattle.psb_model.specs.Words.{has, with_one, with_all}
 use Rattle.psb_model.proofs.ByObject.{by_cases, all_with_one, all_kept}
-use Rattle.psb_model.proofs.ObjectOrder.{object_total, same_object, comes_first, less_then}
-use Rattle.psb_model.proofs.Built.{neither}
+use Rattle.psb_model.proofs.ObjectOrder.{object_total, same_object}
+use Rattle.psb_model.proofs.Steady.{neither}
 pub use Rattle.psb_model.proofs.Searched.{before_at, sorted, parted, searched, below_rest}
 use Rattle.peer_lists.specs.Entries.{in_order, lacks_all}
 

@@ -13,7 +13,7 @@ use Rattle.psb_bytes.specs.declared.ids.Object.TheVariants.{Chunk, Slot}
 use Rattle.psb_model.specs.Words.{has, listed, with_one, with_all, without}
 use Rattle.std.proofs.lemmas.Grind.{flat_map-append}
 use Rattle.psb_model.proofs.ByObject.{object_eq-same, object_eq-refl, object_eq-swap, by_cases, all_with_one}
-use Rattle.psb_model.proofs.Built.{neither}
+use Rattle.psb_model.proofs.Steady.{neither}
 use Rattle.psb_model.proofs.ObjectOrder.{object_total, same_object, less_then}
 use Rattle.peer_lists.specs.Entries.{in_order, find_at}
 use Rattle.slot_runs.specs.declared.run.Run.{Run}

@@ -15,7 +15,7 @@ use Rattle.psb_bytes.specs.declared.ids.Object.TheVariants.{Chunk, Slot}
 use Rattle.psb_bytes.specs.contracts.ids.ObjectOrd.TheImpl.{cmp-value as derived_cmp}
 use Rattle.psb_model.specs.Words.{has, listed, slots, with_one, with_all, without}
 use Rattle.psb_model.proofs.ByObject.{object_eq-same, object_eq-swap, by_cases}
-use Rattle.psb_model.proofs.Built.{neither}
+use Rattle.psb_model.proofs.Steady.{neither}
 use Rattle.peer_lists.specs.Entries.{in_order}
 use Rattle.peer_lists.specs.Entries.{find_at}
 use Rattle.peer_lists.specs.Trees.{items_of}

@@ -1,5 +1,5 @@
 -- Lists of entries in object order.
-use Rattle.std.specs.Prelude.{Bool, true, not, ◌&&◌, List, [], ◌∷◌, drop, find, Option}
+use Rattle.std.specs.Prelude.{Bool, not, List, drop, find, Option}
 use Rattle.std.specs.List.{list_all, prefix_len}
 use Rattle.std.specs.Ordering.{is_lt}
 use Rattle.psb_bytes.specs.Objects.{object_cmp}

@@ -28,6 +28,20 @@ is_past (Some n) o = is_lt (object_cmp (Chunk n) o)
 abbrev pub chunk_after : {E : Type 0} → (E → Object) → Option (List ℕ) → List E → Option E
 chunk_after key place l = find (λ e. is_chunk (key e) && is_past place (key e)) l
 
+-- whether an object stands behind another, if there is one; and the first entry that does
+abbrev pub is_behind : Option Object → Object → Bool
+is_behind None o = true
+is_behind (Some p) o = is_lt (object_cmp p o)
+
+abbrev pub entry_after : {E : Type 0} → (E → Object) → Option Object → List E → Option E
+entry_after key place l = find (λ e. is_behind place (key e)) l
+
+-- the name of a chunk
+abbrev pub name_of : Option Object → Option (List ℕ)
+name_of None = None
+name_of (Some (Chunk n)) = Some n
+name_of (Some (Slot n)) = None
+
 -- the entry, where it stands behind the place; and the one of two that comes first
 abbrev pub if_past : {E : Type 0} → (E → Object) → Option (List ℕ) → E → Option E
 if_past key place e = if is_past place (key e) then Some e else None

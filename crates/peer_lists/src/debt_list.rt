@@ -1,11 +1,13 @@
 //! What a peer lost: rows of debt.
 
 ghost use Rattle.std.specs.Prelude.{◌≡◌, ◌≤◌, ◌<◌, ◌+◌, ◌-◌, ◌^◌, ◌∷◌, ◌++◌, [], length, map, filter, not, take, drop, if◌then◌else◌, vec_len, vec_capacity, OnOk, OnErr};
+ghost use Rattle.std.specs.List.{list_any};
 ghost use Rattle.psb_bytes.specs.declared.ids.Object.TheVariants.{Slot};
-ghost use Rattle.psb_model.specs.Words.{has, object_eq};
+ghost use Rattle.psb_model.specs.Words.{has, has_so, object_eq};
 ghost use Rattle.psb_model.specs.declared.entries.DebtEntry.{DebtEntry};
 ghost use Rattle.psb_model.specs.State.{debt_key};
 ghost use Rattle.psb_model.specs.Move.{use_up};
+ghost use Rattle.psb_model.specs.Conditions.{is_whole, is_whole_own};
 ghost use Rattle.psb_model.specs.Effects.{is_whole_listed};
 ghost use Rattle.peer_lists.specs.Debts.{count_at, KnowsCounts, CountsStay, CountsMore, CountsLess, CountsWithout, first_less, FirstHas};
 
@@ -100,10 +102,43 @@ fn take_counts(counts: &mut BTreeMap<Object, u64>, rows: &[DebtEntry])
 }
 
 /// Whether the row is listed, and nothing of it was used up.
-fn is_whole_listed(row: &DebtEntry, objects: &[Object]) -> bool
+pub fn is_whole_listed(row: &DebtEntry, objects: &[Object]) -> bool
     ensures { result ≡ is_whole_listed objects.now row.now }
 {
     objects.contains(&row.object) && row.left == row.units
+}
+
+/// How many rows are listed and whole.
+fn count_whole(rows: &[DebtEntry], objects: &[Object]) -> usize
+    ensures { result ≡ length (filter (is_whole_listed objects.now) rows.now) }
+{
+    rows.iter()
+        .filter(|row| is_whole_listed(row, objects))
+        .count()
+}
+
+/// Whether one of the rows has the object, and nothing of it was used up.
+fn has_whole(rows: &[DebtEntry], object: &Object) -> bool
+    ensures { result ≡ has_so debt_key is_whole rows.now object.now }
+{
+    rows.iter()
+        .any(|row| row.object == *object && row.left == row.units)
+}
+
+/// Whether one of the rows has the object as an own slot, and nothing of it was used up.
+fn has_whole_own(rows: &[DebtEntry], object: &Object) -> bool
+    ensures { result ≡ has_so debt_key is_whole_own rows.now object.now }
+{
+    rows.iter().any(|row| {
+        row.object == *object && row.left == row.units && matches!(row.state, OutState::Own)
+    })
+}
+
+/// Whether one of the rows has one of the objects.
+fn has_any(list: &DebtList, objects: &[Object]) -> bool
+    ensures { result ≡ list_any (has debt_key list.now.items) objects.now }
+{
+    objects.iter().any(|object| list.has(object))
 }
 
 /// Counts no more those of these rows that are taken back. Answers how many are left.
@@ -253,6 +288,30 @@ impl DebtList {
         ensures { result ≡ has debt_key self.now.items object.now }
     {
         count_of(&self.counts, object) > 0 || is_among(&self.rows[self.counted..], object)
+    }
+
+    /// Whether the object is owed, and nothing of it was used up.
+    pub fn has_whole(&self, object: &Object) -> bool
+        ensures { result ≡ has_so debt_key is_whole self.now.items object.now }
+    {
+        self.has(object) && has_whole(self.rows.as_slice(), object)
+    }
+
+    /// Whether the object is owed as an own slot, and nothing of it was used up.
+    pub fn has_whole_own(&self, object: &Object) -> bool
+        ensures { result ≡ has_so debt_key is_whole_own self.now.items object.now }
+    {
+        self.has(object) && has_whole_own(self.rows.as_slice(), object)
+    }
+
+    /// How many rows are listed, of which nothing was used up.
+    pub fn count_whole(&self, objects: &[Object]) -> usize
+        ensures { result ≡ length (filter (is_whole_listed objects.now) self.now.items) }
+    {
+        if !has_any(self, objects) {
+            return 0;
+        }
+        count_whole(self.rows.as_slice(), objects)
     }
 
     /// Makes room for so many rows.

@@ -69,6 +69,7 @@ impl<E: Entry> EntryList<E, E::Rest> {
         requires list { IsList E.key E.joined self.old }
         ensures list { IsList E.key E.joined self.new }
         ensures items { items E.key E.joined self.new ≡ with_one E.key entry (items E.key E.joined self.old) }
+        ensures room { room self.old ≤ room self.new + 1 }
     {
         self.chunks.insert(entry);
     }
@@ -110,6 +111,7 @@ impl<E: Entry> EntryList<E, E::Rest> {
         requires list { IsList E.key E.joined self.old }
         ensures list { IsList E.key E.joined self.new }
         ensures items { items E.key E.joined self.new ≡ with_all E.key (map (λ n. E.joined (Slot n) rest) numbers.now) (items E.key E.joined self.old) }
+        ensures room { room self.old ≤ room self.new + length numbers.now }
     {
         self.slots.add_each(numbers, rest);
     }

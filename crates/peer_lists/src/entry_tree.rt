@@ -1,6 +1,6 @@
 //! Entries in a tree in object order, where one that comes or goes moves no other.
 
-ghost use Rattle.std.specs.Prelude.{◌≡◌, ◌≤◌, ◌∷◌, true, [], OnOk, find};
+ghost use Rattle.std.specs.Prelude.{◌+◌, ◌≡◌, ◌≤◌, ◌∷◌, true, [], OnOk, find};
 ghost use Rattle.std.specs.Option.{option_copied};
 ghost use Rattle.std.specs.BTreeMap.Range.{is_from_start};
 ghost use Rattle.psb_bytes.specs.Objects.{object_cmp};
@@ -129,7 +129,8 @@ impl<E: Entry> EntryTree<E, E::Rest> {
 
     pub fn insert(&mut self, entry: E)
         requires { 1 ≤ tree_room self.old }
-        ensures { tree_items E.key E.joined self.new ≡ with_one E.key entry (tree_items E.key E.joined self.old) }
+        ensures items { tree_items E.key E.joined self.new ≡ with_one E.key entry (tree_items E.key E.joined self.old) }
+        ensures room { tree_room self.old ≤ tree_room self.new + 1 }
     {
         self.latest.push(entry).unwrap();
     }

@@ -8,7 +8,7 @@ ghost use Rattle.psb_model.specs.Grammar.{ascend};
 ghost use Rattle.psb_model.specs.State.{in_key};
 ghost use Rattle.psb_model.specs.Effects.{chunk_in, direct_slots};
 ghost use Rattle.peer_lists.specs.Entries.{find_at, lacks_all, in_order};
-ghost use Rattle.peer_lists.specs.Walks.{IsSlotFrom, chunk_after};
+ghost use Rattle.peer_lists.specs.Walks.{IsSlotFrom, chunk_after, entry_after, name_of};
 ghost use Rattle.peer_lists.specs.Sought.{sought, in_passes};
 
 use crate::entry::{Entry, Holding, InTest};
@@ -17,6 +17,7 @@ use psb_bytes::{Digest, Memory, Object, SlotList};
 use psb_model::{InEntry, InState};
 use std::alloc::Global;
 use std::marker::Model;
+use std::slice;
 
 /// What the node answers for to a peer, in object order: chunks by the bytes of their names, then
 /// slots by number. Contracts see the entries, and how many more chunks, and runs of slots, have room.
@@ -26,6 +27,16 @@ use std::marker::Model;
 #[derive(Drop)]
 pub struct InList {
     list: EntryList<InEntry, Holding<InState>>,
+}
+
+/// The name of a chunk.
+fn name_of(place: &Option<Object>) -> Option<Digest>
+    ensures { result ≡ name_of place.now }
+{
+    match place {
+        Some(Object::Chunk(name)) => Some(*name),
+        _ => None,
+    }
 }
 
 impl Model for InList {
@@ -76,6 +87,21 @@ impl InList {
         ensures { IsSlotFrom in_key self.now.items number result }
     {
         self.list.slot_from(number)
+    }
+
+    /// The first entry, or the first behind the object.
+    pub fn next_after(&self, place: &Option<Object>) -> Option<InEntry>
+        ensures entry { result ≡ entry_after in_key place.now self.now.items }
+        ensures ordered { in_order in_key self.now.items ≡ true }
+    {
+        let _list = &self.list;
+        if let Some(Object::Slot(number)) = place {
+            return self.slot_from(u64::from(*number) + 1);
+        }
+        match self.chunk_after(&name_of(place)) {
+            Some(entry) => Some(entry),
+            None => self.slot_from(0),
+        }
     }
 
     /// How many slots pass the test, but for those of these numbers, which ascend. Takes a step for each
@@ -160,6 +186,19 @@ impl InList {
     {
         self.list.remove_slots(numbers);
     }
+
+    /// Takes out the object, if it is there. That takes the room of two runs.
+    pub fn remove(&mut self, object: &Object)
+        requires { 2 ≤ self.old.room }
+        ensures items { self.new.items ≡ without in_key (object.now ∷ []) self.old.items }
+        ensures room { self.old.room ≤ self.new.room + 2 }
+    {
+        match object {
+            Object::Chunk(_) => self.list.remove_chunk(object),
+            Object::Slot(number) => self.list.remove_slots(slice::from_ref(number)),
+        }
+    }
+
     /// Sets the state of the slot, if it is there. That takes the room of two runs.
     pub fn set_state(&mut self, slot: u32, state: InState)
         requires room { 2 ≤ self.old.room }

@@ -9,7 +9,7 @@ mod in_list;
 mod out_list;
 mod sought;
 
-pub use debt_list::DebtList;
+pub use debt_list::{DebtList, is_whole_listed};
 pub use entry::{InTest, OutTest};
 pub use in_list::InList;
 pub use out_list::OutList;

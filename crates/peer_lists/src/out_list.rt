@@ -17,6 +17,7 @@ use psb_bytes::{Digest, Memory, Object, SlotList};
 use psb_model::{OutEntry, OutState};
 use std::alloc::Global;
 use std::marker::Model;
+use std::slice;
 
 /// What the node has on a peer, in object order, kept as an `InList` is.
 #[derive(Drop)]
@@ -156,6 +157,35 @@ impl OutList {
     {
         self.list.remove_slots(numbers);
     }
+
+    /// Puts in an entry whose object is not there yet.
+    pub fn insert(&mut self, entry: &OutEntry)
+        requires room { 1 ≤ self.old.room }
+        requires absent { has out_key self.old.items entry.now.object ≡ false }
+        ensures items { self.new.items ≡ with_one out_key entry.now self.old.items }
+        ensures room { self.old.room ≤ self.new.room + 1 }
+    {
+        match entry.object {
+            Object::Chunk(_) => self.list.insert_chunk(*entry),
+            Object::Slot(number) => {
+                self.list
+                    .insert_slots(slice::from_ref(&number), entry.rest());
+            }
+        }
+    }
+
+    /// Takes out the object, if it is there. That takes the room of two runs.
+    pub fn remove(&mut self, object: &Object)
+        requires { 2 ≤ self.old.room }
+        ensures items { self.new.items ≡ without out_key (object.now ∷ []) self.old.items }
+        ensures room { self.old.room ≤ self.new.room + 2 }
+    {
+        match object {
+            Object::Chunk(_) => self.list.remove_chunk(object),
+            Object::Slot(number) => self.list.remove_slots(slice::from_ref(number)),
+        }
+    }
+
     /// Sets the state of the slot, if it is there. That takes the room of two runs.
     pub fn set_state(&mut self, slot: u32, state: OutState)
         requires room { 2 ≤ self.old.room }

@@ -12,7 +12,7 @@ use Rattle.psb_machine.specs.Course.{after_all}
 use Rattle.psb_machine.specs.Machine.{fresh}
 use Rattle.psb_machine.specs.declared.snap_note.SnapNote.{SnapNote}
 use Rattle.node_journal.specs.Format.{Stands}
-use Rattle.node_core.specs.Stands.{HoldsHistory}
+use Rattle.node_history.specs.Stands.{HoldsHistory}
 use Rattle.snapshots.specs.Meaning.{Place, means}
 use Rattle.snapshots.specs.Writing.{IsNotEmpty}
 use Rattle.snapshot_backup.specs.Backed.{IsSnapOf, ListsThenReads}

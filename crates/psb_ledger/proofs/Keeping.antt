@@ -19,7 +19,7 @@ use Rattle.psb_model.specs.Effects.{after, chosen_after, all_rows_after, own_aft
 use Rattle.psb_model.specs.History.{is_built}
 use Rattle.psb_model.proofs.Steps.{parts}
 use Rattle.psb_model.proofs.Own.{own_after_keeps, keeps_then, named_keeps}
-use Rattle.psb_model.proofs.Built.{allows, KeepsNamed, use_kept, rows_use, is_kept}
+use Rattle.psb_model.proofs.Steady.{allows, KeepsNamed, rows_use, uses_kept, is_kept}
 use Rattle.psb_model.proofs.ByObject.{by_cases}
 use Rattle.psb_model.specs.declared.change.Change.TheVariants as change
 use Rattle.psb_model.specs.declared.kinds.Kept.{Kept}
@@ -33,7 +33,7 @@ use Rattle.psb_ledger.specs.Snapping.{change_of, count_of}
 use Rattle.psb_ledger.proofs.Spelled.{all_end}
 use Rattle.peer_lists.proofs.Ordered.{is_false}
 use Rattle.own_chunks.proofs.OwnTrees.{ordered_with, ordered_kept, ordered_marks}
-use Rattle.psb_ledger.proofs.Sound.{mine, state_of, view_of, plain_of, reached_after}
+use Rattle.psb_ledger.proofs.Sound.{mine, state_of, view_of, steady_of, reached_after}
 use Rattle.psb_ledger.proofs.OwnStays.{all_stay}
 
 -- the state one change later, with these own chunks and snapshots
@@ -58,7 +58,7 @@ makes l v c m view sound built grammar may rows is part =
     let s = state_of l in
     let reached : IsReached (state_with l m) = subst IsReached (sym is) (reached_after s c sound.reached built grammar may) in
     let keeps : KeepsNamed s.own (after s c).own s.rows = subst (KeepsNamed s.own (after s c).own) rows (keeps_named s c (allows s c may).tests) in
-    let same : rows_use (after s c) s.rows ≡ rows_use s s.rows = use_kept s (after s c) s.rows keeps (plain_of s sound.reached).rows in
+    let same : rows_use (after s c) s.rows ≡ rows_use s s.rows = uses_kept s (after s c) s.rows keeps (steady_of s sound.reached).coming in
     record {
       after_is = is ∙ ap (λ (w : LedgerView). after w.state c) view;
       sound = record { used_is = omega (arith, sound.used_is, same, ap (rows_use (after s c)) rows, ap used is); reached = reached; small = sound.small };
@@ -85,7 +85,7 @@ kept_one l v x own view sound part grammar may is =
     let ts = parts (tests s c) (allows s c may').tests in
     let absent : own_has l.own.items x.name ≡ false = is_false (own_has l.own.items x.name) ts.0 in
     let more = own_with (new_entry x) l.own.items in
-    let next : own ≡ given_up s.rows more = is ∙ sym (all_stay s.rows more (kept_with_one s.rows (new_entry x) l.own.items refl (plain_of s sound.reached).named)) in
+    let next : own ≡ given_up s.rows more = is ∙ sym (all_stay s.rows more (kept_with_one s.rows (new_entry x) l.own.items refl (steady_of s sound.reached).named)) in
     makes l v c (record { own = own; kept = l.kept.items; snapped = l.snapped; chosen = l.chosen.items }) view sound refl grammar may' refl
     (λ i. record { changes = l.changes + 1; settings = l.settings; rows = s.rows; issued = l.issued; own = next i; kept = l.kept.items; snapped = l.snapped; chosen = l.chosen.items })
     (record { own_ordered = subst (λ (o : List OwnEntry). in_order own_key o ≡ true) (sym is) (ordered_with (new_entry x) l.own.items part.own_ordered absent); names_ordered = part.names_ordered })
@@ -116,7 +116,7 @@ snapped_one l v k kept own view sound part grammar may is own_is =
     let may' : allowed s c ≡ true = ap (λ (w : LedgerView). allowed w.state c) view ∙ may in
     let ts = parts (tests s c) (allows s c may').tests in
     let lifted = set_marks (lifts k.names) l.own.items in
-    let next : own ≡ given_up s.rows lifted = own_is ∙ sym (all_stay s.rows lifted (kept_lifted s.rows k.names l.own.items (plain_of s sound.reached).named)) in
+    let next : own ≡ given_up s.rows lifted = own_is ∙ sym (all_stay s.rows lifted (kept_lifted s.rows k.names l.own.items (steady_of s sound.reached).named)) in
     makes l v c (record { own = own; kept = kept; snapped = Some (record { number = k.number; change = l.changes }); chosen = l.chosen.items }) view sound refl grammar may' refl
     (λ i. record { changes = l.changes + 1; settings = l.settings; rows = s.rows; issued = l.issued; own = next i; kept = is i; snapped = Some (record { number = k.number; change = l.changes }); chosen = l.chosen.items })
     (record { own_ordered = ap (in_order own_key) own_is ∙ ordered_marks (lifts k.names) l.own.items ∙ part.own_ordered; names_ordered = ap (list_all ascends) is ∙ all_end ascends l.kept.items k part.names_ordered ts.1.0 })
@@ -135,7 +135,7 @@ chosen_one l v cs chosen view sound part grammar may is =
     let c = Chose (record { candidates = cs }) in
     let may' : allowed s c ≡ true = ap (λ (w : LedgerView). allowed w.state c) view ∙ may in
     let is' : chosen ≡ chosen_after s c = is ∙ ap (λ (w : LedgerView). chosen_after w.state c) (sym view) in
-    let next : l.own.items ≡ given_up s.rows l.own.items = sym (all_stay s.rows l.own.items (plain_of s sound.reached).named) in
+    let next : l.own.items ≡ given_up s.rows l.own.items = sym (all_stay s.rows l.own.items (steady_of s sound.reached).named) in
     makes l v c (record { own = l.own.items; kept = l.kept.items; snapped = l.snapped; chosen = chosen }) view sound refl grammar may' refl
     (λ i. record { changes = l.changes + 1; settings = l.settings; rows = s.rows; issued = l.issued; own = next i; kept = l.kept.items; snapped = l.snapped; chosen = is' i })
     (record { own_ordered = part.own_ordered; names_ordered = part.names_ordered })

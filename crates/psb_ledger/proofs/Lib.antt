@@ -2,10 +2,14 @@ pub mod Places
 pub mod OwnStays
 pub mod Sound
 pub mod Peers
+pub mod Rooms
 pub mod Taking
 pub mod Swapping
 pub mod LettingGo
+pub mod Probing
 pub mod Keeping
 pub mod Replies
 pub mod Choosing
 pub mod Spelled
+pub mod Weights
+pub mod Discarding

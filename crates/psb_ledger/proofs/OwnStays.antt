@@ -11,8 +11,9 @@ use Rattle.psb_model.specs.Words.{name_eq, name_listed, object_eq, has, with_one
 use Rattle.psb_model.specs.State.{Row, at_row, out_key, debt_key, own_has, own_marked}
 use Rattle.psb_model.specs.Effects.{deal_name, pending_name, given_up, is_named}
 use Rattle.psb_model.proofs.Own.{name_same}
-use Rattle.psb_model.proofs.Held.{any_more, or_true}
-use Rattle.psb_model.proofs.Built.{is_kept}
+use Rattle.psb_model.proofs.Held.{any_more}
+use Rattle.psb_model.proofs.Steady.{or_true}
+use Rattle.psb_model.proofs.Steady.{is_kept}
 use Rattle.psb_model.proofs.ByObject.{by_cases}
 use Rattle.own_chunks.specs.OwnList.{own_key, without_name, released}
 use Rattle.peer_lists.specs.Entries.{in_order}

@@ -15,7 +15,9 @@ use Rattle.psb_model.specs.Effects.{after, all_rows_after, own_after, given_up, 
 use Rattle.psb_model.specs.History.{is_built}
 use Rattle.psb_model.proofs.Own.{named_keeps}
 use Rattle.psb_model.proofs.Held.{filter_has}
-use Rattle.psb_model.proofs.Built.{allows, row_use, rows_use, use_within, use_at_row, KeepsNamed, use_kept, changed, rows_one, is_kept}
+use Rattle.psb_model.proofs.Steady.{allows, row_use, rows_use, use_within, use_at_row, KeepsNamed, uses_kept, is_kept}
+use Rattle.psb_model.proofs.Built.{rows_one}
+use Rattle.psb_model.proofs.Bare.{changed}
 use Rattle.psb_ledger.specs.declared.ledger.Ledger.TheInside.{Inside}
 use Rattle.peer_account.specs.View.{AccountView, named_row}
 use Rattle.psb_ledger.specs.View.{LedgerView, IsReached, IsSound}
@@ -25,7 +27,7 @@ use Rattle.peer_account.specs.OwnDeals.{row_names}
 use Rattle.psb_ledger.specs.Moves.{moved, MakesOwn, Makes, StandsAt}
 use Rattle.psb_ledger.proofs.OwnStays.{is_but, FirstIs, names_at_row, names_one, own_stays, released_is}
 use Rattle.psb_ledger.proofs.Places.{Found, found_row, found_peer, found_here, found_set}
-use Rattle.psb_ledger.proofs.Sound.{state_of, view_of, plain_of, reached_after}
+use Rattle.psb_ledger.proofs.Sound.{state_of, view_of, steady_of, plain_of, reached_after}
 
 -- whose chunks have the name
 pub held_names : (vs : List AccountView) (o : Object) → list_any (λ (v : AccountView). has in_key v.row.ins o) vs ≡ list_any (λ (x : ℕ × Row). has in_key x.1.ins o) (map named_row vs)
@@ -104,7 +106,7 @@ makes_own l c p i issued total r w own built peer beside f same row_is drawn sum
     let reached : IsReached now = subst IsReached (sym is_after) reached_then in
     let q = found_row vs p i r at in
     let use_now : used now ≡ used (after s c) = ap used is_after in
-    let use_then : rows_use s (all_rows_after s c) ≡ used (after s c) = use_kept (after s c) s (all_rows_after s c) (was_own s c beside.own) (plain_of (after s c) reached_then).rows in
+    let use_then : rows_use s (all_rows_after s c) ≡ used (after s c) = uses_kept (after s c) s (all_rows_after s c) (was_own s c beside.own) (steady_of (after s c) reached_then).coming in
     let use_row = use_at_row s p (changed s c) (map named_row vs) (found_peer vs p i r at) in
     record {
       after_is = is_after;
@@ -129,11 +131,11 @@ released_at l c p i r w o f same row_is ordered names =
     let at = found_here vs p i r f.place f.here in
     let rows : map named_row (set vs i w) ≡ at_row p (changed s c) (map named_row vs) = found_set vs p i r w (changed s c) at same row_is in
     let most = names_one o p (changed s c) (map named_row vs) r.row (first_is vs p i r at) names in
-    subst (λ (rs : List (ℕ × Row)). released rs o l.own.items ≡ given_up rs l.own.items) (sym rows) (released_is o (map named_row vs) (at_row p (changed s c) (map named_row vs)) l.own.items ordered most (plain_of s f.sound.reached).named)
+    subst (λ (rs : List (ℕ × Row)). released rs o l.own.items ≡ given_up rs l.own.items) (sym rows) (released_is o (map named_row vs) (at_row p (changed s c) (map named_row vs)) l.own.items ordered most (steady_of s f.sound.reached).named)
 
 -- what is used fits its type
 pub sound_small : (total : ℕ) (s : State) → IsSound total s → total < 2 ^ 32
-sound_small total s f = omega (arith, f.used_is, (plain_of s f.reached).used, f.small)
+sound_small total s f = omega (arith, f.used_is, (steady_of s f.reached).used, f.small)
 
 -- where the row names what it named, no own chunk leaves
 pub makes : (l : Inside) (c : Change) (p i issued total : ℕ) (r w : AccountView) → is_built c ≡ true → peer_of c ≡ Some p → IsOfRows (state_of l) c → IsAt l c p i r → w.id ≡ r.id → w.row ≡ changed (state_of l) c r.row → issued ≡ issued_after (state_of l) c → ((x : Row) (n : List ℕ) → row_names x n ≡ true → row_names (changed (state_of l) c x) n ≡ true) → total + row_use (state_of l) r.row ≡ used (state_of l) + row_use (state_of l) w.row → Makes (view_of l) c i issued total w
@@ -144,11 +146,11 @@ makes l c p i issued total r w built peer beside f same row_is drawn names sums 
     let rows : map named_row (set vs i w) ≡ at_row p (changed s c) (map named_row vs) = found_set vs p i r w (changed s c) at same row_is in
     let most = names_at_row None p (changed s c) (map named_row vs) (λ x n k. names x n) in
     makes_own l c p i issued total r w l.own.items built peer beside f same row_is drawn sums
-    (sym (ap (λ (rs : List (ℕ × Row)). given_up rs l.own.items) rows ∙ own_stays (map named_row vs) (at_row p (changed s c) (map named_row vs)) l.own.items most (plain_of s f.sound.reached).named))
+    (sym (ap (λ (rs : List (ℕ × Row)). given_up rs l.own.items) rows ∙ own_stays (map named_row vs) (at_row p (changed s c) (map named_row vs)) l.own.items most (steady_of s f.sound.reached).named))
 
 -- ROWS
 
-kept_all : {E : Type 0} (l : List E) → filter (λ (e : E). true) l ≡ l
+pub kept_all : {E : Type 0} (l : List E) → filter (λ (e : E). true) l ≡ l
 kept_all [] = refl
 kept_all (e ∷ es) = ap (λ l. e ∷ l) (kept_all es)
 

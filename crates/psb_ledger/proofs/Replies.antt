@@ -23,12 +23,14 @@ use Rattle.psb_model.proofs.Parts.{ascend-distinct, sum-own_slots}
 use Rattle.psb_model.proofs.Steps.{parts, Before}
 use Rattle.psb_model.proofs.Tidy.{IsTidy, weighs, total}
 use Rattle.psb_model.proofs.Standing.{StandsFor, settle_swap_move, settle_cancel_move, settle_put_back_move, units_of_ones}
-use Rattle.psb_model.proofs.Built.{allows, row_use, changed}
+use Rattle.psb_model.proofs.Steady.{allows, row_use}
+use Rattle.psb_model.proofs.Bare.{changed}
 use Rattle.psb_model.specs.declared.change.Change.TheVariants as change
 use Rattle.psb_model.specs.declared.kinds.Settled.{Settled}
 use Rattle.psb_model.specs.declared.kinds.Turned.{Turned}
 use Rattle.psb_ledger.specs.declared.ledger.Ledger.TheInside.{Inside}
-use Rattle.peer_account.specs.View.{AccountView, settled_deal, settled_by, settled_row, ins_of, outs_of, ins_settled, outs_settled}
+use Rattle.own_deals.specs.OwnDeals.{ins_of, outs_of}
+use Rattle.peer_account.specs.View.{AccountView, settled_deal, settled_by, settled_row, ins_settled, outs_settled}
 use Rattle.psb_ledger.specs.View.{account_in, HasListRoom, HasTurnRoom}
 use Rattle.peer_lists.specs.Entries.{in_order, lacks_all}
 use Rattle.own_chunks.specs.OwnList.{own_key, released, own_units}

@@ -15,7 +15,8 @@ use Rattle.psb_model.specs.Effects.{after, blank_rows, first_rows, given_up}
 use Rattle.psb_model.proofs.Balance.{Good, good_state}
 use Rattle.psb_model.proofs.Prefixes.{state_snoc, lawful_snoc, all_snoc, changes_counted}
 use Rattle.psb_model.proofs.Steps.{parts}
-use Rattle.psb_model.proofs.Built.{allows, IsPlain, plain_state as plain_history}
+use Rattle.psb_model.proofs.Steady.{IsSteady, steady_state, allows}
+use Rattle.psb_model.proofs.Built.{IsPlain, plain_state as plain_history}
 use Rattle.psb_model.specs.History.{state, is_built}
 use Rattle.psb_model.proofs.ByObject.{by_cases}
 use Rattle.psb_ledger.specs.declared.ledger.Ledger.TheInside.{Inside}
@@ -37,7 +38,11 @@ view_of l = record { state = state_of l; accounts = l.accounts.items; next = l.n
 pub good_of : (s : State) → IsReached s → Good s
 good_of s r = subst Good r.gives (good_state r.history r.lawful)
 
--- it owes nothing, no claim is moved, and what is marked is named
+-- what is marked is named, and what is used stays within the capacity
+pub steady_of : (s : State) → IsReached s → IsSteady s
+steady_of s r = subst IsSteady r.gives (steady_state r.history r.lawful)
+
+-- and no claim was moved
 pub plain_of : (s : State) → IsReached s → IsPlain s
 plain_of s r = subst IsPlain r.gives (plain_history r.history r.lawful r.built)
 

@@ -8,7 +8,8 @@ use Rattle.psb_model.specs.Move.{after_move}
 use Rattle.psb_model.specs.Effects.{took_deal}
 use Rattle.psb_model.proofs.Balance.{steps}
 use Rattle.psb_model.proofs.Held.{chunk_stays}
-use Rattle.psb_model.proofs.Built.{allows, row_use, changed}
+use Rattle.psb_model.proofs.Steady.{allows, row_use}
+use Rattle.psb_model.proofs.Bare.{changed}
 use Rattle.psb_model.proofs.Steps.{parts, Step}
 use Rattle.psb_model.proofs.Tidy.{swap_move, none_returned}
 use Rattle.psb_model.specs.declared.change.Change.TheVariants as change

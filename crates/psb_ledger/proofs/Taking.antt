@@ -11,7 +11,8 @@ use Rattle.psb_model.specs.Move.{still, after_move}
 use Rattle.psb_model.specs.Effects.{chunk_in, own_slots, took_deal}
 use Rattle.psb_model.proofs.ByObject.{sum_by-with_one, has-occurs, by_cases}
 use Rattle.psb_model.proofs.Held.{chunk_stays}
-use Rattle.psb_model.proofs.Built.{allows, row_use, changed}
+use Rattle.psb_model.proofs.Steady.{allows, row_use}
+use Rattle.psb_model.proofs.Bare.{changed}
 use Rattle.psb_model.proofs.Steps.{parts}
 use Rattle.psb_model.proofs.Tidy.{fresh_move}
 use Rattle.psb_model.specs.declared.change.Change.TheVariants as change

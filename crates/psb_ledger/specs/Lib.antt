@@ -1,3 +1,4 @@
 pub mod Moves
 pub mod Snapping
 pub mod View
+pub mod Discarding

@@ -12,12 +12,20 @@ use Rattle.psb_model.specs.declared.kinds.LetGoBack.{LetGoBack}
 use Rattle.psb_model.specs.declared.kinds.Refused.{Refused}
 use Rattle.psb_model.specs.declared.kinds.Settled.{Settled}
 use Rattle.psb_model.specs.declared.kinds.Turned.{Turned}
+use Rattle.psb_model.specs.declared.kinds.Asked.{Asked}
+use Rattle.psb_model.specs.declared.kinds.Passed.{Passed}
+use Rattle.psb_model.specs.declared.kinds.Failed.{Failed}
+use Rattle.psb_model.specs.declared.kinds.Declined.{Declined}
+use Rattle.psb_model.specs.declared.kinds.Discarded.{Discarded}
 use Rattle.psb_model.specs.Words.{units, has}
 use Rattle.psb_model.specs.State.{State, row, out_key, own_marked, tied_out, held_units, used}
-use Rattle.psb_model.specs.Effects.{after, took_deal, was_turned, deal_name, pending_name}
-use Rattle.peer_account.specs.View.{AccountView, named_row, fresh_row, swap_row, let_go_row, put_back_row, settled_row}
+use Rattle.psb_model.specs.Conditions.{objects_at}
+use Rattle.psb_model.specs.Effects.{after, took_deal, was_turned, deal_name, pending_name, given_up}
+use Rattle.peer_account.specs.View.{AccountView, named_row, fresh_row, swap_row, let_go_row, put_back_row, settled_row, asked_row, passed_row, failed_row, declined_row, discarded_row}
 use Rattle.peer_account.specs.OwnDeals.{placed_name, coming_name, drawn}
 use Rattle.peer_account.specs.Settling.{Settles}
+use Rattle.peer_account.specs.Probing.{Regains, Loses}
+use Rattle.peer_account.specs.Discarding.{Discards}
 use Rattle.peer_account.specs.Taking.{TakesFresh, TakesSwap, LetsGo, PutsBack}
 use Rattle.own_chunks.specs.OwnList.{own_units, released}
 use Rattle.psb_ledger.specs.View.{LedgerView, plain_state, IsSound}
@@ -111,3 +119,39 @@ pub record CanTurn (v : LedgerView) (x : Turned) (i : ℕ) (r : AccountView) : T
 
 abbrev pub MayTurn : LedgerView → Turned → ℕ → Type 0
 MayTurn v x i = (r : AccountView) → StandsAt v i r → CanTurn v x i r
+
+-- a probe and its outcomes: what is answered for stays
+abbrev pub MayAsk : LedgerView → Asked → ℕ → Type 0
+MayAsk v x i = (r : AccountView) → StandsAt v i r → (w : AccountView) (n : ℕ) → n ≡ used v.state → w.id ≡ r.id → w.row ≡ asked_row v.state.changes x.objects r.row → Makes v (change.Asked x) i v.state.issued n w
+
+pub record CanPass (v : LedgerView) (x : Passed) (i : ℕ) (r : AccountView) : Type 0 where
+  pub needs : Regains r x.objects
+  pub made : (w : AccountView) (n : ℕ) → n ≡ used v.state → w.id ≡ r.id → w.row ≡ passed_row x.asked x.objects r.row → Makes v (change.Passed x) i v.state.issued n w
+
+abbrev pub MayPass : LedgerView → Passed → ℕ → Type 0
+MayPass v x i = (r : AccountView) → StandsAt v i r → CanPass v x i r
+
+pub record CanFail (v : LedgerView) (x : Failed) (i : ℕ) (r : AccountView) : Type 0 where
+  pub needs : Loses r x.objects
+  pub made : (w : AccountView) (n : ℕ) → n ≡ used v.state → w.id ≡ r.id → w.row ≡ failed_row v.state.changes x.asked x.objects r.row → Makes v (change.Failed x) i v.state.issued n w
+
+abbrev pub MayFail : LedgerView → Failed → ℕ → Type 0
+MayFail v x i = (r : AccountView) → StandsAt v i r → CanFail v x i r
+
+pub record CanDecline (v : LedgerView) (x : Declined) (i : ℕ) (r : AccountView) : Type 0 where
+  pub needs : Loses r (objects_at r.row x.asked x.places)
+  pub made : (w : AccountView) (n : ℕ) → n ≡ used v.state → w.id ≡ r.id → w.row ≡ declined_row v.state.changes x.asked x.places r.row → Makes v (change.Declined x) i v.state.issued n w
+
+abbrev pub MayDecline : LedgerView → Declined → ℕ → Type 0
+MayDecline v x i = (r : AccountView) → StandsAt v i r → CanDecline v x i r
+
+-- a discard: what is used shrinks by what is answered for, and chunks that only rows of debt named may leave, unless
+-- there are as many rows as before
+pub record CanDiscard (v : LedgerView) (x : Discarded) (i : ℕ) (r : AccountView) : Type 0 where
+  pub needs : Discards r x.objects
+  pub before : held_units r.row ≤ used v.state
+  pub stays : (w : AccountView) → w.id ≡ r.id → w.row ≡ discarded_row x.objects r.row → length r.row.debts ≤ length w.row.debts → given_up (map named_row (set v.accounts i w)) v.state.own ≡ v.state.own
+  pub made : (w : AccountView) (n : ℕ) (own : List OwnEntry) → n + held_units r.row ≡ used v.state + held_units w.row → own ≡ given_up (map named_row (set v.accounts i w)) v.state.own → w.id ≡ r.id → w.row ≡ discarded_row x.objects r.row → MakesOwn v (change.Discarded x) i v.state.issued n w own
+
+abbrev pub MayDiscard : LedgerView → Discarded → ℕ → Type 0
+MayDiscard v x i = (r : AccountView) → StandsAt v i r → CanDiscard v x i r

@@ -1,15 +1,15 @@
 -- What contracts see of a ledger: the state, and the memory that was taken for a change.
-use Rattle.std.specs.Prelude.{◌≡◌, ℕ, ◌+◌, ◌*◌, ◌==◌, if◌then◌else◌, ◌^◌, ◌<◌, ◌≤◌, true, List, [], ◌∷◌, length, map, Option}
+use Rattle.std.specs.Prelude.{◌≡◌, ℕ, ◌+◌, ◌*◌, ◌==◌, if◌then◌else◌, ◌^◌, ◌<◌, ◌≤◌, true, List, [], ◌∷◌, length, map, filter, Option}
 use Rattle.std.specs.List.{list_all}
 use Rattle.psb_settings.specs.declared.settings.Settings.{Settings}
 use Rattle.psb_model.specs.declared.entries.OwnEntry.{OwnEntry}
 use Rattle.psb_model.specs.declared.snapshots.Snapshot.{Snapshot}
 use Rattle.psb_model.specs.declared.entries.SnapMark.{SnapMark}
 use Rattle.psb_model.specs.declared.change.Change.{Change}
-use Rattle.psb_model.specs.declared.change.Change.TheVariants.{Begun, Kept, Snapped, TookFresh, TookSwap, LetGo, LetGoBack, Settled, Turned, Chose}
+use Rattle.psb_model.specs.declared.change.Change.TheVariants.{Begun, Kept, Snapped, TookFresh, TookSwap, LetGo, LetGoBack, Settled, Turned, Passed, Failed, Declined, Discarded, Chose}
 use Rattle.psb_model.specs.State.{Row, State, blank, row, is_peer, used}
 use Rattle.psb_model.specs.Conditions.{settings_of_body, capacity, names_ascend}
-use Rattle.psb_model.specs.Effects.{first_rows, chosen_after}
+use Rattle.psb_model.specs.Effects.{first_rows, chosen_after, is_whole_listed}
 use Rattle.psb_model.specs.History.{is_lawful, is_built, state}
 use Rattle.peer_lists.specs.Entries.{in_order}
 use Rattle.peer_account.specs.View.{AccountView, named_row, ins_settled, outs_settled}
@@ -45,7 +45,7 @@ plain_state changes settings accounts issued mine = record { changes = changes; 
 
 -- the account of a peer; a stranger has no room
 abbrev pub account_in : List AccountView → ℕ → AccountView
-account_in [] p = record { id = p; row = blank; in_room = 0; out_room = 0; barred_room = 0; cancel_room = 0 }
+account_in [] p = record { id = p; row = blank; in_room = 0; out_room = 0; barred_room = 0; cancel_room = 0; debt_room = 0 }
 account_in (v ∷ vs) p = if v.id == p then v else account_in vs p
 
 -- room for so many chunks, and runs of slots, in the two lists, if p is a peer
@@ -57,6 +57,11 @@ pub record HasListRoom (v : LedgerView) (p ins outs : ℕ) : Type 0 where
 pub record HasTurnRoom (v : LedgerView) (p : ℕ) : Type 0 where
   pub barred : is_peer v.state p ≡ true → 1 ≤ (account_in v.accounts p).barred_room
   pub cancels : is_peer v.state p ≡ true → 1 ≤ (account_in v.accounts p).cancel_room
+
+-- room for so many objects of p to be lost, if it is a peer
+pub record HasDebtRoom (v : LedgerView) (p count : ℕ) : Type 0 where
+  pub out_room : is_peer v.state p ≡ true → 2 * count ≤ (account_in v.accounts p).out_room
+  pub debt_room : is_peer v.state p ≡ true → count ≤ (account_in v.accounts p).debt_room
 
 -- the settings of the text, if it has some, and an empty account for each peer
 pub record HasBegunRoom (v : LedgerView) (body : Option (List ℕ)) : Type 0 where
@@ -73,6 +78,10 @@ HasRoom v (LetGo x) = HasListRoom v x.peer 0 (2 * length x.slots)
 HasRoom v (LetGoBack x) = HasListRoom v x.peer (length x.slots) 0
 HasRoom v (Settled x) = HasListRoom v x.peer (length x.slots + ins_settled (row v.state x.peer).pending) (outs_settled (row v.state x.peer).pending)
 HasRoom v (Turned x) = HasTurnRoom v x.peer
+HasRoom v (Passed x) = HasListRoom v x.peer 0 (length (filter (is_whole_listed x.objects) (row v.state x.peer).debts))
+HasRoom v (Failed x) = HasDebtRoom v x.peer (length x.objects)
+HasRoom v (Declined x) = HasDebtRoom v x.peer (length x.places)
+HasRoom v (Discarded x) = HasListRoom v x.peer (2 * length x.objects) 0
 HasRoom v (Chose x) = v.next_chosen ≡ chosen_after v.state (Chose x)
 HasRoom v _ = Unit {0}
 

@@ -17,12 +17,7 @@ pub fn is_built(change: &Change) -> bool
 {
     match change {
         Change::Proposed(x) => is_built_deal(&x.what),
-        Change::Replaced(_)
-        | Change::Asked(_)
-        | Change::Passed(_)
-        | Change::Failed(_)
-        | Change::Declined(_)
-        | Change::Discarded(_) => false,
+        Change::Replaced(_) => false,
         _ => true,
     }
 }

@@ -11,9 +11,11 @@ ghost use Rattle.psb_ledger.specs.View.{HasRoom, IsReached};
 mod accounts;
 mod begin;
 mod choosing;
+mod discarding;
 mod keeping;
 mod letting_go;
 mod looking;
+mod probing;
 mod proposing;
 mod refusing;
 mod settling;
@@ -115,6 +117,12 @@ impl Ledger {
             Change::LetGoBack(x) => self.make_room_for(x.peer, x.slots.as_slice().len(), 0),
             Change::Settled(x) => self.make_room_to_settle(x.peer, x.slots.as_slice().len()),
             Change::Turned(x) => self.make_room_to_turn(x.peer),
+            Change::Passed(x) => self.make_room_to_pass(x),
+            Change::Failed(x) => self.make_room_to_lose(x.peer, x.objects.as_slice().len()),
+            Change::Declined(x) => self.make_room_to_lose(x.peer, x.places.as_slice().len()),
+            Change::Discarded(x) => {
+                self.make_room_for(x.peer, 2 * x.objects.as_slice().len(), 0)
+            }
             Change::Chose(x) => self.make_room_to_choose(x.candidates.as_slice()),
             _ => Ok(()),
         }
@@ -139,6 +147,11 @@ impl Ledger {
             Change::Proposed(x) => self.may_propose(x.peer, x.deal, &x.what),
             Change::Settled(x) => self.may_settle(x),
             Change::Turned(x) => self.may_turn(x),
+            Change::Asked(x) => self.may_ask(x),
+            Change::Passed(x) => self.may_pass(x),
+            Change::Failed(x) => self.may_fail(x),
+            Change::Declined(x) => self.may_decline(x),
+            Change::Discarded(x) => self.may_discard(x),
             Change::Chose(x) => self.may_choose(x.candidates.as_slice()),
             _ => false,
         }
@@ -171,6 +184,11 @@ impl Ledger {
             ),
             Change::Settled(x) => self.settle(&x),
             Change::Turned(x) => self.turn(&x),
+            Change::Asked(x) => self.ask(x),
+            Change::Passed(x) => self.pass(&x),
+            Change::Failed(x) => self.fail(&x),
+            Change::Declined(x) => self.decline(&x),
+            Change::Discarded(x) => self.discard(&x),
             Change::Chose(x) => self.choose(x.candidates.as_slice()),
             _ => {}
         }

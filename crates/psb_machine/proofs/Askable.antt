@@ -23,7 +23,7 @@ use Rattle.psb_model.proofs.ByObject.{by_cases, Ones, slot_size, has-occurs}
 use Rattle.psb_model.proofs.Steps.{parts}
 use Rattle.psb_model.proofs.Tidy.{IsTidy}
 use Rattle.psb_model.proofs.Standing.{StandsFor, occurs_none}
-use Rattle.psb_model.proofs.Built.{IsPlain, has_coming, plain_row, plain_state}
+use Rattle.psb_model.proofs.Steady.{IsSteady, steady_state, coming_in, has_coming}
 use Rattle.model_laws.proofs.Fitting.{IsFit, is_small, few_units, len_fits, fit_state}
 use Rattle.model_laws.proofs.Widths.{AreWide, pending_fits, wide_state}
 use Rattle.model_laws.proofs.RowOrder.{sorted_row}
@@ -91,17 +91,17 @@ stands_askable s p number (Return slot) wide fit tidy is own w st = refl
 
 pub pending_askable : (h : List Change) (p : ℕ) (d : Deal) → IsValid h → (row (state h) p).pending ≡ Some d → is_askable (state h) p d.what ≡ true
 pending_askable h p d v is =
-    let plain = plain_state h v.lawful v.built in
-    let wide = wide_state h v.lawful v.built v.fit in
+    let plain = steady_state h v.lawful in
+    let wide = wide_state h v.lawful v.fit in
     let before = plain.good.rows p in
-    stands_askable (state h) p d.number d.what wide (fit_state h v.lawful v.built) before.tidy is (plain_row h p v.lawful v.built).coming (pending_wide (row (state h) p).pending d is (wide.rows p).deal) (before.stands d is)
+    stands_askable (state h) p d.number d.what wide (fit_state h v.lawful) before.tidy is (coming_in (state h).own (state h).rows p plain.coming) (pending_wide (row (state h) p).pending d is (wide.rows p).deal) (before.stands d is)
 
 -- ---- the deal that is proposed next
 
-wanted_own : (s : State) (p : ℕ) (name : List ℕ) → IsPlain s → all_of (place_tests s p name) ≡ true → own_has s.own name ≡ true
+wanted_own : (s : State) (p : ℕ) (name : List ℕ) → IsSteady s → all_of (place_tests s p name) ≡ true → own_has s.own name ≡ true
 wanted_own s p name plain h = (plain.good.wanted name (parts (place_tests s p name) h).1.0).has
 
-may_be_askable : (s : State) (p : ℕ) (what : DealWhat) → IsPlain s → IsFit s → MayBe s p what → is_askable s p what ≡ true
+may_be_askable : (s : State) (p : ℕ) (what : DealWhat) → IsSteady s → IsFit s → MayBe s p what → is_askable s p what ≡ true
 may_be_askable s p (Fresh name) plain fit m = wanted_own s p name plain (parts (propose_tests s p (Fresh name)) m.tests).0
 may_be_askable s p (Swap name numbers) plain fit m =
     let a = and_parts (is_digest name) (list_all is_u32 numbers) m.fits in
@@ -138,6 +138,6 @@ may_be_askable s p (Return slot) plain fit m = refl
 pub proposal_askable : (h : List Change) (settings : Settings) (p : ℕ) (what : DealWhat) → IsValid h → (state h).settings ≡ Some settings → proposal (state h) p [] (propose_facts settings (state h)) ≡ Some what → is_askable (state h) p what ≡ true
 proposal_askable h settings p what v is next =
     let s = state h in
-    let plain = plain_state h v.lawful v.built in
-    let fit = fit_state h v.lawful v.built in
-    may_be_askable s p what plain fit (proposable s p [] (propose_facts settings s) what plain fit (wide_state h v.lawful v.built v.fit) (sorted_row h p) refl (sym (ap capacity is)) next)
+    let plain = steady_state h v.lawful in
+    let fit = fit_state h v.lawful in
+    may_be_askable s p what plain fit (proposable s p [] (propose_facts settings s) what plain fit (wide_state h v.lawful v.fit) (sorted_row h p) refl (sym (ap capacity is)) next)

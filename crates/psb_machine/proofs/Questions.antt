@@ -7,14 +7,13 @@ use Rattle.psb_model.specs.State.{State}
 use Rattle.psb_model.specs.Words.{name_listed}
 use Rattle.psb_model.specs.Effects.{after}
 use Rattle.psb_model.specs.Conditions.{allowed}
-use Rattle.psb_model.specs.History.{is_built}
 use Rattle.psb_model.specs.declared.change.Change.{Change}
-use Rattle.psb_model.specs.declared.change.Change.TheVariants.{Begun, Kept, Snapped, Forgot, TookFresh, TookSwap, LetGo, LetGoBack, Refused, Proposed, Settled, Turned, Chose}
+use Rattle.psb_model.specs.declared.change.Change.TheVariants.{Begun, Kept, Snapped, Forgot, TookFresh, TookSwap, LetGo, LetGoBack, Refused, Proposed, Settled, Turned, Chose, Replaced, Asked, Passed, Failed, Declined, Discarded}
 use Rattle.psb_model.specs.declared.entries.OwnEntry.{OwnEntry}
 use Rattle.psb_model.specs.declared.snapshots.Snapshot.{Snapshot}
 use Rattle.psb_model.specs.declared.entries.SnapMark.{SnapMark}
 use Rattle.psb_settings.specs.declared.settings.Settings.{Settings}
-use Rattle.psb_model.proofs.Built.{IsPlain}
+use Rattle.psb_model.proofs.Steady.{IsSteady}
 use Rattle.model_laws.proofs.Leaving.{own_stays}
 use Rattle.abstracts.specs.Least.{abstract_of}
 use Rattle.psb_machine.specs.Sampling.{wanted_names, salt_of, most_asked, question_at, question_by, question_of, keeps_question}
@@ -40,18 +39,23 @@ same_own s t settings own kept snapped =
     ap (λ (o : Option Settings). question_by o t) settings
     ∙ same_by s t s.settings s.snapped (ap (λ (l : List OwnEntry). wanted_by l t.kept) own ∙ ap (λ (l : List Snapshot). wanted_by s.own l) kept) snapped refl
 
-pub question_stays : (s : State) (c : Change) → IsPlain s → is_built c ≡ true → allowed s c ≡ true → keeps_question c ≡ true → question_of (after s c) ≡ question_of s
-question_stays s (TookFresh x) plain b h k = same_own s (after s (TookFresh x)) refl (own_stays s (TookFresh x) plain b h refl) refl refl
-question_stays s (TookSwap x) plain b h k = same_own s (after s (TookSwap x)) refl (own_stays s (TookSwap x) plain b h refl) refl refl
-question_stays s (LetGo x) plain b h k = same_own s (after s (LetGo x)) refl (own_stays s (LetGo x) plain b h refl) refl refl
-question_stays s (LetGoBack x) plain b h k = same_own s (after s (LetGoBack x)) refl (own_stays s (LetGoBack x) plain b h refl) refl refl
-question_stays s (Refused x) plain b h k = same_own s (after s (Refused x)) refl (own_stays s (Refused x) plain b h refl) refl refl
-question_stays s (Proposed x) plain b h k = same_own s (after s (Proposed x)) refl (own_stays s (Proposed x) plain b h refl) refl refl
-question_stays s (Chose x) plain b h k = same_own s (after s (Chose x)) refl (own_stays s (Chose x) plain b h refl) refl refl
-question_stays s (Begun x) plain b h k = absurd (false≢true k)
-question_stays s (Kept x) plain b h k = absurd (false≢true k)
-question_stays s (Snapped x) plain b h k = absurd (false≢true k)
-question_stays s (Forgot x) plain b h k = absurd (false≢true k)
-question_stays s (Settled x) plain b h k = absurd (false≢true k)
-question_stays s (Turned x) plain b h k = absurd (false≢true k)
-question_stays s _ plain b h k = absurd (false≢true b)
+pub question_stays : (s : State) (c : Change) → IsSteady s → allowed s c ≡ true → keeps_question c ≡ true → question_of (after s c) ≡ question_of s
+question_stays s (TookFresh x) steady h k = same_own s (after s (TookFresh x)) refl (own_stays s (TookFresh x) steady h refl) refl refl
+question_stays s (TookSwap x) steady h k = same_own s (after s (TookSwap x)) refl (own_stays s (TookSwap x) steady h refl) refl refl
+question_stays s (LetGo x) steady h k = same_own s (after s (LetGo x)) refl (own_stays s (LetGo x) steady h refl) refl refl
+question_stays s (LetGoBack x) steady h k = same_own s (after s (LetGoBack x)) refl (own_stays s (LetGoBack x) steady h refl) refl refl
+question_stays s (Refused x) steady h k = same_own s (after s (Refused x)) refl (own_stays s (Refused x) steady h refl) refl refl
+question_stays s (Proposed x) steady h k = same_own s (after s (Proposed x)) refl (own_stays s (Proposed x) steady h refl) refl refl
+question_stays s (Asked x) steady h k = same_own s (after s (Asked x)) refl (own_stays s (Asked x) steady h refl) refl refl
+question_stays s (Passed x) steady h k = same_own s (after s (Passed x)) refl (own_stays s (Passed x) steady h refl) refl refl
+question_stays s (Failed x) steady h k = same_own s (after s (Failed x)) refl (own_stays s (Failed x) steady h refl) refl refl
+question_stays s (Declined x) steady h k = same_own s (after s (Declined x)) refl (own_stays s (Declined x) steady h refl) refl refl
+question_stays s (Replaced x) steady h k = same_own s (after s (Replaced x)) refl (own_stays s (Replaced x) steady h refl) refl refl
+question_stays s (Chose x) steady h k = same_own s (after s (Chose x)) refl (own_stays s (Chose x) steady h refl) refl refl
+question_stays s (Begun x) steady h k = absurd (false≢true k)
+question_stays s (Kept x) steady h k = absurd (false≢true k)
+question_stays s (Snapped x) steady h k = absurd (false≢true k)
+question_stays s (Forgot x) steady h k = absurd (false≢true k)
+question_stays s (Settled x) steady h k = absurd (false≢true k)
+question_stays s (Turned x) steady h k = absurd (false≢true k)
+question_stays s (Discarded x) steady h k = absurd (false≢true k)

@@ -15,7 +15,7 @@ use Rattle.psb_model.specs.declared.change.Change.{Change}
 use Rattle.psb_model.specs.declared.change.Change.TheVariants.{Proposed, Chose}
 use Rattle.psb_model.proofs.ByObject.{by_cases}
 use Rattle.model_laws.proofs.Bodies.{valid_snoc}
-use Rattle.psb_model.proofs.Built.{plain_state}
+use Rattle.psb_model.proofs.Steady.{steady_state}
 use Rattle.model_laws.proofs.Fitting.{fit_state}
 use Rattle.model_laws.proofs.Widths.{wide_state}
 use Rattle.model_laws.proofs.RowOrder.{sorted_row}
@@ -70,7 +70,7 @@ pub proposed_may : (h : List Change) (settings : Settings) (p : ℕ) (what : Dea
 proposed_may h settings p what v is peer f idle next =
     let s = state h in
     let number = (row s p).mine + 1 in
-    let may = proposable s p [] (propose_facts settings s) what (plain_state h v.lawful v.built) (fit_state h v.lawful v.built) (wide_state h v.lawful v.built v.fit) (sorted_row h p) refl (sym (ap capacity is)) next in
+    let may = proposable s p [] (propose_facts settings s) what (steady_state h v.lawful) (fit_state h v.lawful) (wide_state h v.lawful v.fit) (sorted_row h p) refl (sym (ap capacity is)) next in
     let fits : is_u64 number ≡ true = lt-ltb number (2 ^ 64) (omega (arith, f.more)) in
     record {
       built = may.built;

@@ -11,14 +11,14 @@ use Rattle.psb_bytes.specs.declared.ids.Object.TheVariants.{Chunk}
 use Rattle.psb_digest.specs.Hashes.{sha}
 use Rattle.psb_settings.specs.declared.settings.Settings.{Settings}
 use Rattle.psb_model.specs.Words.{object_eq, has, units_at}
-use Rattle.psb_model.specs.State.{State, row, in_key, in_size, out_key, debt_size, debt_units, is_held, is_peer, used, own_has, snaps_made, tied_in}
+use Rattle.psb_model.specs.State.{State, row, in_key, in_size, out_key, debt_units, is_held, is_peer, used, own_has, snaps_made, tied_in}
 use Rattle.psb_model.specs.Grammar.{in_grammar, is_u8, is_u32, is_u64, is_count}
 use Rattle.psb_model.specs.Conditions.{capacity, is_next_deal, allowed}
 use Rattle.psb_model.specs.History.{state}
 use Rattle.psb_model.specs.Needed.{brings_right, last_brought, IsValid}
 use Rattle.psb_model.specs.declared.change.Change.{Change}
 use Rattle.psb_model.specs.declared.change.Change.TheVariants.{Kept, Forgot, Refused}
-use Rattle.psb_model.proofs.Built.{plain_state, plain_row, use_within}
+use Rattle.psb_model.proofs.Steady.{steady_state, use_within}
 use Rattle.model_laws.proofs.Bodies.{valid_snoc}
 use Rattle.psb_model.proofs.ByObject.{by_cases}
 use Rattle.wire_codec.specs.Frames.{Incoming, read_frame, key_in}
@@ -91,7 +91,7 @@ record DetailsFit (s : State) (p : ℕ) : Type 0 where
 
 -- no more is used than the capacity, which a settings text bounds
 used_small : (h : List Change) → IsValid h → used (state h) ≤ 2147483648
-used_small h v = by_settings (state h).settings refl (plain_state h v.lawful v.built).used
+used_small h v = by_settings (state h).settings refl (steady_state h v.lawful).used
   where
     by_settings : (o : Option Settings) → (state h).settings ≡ o → used (state h) ≤ capacity o → used (state h) ≤ 2147483648
     by_settings None is le = omega (arith, le)
@@ -102,11 +102,11 @@ numbers_fit h p v =
     let s = state h in
     let most = drawn h v in
     let in_all = used_small h v in
-    let none : debt_units (row s p) ≡ 0 = ap (sum_by debt_size) (plain_row h p v.lawful v.built).debts in
+    let balanced = ((steady_state h v.lawful).good.rows p).tidy.balanced in
     record {
       issued = lt-ltb s.issued (2 ^ 64) (omega (arith, most));
       in_use = lt-ltb (used s) (2 ^ 64) (omega (arith, in_all));
-      debt = ap is_u64 none;
+      debt = lt-ltb (debt_units (row s p)) (2 ^ 64) (omega (arith, in_all, balanced, use_within s s.rows p));
       chunk = λ name. lt-ltb (chunk_units s p name) (2 ^ 64) (omega (arith, in_all, units_most in_key in_size (row s p).ins (Chunk name), use_within s s.rows p));
     }
 

@@ -8,7 +8,7 @@ use Rattle.psb_settings.specs.declared.settings.PeerRow.{PeerRow}
 use Rattle.psb_settings.specs.declared.settings.Settings.{Settings}
 use Rattle.psb_model.specs.State.{State, is_wanted}
 use Rattle.psb_model.specs.declared.change.Change.{Change}
-use Rattle.psb_model.specs.declared.change.Change.TheVariants.{Begun, Kept, Snapped, Forgot, Settled, Turned}
+use Rattle.psb_model.specs.declared.change.Change.TheVariants.{Begun, Kept, Snapped, Forgot, Settled, Turned, Discarded}
 use Rattle.psb_model.specs.declared.entries.Candidate.{Candidate}
 use Rattle.psb_model.specs.declared.entries.OwnEntry.{OwnEntry}
 use Rattle.psb_model.specs.declared.entries.SnapMark.{SnapMark}
@@ -55,6 +55,7 @@ keeps_question (Snapped x) = false
 keeps_question (Forgot x) = false
 keeps_question (Settled x) = false
 keeps_question (Turned x) = false
+keeps_question (Discarded x) = false
 keeps_question _ = true
 
 -- It is asked while nothing was chosen and some name is wanted.

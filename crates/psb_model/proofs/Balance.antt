@@ -125,7 +125,7 @@ steps s (Declined z) g gr h =
 steps s (Discarded x) g gr h = step_discards s x.peer x.objects (g.rows x.peer) (objects_apart x.objects gr) h
 
 -- what a note says of the pending deal depends on it alone
-note_pending : (s : State) (c : Change) (r r' : Row) → r.pending ≡ r'.pending → (note_of s c r).pending ≡ (note_of s c r').pending
+pub note_pending : (s : State) (c : Change) (r r' : Row) → r.pending ≡ r'.pending → (note_of s c r).pending ≡ (note_of s c r').pending
 note_pending s (TookFresh x) r r' e = e
 note_pending s (TookSwap x) r r' e = e
 note_pending s (LetGo x) r r' e = e

@@ -15,20 +15,21 @@ use Rattle.psb_model.specs.declared.deals.Deal.{Deal}
 use Rattle.psb_model.specs.declared.deals.DealWhat.{DealWhat}
 use Rattle.psb_model.specs.declared.deals.DealWhat.TheVariants.{Fresh, Swap, Cancel, PutBack, Forward, Return}
 use Rattle.psb_model.specs.declared.change.Change.{Change}
-use Rattle.psb_model.specs.declared.change.Change.TheVariants.{Begun, Kept, Snapped, Forgot, TookFresh, TookSwap, LetGo, LetGoBack, Refused, Proposed, Settled, Turned, Chose}
+use Rattle.psb_model.specs.declared.change.Change.TheVariants.{Begun, Kept, Snapped, Forgot, TookFresh, TookSwap, LetGo, LetGoBack, Replaced, Refused, Proposed, Settled, Turned, Asked, Passed, Failed, Declined, Discarded, Chose}
 use Rattle.psb_model.specs.Words.{units, name_eq, name_listed, object_eq, object_cmp, listed, slots, has, without, with_one, with_all}
 use Rattle.psb_model.specs.State.{Row, State, row, has_row, is_peer, at_row, in_key, own_has, is_held}
 use Rattle.psb_model.specs.Conditions.{settings_of_body, peer_of, tests, allowed}
 use Rattle.psb_model.specs.Move.{after_move}
-use Rattle.psb_model.specs.Effects.{settle_move, direct_slot, direct_slots, blank_rows, first_rows, all_rows_after, after, chunk_in, own_after, own_with, kept_lists, kept_without}
-use Rattle.psb_model.specs.History.{is_built}
+use Rattle.psb_model.specs.Effects.{move_of, settle_move, direct_slot, direct_slots, blank_rows, first_rows, all_rows_after, after, chunk_in, own_after, own_with, kept_lists, kept_without}
 use Rattle.psb_model.specs.Needed.{brings_name}
 use Rattle.psb_model.proofs.ByObject.{by_cases, carry}
 use Rattle.psb_model.proofs.Parts.{no_chunk}
 use Rattle.psb_model.proofs.Steps.{parts}
 use Rattle.psb_model.proofs.Own.{name_same, name_refl, own_with_other, IsUnmarked, unmarked_stays}
-pub use Rattle.psb_model.proofs.Built.{or_true}
-use Rattle.psb_model.proofs.Built.{neither, marks_has, allows, AllPlain, changed, rows_one, is_kept, IsPlain}
+use Rattle.psb_model.proofs.Rows.{note_lists}
+use Rattle.psb_model.proofs.Bare.{bare_in, bare_rows, has_bare, changed, rows_then}
+pub use Rattle.psb_model.proofs.Steady.{or_true}
+use Rattle.psb_model.proofs.Steady.{neither, marks_has, allows, is_kept}
 
 -- WHAT IS HELD
 
@@ -160,14 +161,40 @@ all_gain p f q b (x ∷ xs) here gains = by_cases (x.0 == p)
     (λ k. rw k (ap (λ (c : Bool). c || held_in xs q) (gains x.1) ∙ or_middle (has in_key x.1.ins (Chunk q)) b (held_in xs q)))
     (λ k. let rest = rw k at here in rw k (ap (λ (c : Bool). has in_key x.1.ins (Chunk q) || c) (all_gain p f q b xs rest gains) ∙ or_last (has in_key x.1.ins (Chunk q)) (held_in xs q) b))
 
+-- a row has no chunk that it had not
+abbrev pub Lessens : (Row → Row) → List ℕ → Type 0
+Lessens f q = (r : Row) → has in_key (f r).ins (Chunk q) ≡ true → has in_key r.ins (Chunk q) ≡ true
+
+loses_less : (f : Row → Row) (name q : List ℕ) → Loses f name q → Lessens f q
+loses_less f name q loses r h = (and_parts (has in_key r.ins (Chunk q)) (not (name_eq name q)) (sym (loses r) ∙ h)).0
+
 -- what is held after a row lost a chunk was held before
-all_lose : (p : ℕ) (f : Row → Row) (name q : List ℕ) (rows : List (ℕ × Row)) → Loses f name q → held_in (at_row p f rows) q ≡ true → held_in rows q ≡ true
-all_lose p f name q [] loses h = h
-all_lose p f name q (x ∷ xs) loses h = by_cases (x.0 == p)
-    (λ k. let h' = rw k at h in either_was (has in_key (f x.1).ins (Chunk q)) (held_in xs q) (has in_key x.1.ins (Chunk q)) (held_in xs q) h'
-    (λ a. (and_parts (has in_key x.1.ins (Chunk q)) (not (name_eq name q)) (sym (loses x.1) ∙ a)).0) (λ a. a))
+all_less : (p : ℕ) (f : Row → Row) (q : List ℕ) (rows : List (ℕ × Row)) → Lessens f q → held_in (at_row p f rows) q ≡ true → held_in rows q ≡ true
+all_less p f q [] less h = h
+all_less p f q (x ∷ xs) less h = by_cases (x.0 == p)
+    (λ k. let h' = rw k at h in either_was (has in_key (f x.1).ins (Chunk q)) (held_in xs q) (has in_key x.1.ins (Chunk q)) (held_in xs q) h' (less x.1) (λ a. a))
     (λ k. let h' = rw k at h in either_was (has in_key x.1.ins (Chunk q)) (held_in (at_row p f xs) q) (has in_key x.1.ins (Chunk q)) (held_in xs q) h'
-    (λ a. a) (λ a. all_lose p f name q xs loses a))
+    (λ a. a) (λ a. all_less p f q xs less a))
+
+-- nothing comes to in(p) and nothing goes
+pub still_gains : (s : State) (c : Change) (q : List ℕ) → (move_of s c).in_gone ≡ [] → (move_of s c).in_new ≡ [] → Gains (changed s c) q false
+still_gains s c q gone new r =
+    ap (λ l. has in_key l (Chunk q)) (note_lists s c (after_move (move_of s c) r)).ins
+    ∙ ap (λ (es : List InEntry). has in_key (with_all in_key es (without in_key (move_of s c).in_gone r.ins)) (Chunk q)) new
+    ∙ ap (λ (os : List Object). has in_key (without in_key os r.ins) (Chunk q)) gone
+    ∙ chunk_stays in_key [] r.ins q ∙ sym (or_none (has in_key r.ins (Chunk q)))
+
+-- what is thrown away was there
+pub discard_less : (s : State) (p : ℕ) (objects : List Object) (q : List ℕ) → Lessens (changed s (Discarded (record { peer = p; objects = objects }))) q
+discard_less s p objects q r h = (and_parts (has in_key r.ins (Chunk q)) (not (listed objects (Chunk q))) (sym (has_less in_key objects r.ins (Chunk q)) ∙ h)).0
+
+-- the states of entries do not matter
+held_bare : (rows : List (ℕ × Row)) (q : List ℕ) → held_in (bare_rows rows) q ≡ held_in rows q
+held_bare [] q = refl
+held_bare (x ∷ xs) q = ap (λ b. b || held_in (bare_rows xs) q) (has_bare in_key bare_in (λ e. refl) x.1.ins (Chunk q)) ∙ ap (λ b. has in_key x.1.ins (Chunk q) || b) (held_bare xs q)
+
+held_then : (s : State) (c : Change) (p : ℕ) (q : List ℕ) → peer_of c ≡ Some p → held_in (after s c).rows q ≡ held_in (at_row p (changed s c) s.rows) q
+held_then s c p q peer = sym (held_bare (all_rows_after s c) q) ∙ ap (λ (l : List (ℕ × Row)). held_in l q) (rows_then s c p peer) ∙ held_bare (at_row p (changed s c) s.rows) q
 
 none_blank : (ps : List PeerRow) (q : List ℕ) → held_in (blank_rows ps) q ≡ false
 none_blank [] q = refl
@@ -182,17 +209,15 @@ pub held_begun : (s : State) (body : Option (List ℕ)) (q : List ℕ) → held_
 held_begun s body q = none_first (settings_of_body body) q
 
 -- where a change of a peer brings a chunk, or none
-pub held_more : (s : State) (c : Change) (p : ℕ) (q : List ℕ) (b : Bool) → AllPlain s.own s.rows → is_built c ≡ true → peer_of c ≡ Some p → is_peer s p ≡ true → Gains (changed s c) q b → held_in (after s c).rows q ≡ (held_in s.rows q || b)
-held_more s c p q b plain built peer here gains =
-    ap (λ (l : List (ℕ × Row)). held_in l q) (rows_one s c p plain built peer) ∙ all_gain p (changed s c) q b s.rows here gains
+pub held_more : (s : State) (c : Change) (p : ℕ) (q : List ℕ) (b : Bool) → peer_of c ≡ Some p → is_peer s p ≡ true → Gains (changed s c) q b → held_in (after s c).rows q ≡ (held_in s.rows q || b)
+held_more s c p q b peer here gains = held_then s c p q peer ∙ all_gain p (changed s c) q b s.rows here gains
 
-held_as_before : (s : State) (c : Change) (p : ℕ) (q : List ℕ) → AllPlain s.own s.rows → is_built c ≡ true → peer_of c ≡ Some p → is_peer s p ≡ true → Gains (changed s c) q false → held_in (after s c).rows q ≡ held_in s.rows q
-held_as_before s c p q plain built peer here gains = held_more s c p q false plain built peer here gains ∙ or_none (held_in s.rows q)
+held_as_before : (s : State) (c : Change) (p : ℕ) (q : List ℕ) → peer_of c ≡ Some p → is_peer s p ≡ true → Gains (changed s c) q false → held_in (after s c).rows q ≡ held_in s.rows q
+held_as_before s c p q peer here gains = held_more s c p q false peer here gains ∙ or_none (held_in s.rows q)
 
--- where it takes one away
-held_less : (s : State) (c : Change) (p : ℕ) (name q : List ℕ) → AllPlain s.own s.rows → is_built c ≡ true → peer_of c ≡ Some p → Loses (changed s c) name q → held_in (after s c).rows q ≡ true → held_in s.rows q ≡ true
-held_less s c p name q plain built peer loses h =
-    all_lose p (changed s c) name q s.rows loses (sym (ap (λ (l : List (ℕ × Row)). held_in l q) (rows_one s c p plain built peer)) ∙ h)
+-- where it takes some away
+held_less : (s : State) (c : Change) (p : ℕ) (q : List ℕ) → peer_of c ≡ Some p → Lessens (changed s c) q → held_in (after s c).rows q ≡ true → held_in s.rows q ≡ true
+held_less s c p q peer less h = all_less p (changed s c) q s.rows less (sym (held_then s c p q peer) ∙ h)
 
 -- OWN CHUNKS
 
@@ -241,8 +266,8 @@ brings_when true name n = refl
 brings_when false name n = refl
 
 -- the change's chunk is held after it
-pub brought_held : (s : State) (c : Change) (n : List ℕ) → IsPlain s → is_built c ≡ true → allowed s c ≡ true → brings_name n c ≡ true → is_held (after s c) n ≡ true
-brought_held s (Kept x) n p b h is =
+pub brought_held : (s : State) (c : Change) (n : List ℕ) → allowed s c ≡ true → brings_name n c ≡ true → is_held (after s c) n ≡ true
+brought_held s (Kept x) n h is =
     let c : Change = Kept x in
     let ts = parts (tests s c) (allows s c h).tests in
     let name = (and_parts x.new (name_eq x.name n) (sym (brings_when x.new x.name n) ∙ is)).1 in
@@ -252,17 +277,17 @@ brought_held s (Kept x) n p b h is =
     not_true : (b : Bool) → not b ≡ true → b ≡ false
     not_true true k = sym k
     not_true false k = refl
-brought_held s (TookFresh y) n p b h is =
+brought_held s (TookFresh y) n h is =
     let c : Change = TookFresh y in
     let name = (and_parts y.new (name_eq y.name n) (sym (brings_when y.new y.name n) ∙ is)).1 in
-    let here : held_in (after s c).rows n ≡ true = held_more s c y.peer n (name_eq y.name n) p.rows refl refl (allows s c h).peer (fresh_gains s y.peer y.deal y.name y.first y.len y.new y.body n) ∙ ap (λ x. held_in s.rows n || x) name ∙ or_true (held_in s.rows n) in
+    let here : held_in (after s c).rows n ≡ true = held_more s c y.peer n (name_eq y.name n) refl (allows s c h).peer (fresh_gains s y.peer y.deal y.name y.first y.len y.new y.body n) ∙ ap (λ x. held_in s.rows n || x) name ∙ or_true (held_in s.rows n) in
     ap (λ x. own_has (after s c).own n || x) here ∙ or_true (own_has (after s c).own n)
-brought_held s (TookSwap y) n p b h is =
+brought_held s (TookSwap y) n h is =
     let c : Change = TookSwap y in
     let name = (and_parts y.new (name_eq y.name n) (sym (brings_when y.new y.name n) ∙ is)).1 in
-    let here : held_in (after s c).rows n ≡ true = held_more s c y.peer n (name_eq y.name n) p.rows refl refl (allows s c h).peer (swap_gains s y.peer y.deal y.name y.slots y.len y.new y.body n) ∙ ap (λ x. held_in s.rows n || x) name ∙ or_true (held_in s.rows n) in
+    let here : held_in (after s c).rows n ≡ true = held_more s c y.peer n (name_eq y.name n) refl (allows s c h).peer (swap_gains s y.peer y.deal y.name y.slots y.len y.new y.body n) ∙ ap (λ x. held_in s.rows n || x) name ∙ or_true (held_in s.rows n) in
     ap (λ x. own_has (after s c).own n || x) here ∙ or_true (own_has (after s c).own n)
-brought_held s _ n p b h is = absurd (false≢true is)
+brought_held s _ n h is = absurd (false≢true is)
 
 not_new : (held new : Bool) → (cond held (not new) new) ≡ true → new ≡ false → held ≡ true
 not_new true new t e = refl
@@ -273,9 +298,9 @@ held_before : (s : State) (c : Change) (n : List ℕ) → (own_has (own_after s 
 held_before s c n f g held = either_was (own_has (after s c).own n) (held_in (after s c).rows n) (own_has s.own n) (held_in s.rows n) held (λ a. f (own_was s c n a)) g
 
 -- a held name was held before, or the change brings its bytes
-pub was_held : (s : State) (c : Change) (n : List ℕ) → 1 ≤ s.changes → IsPlain s → is_built c ≡ true → allowed s c ≡ true → is_held (after s c) n ≡ true → brings_name n c ≡ false → is_held s n ≡ true
-was_held s (Begun x) n some p b h held none = let ts = parts (tests s (Begun x)) (allows s (Begun x) h).tests in absurd (omega (arith, some, eqb-true s.changes 0 ts.0))
-was_held s (Kept y) n some p b h held none =
+pub was_held : (s : State) (c : Change) (n : List ℕ) → 1 ≤ s.changes → allowed s c ≡ true → is_held (after s c) n ≡ true → brings_name n c ≡ false → is_held s n ≡ true
+was_held s (Begun x) n some h held none = let ts = parts (tests s (Begun x)) (allows s (Begun x) h).tests in absurd (omega (arith, some, eqb-true s.changes 0 ts.0))
+was_held s (Kept y) n some h held none =
     let c : Change = Kept y in
     let ts = parts (tests s c) (allows s c h).tests in
     by_cases (name_eq y.name n)
@@ -287,54 +312,71 @@ was_held s (Kept y) n some p b h held none =
     flag : (new : Bool) → name_eq y.name n ≡ true → (new && name_eq y.name n) ≡ false → new ≡ false
     flag true k e = absurd (false≢true (sym e ∙ k))
     flag false k e = refl
-was_held s (Snapped x) n some p b h held none =
+was_held s (Snapped x) n some h held none =
     held_before s (Snapped x) n (λ a. sym (marks_has (λ e. e.marked && not (name_listed x.names e.name)) s.own n) ∙ a) (λ a. a) held
-was_held s (Forgot x) n some p b h held none =
+was_held s (Forgot x) n some h held none =
     held_before s (Forgot x) n (λ a. sym (marks_has (λ e. e.marked || not (kept_lists (kept_without x.number s.kept) e.name)) s.own n) ∙ a) (λ a. a) held
-was_held s (Chose x) n some p b h held none = held_before s (Chose x) n (λ a. a) (λ a. a) held
-was_held s (TookFresh y) n some p b h held none =
+was_held s (Chose x) n some h held none = held_before s (Chose x) n (λ a. a) (λ a. a) held
+was_held s (TookFresh y) n some h held none =
     let c : Change = TookFresh y in
     let ts = parts (tests s c) (allows s c h).tests in
     by_cases (name_eq y.name n)
     (λ k. ap (is_held s) (sym (name_same y.name n k)) ∙ not_new (is_held s y.name) y.new ts.1.1.0 (flag y.new k (sym (brings_when y.new y.name n) ∙ none)))
     (λ k. held_before s c n (λ a. a)
-    (λ a. sym (held_more s c y.peer n (name_eq y.name n) p.rows refl refl (allows s c h).peer (fresh_gains s y.peer y.deal y.name y.first y.len y.new y.body n) ∙ ap (λ x. held_in s.rows n || x) k ∙ or_none (held_in s.rows n)) ∙ a)
+    (λ a. sym (held_more s c y.peer n (name_eq y.name n) refl (allows s c h).peer (fresh_gains s y.peer y.deal y.name y.first y.len y.new y.body n) ∙ ap (λ x. held_in s.rows n || x) k ∙ or_none (held_in s.rows n)) ∙ a)
     held)
   where
     flag : (new : Bool) → name_eq y.name n ≡ true → (new && name_eq y.name n) ≡ false → new ≡ false
     flag true k e = absurd (false≢true (sym e ∙ k))
     flag false k e = refl
-was_held s (TookSwap y) n some p b h held none =
+was_held s (TookSwap y) n some h held none =
     let c : Change = TookSwap y in
     let ts = parts (tests s c) (allows s c h).tests in
     by_cases (name_eq y.name n)
     (λ k. ap (is_held s) (sym (name_same y.name n k)) ∙ not_new (is_held s y.name) y.new ts.1.1.0 (flag y.new k (sym (brings_when y.new y.name n) ∙ none)))
     (λ k. held_before s c n (λ a. a)
-    (λ a. sym (held_more s c y.peer n (name_eq y.name n) p.rows refl refl (allows s c h).peer (swap_gains s y.peer y.deal y.name y.slots y.len y.new y.body n) ∙ ap (λ x. held_in s.rows n || x) k ∙ or_none (held_in s.rows n)) ∙ a)
+    (λ a. sym (held_more s c y.peer n (name_eq y.name n) refl (allows s c h).peer (swap_gains s y.peer y.deal y.name y.slots y.len y.new y.body n) ∙ ap (λ x. held_in s.rows n || x) k ∙ or_none (held_in s.rows n)) ∙ a)
     held)
   where
     flag : (new : Bool) → name_eq y.name n ≡ true → (new && name_eq y.name n) ≡ false → new ≡ false
     flag true k e = absurd (false≢true (sym e ∙ k))
     flag false k e = refl
-was_held s (LetGo x) n some p b h held none =
+was_held s (LetGo x) n some h held none =
     let c : Change = LetGo x in
-    held_before s c n (λ a. a) (held_less s c x.peer x.name n p.rows refl refl (let_go_loses s x.peer x.deal x.name x.slots n)) held
-was_held s (LetGoBack x) n some p b h held none =
+    held_before s c n (λ a. a) (held_less s c x.peer n refl (loses_less (changed s c) x.name n (let_go_loses s x.peer x.deal x.name x.slots n))) held
+was_held s (LetGoBack x) n some h held none =
     let c : Change = LetGoBack x in
-    held_before s c n (λ a. a) (held_less s c x.peer x.name n p.rows refl refl (put_back_loses s x.peer x.deal x.name x.slots x.body n)) held
-was_held s (Refused x) n some p b h held none =
+    held_before s c n (λ a. a) (held_less s c x.peer n refl (loses_less (changed s c) x.name n (put_back_loses s x.peer x.deal x.name x.slots x.body n))) held
+was_held s (Refused x) n some h held none =
     let c : Change = Refused x in
-    held_before s c n (λ a. a) (λ a. sym (held_as_before s c x.peer n p.rows refl refl (allows s c h).peer (refused_gains s x.peer x.deal x.why x.detail n)) ∙ a) held
-was_held s (Proposed x) n some p b h held none =
+    held_before s c n (λ a. a) (λ a. sym (held_as_before s c x.peer n refl (allows s c h).peer (refused_gains s x.peer x.deal x.why x.detail n)) ∙ a) held
+was_held s (Proposed x) n some h held none =
     let c : Change = Proposed x in
-    held_before s c n (λ a. a) (λ a. sym (held_as_before s c x.peer n p.rows b refl (allows s c h).peer (proposed_gains s x.peer x.deal x.what n)) ∙ a) held
-was_held s (Settled x) n some p b h held none =
+    held_before s c n (λ a. a) (λ a. sym (held_as_before s c x.peer n refl (allows s c h).peer (proposed_gains s x.peer x.deal x.what n)) ∙ a) held
+was_held s (Settled x) n some h held none =
     let c : Change = Settled x in
-    held_before s c n (λ a. a) (λ a. sym (held_as_before s c x.peer n p.rows refl refl (allows s c h).peer (settled_gains s x.peer x.deal x.slots x.body n)) ∙ a) held
-was_held s (Turned x) n some p b h held none =
+    held_before s c n (λ a. a) (λ a. sym (held_as_before s c x.peer n refl (allows s c h).peer (settled_gains s x.peer x.deal x.slots x.body n)) ∙ a) held
+was_held s (Turned x) n some h held none =
     let c : Change = Turned x in
-    held_before s c n (λ a. a) (λ a. sym (held_as_before s c x.peer n p.rows refl refl (allows s c h).peer (turned_gains s x.peer x.deal x.why x.detail n)) ∙ a) held
-was_held s _ n some p b h held none = absurd (false≢true b)
+    held_before s c n (λ a. a) (λ a. sym (held_as_before s c x.peer n refl (allows s c h).peer (turned_gains s x.peer x.deal x.why x.detail n)) ∙ a) held
+was_held s (Replaced x) n some h held none =
+    let c : Change = Replaced x in
+    held_before s c n (λ a. a) (λ a. sym (held_as_before s c x.peer n refl (allows s c h).peer (still_gains s c n refl refl)) ∙ a) held
+was_held s (Asked x) n some h held none =
+    let c : Change = Asked x in
+    held_before s c n (λ a. a) (λ a. sym (held_as_before s c x.peer n refl (allows s c h).peer (still_gains s c n refl refl)) ∙ a) held
+was_held s (Passed x) n some h held none =
+    let c : Change = Passed x in
+    held_before s c n (λ a. a) (λ a. sym (held_as_before s c x.peer n refl (allows s c h).peer (still_gains s c n refl refl)) ∙ a) held
+was_held s (Failed x) n some h held none =
+    let c : Change = Failed x in
+    held_before s c n (λ a. a) (λ a. sym (held_as_before s c x.peer n refl (allows s c h).peer (still_gains s c n refl refl)) ∙ a) held
+was_held s (Declined x) n some h held none =
+    let c : Change = Declined x in
+    held_before s c n (λ a. a) (λ a. sym (held_as_before s c x.peer n refl (allows s c h).peer (still_gains s c n refl refl)) ∙ a) held
+was_held s (Discarded x) n some h held none =
+    let c : Change = Discarded x in
+    held_before s c n (λ a. a) (held_less s c x.peer n refl (discard_less s x.peer x.objects n)) held
 
 -- a name that is brought is new only where it is not held
 held_not_new : (s : State) (name n : List ℕ) (new : Bool) → is_held s n ≡ true → cond (is_held s name) (not new) new ≡ true → (new && name_eq name n) ≡ false
@@ -347,8 +389,8 @@ held_not_new s name n true held t =
     (λ k. k)
 
 -- a held name is not brought again
-pub brings_none : (s : State) (c : Change) (n : List ℕ) → is_built c ≡ true → allowed s c ≡ true → is_held s n ≡ true → brings_name n c ≡ false
-brings_none s (Kept x) n b h held = let c : Change = Kept x in brings_when x.new x.name n ∙ held_not_new s x.name n x.new held (parts (tests s c) (allows s c h).tests).1.0
-brings_none s (TookFresh x) n b h held = let c : Change = TookFresh x in brings_when x.new x.name n ∙ held_not_new s x.name n x.new held (parts (tests s c) (allows s c h).tests).1.1.0
-brings_none s (TookSwap x) n b h held = let c : Change = TookSwap x in brings_when x.new x.name n ∙ held_not_new s x.name n x.new held (parts (tests s c) (allows s c h).tests).1.1.0
-brings_none s _ n b h held = refl
+pub brings_none : (s : State) (c : Change) (n : List ℕ) → allowed s c ≡ true → is_held s n ≡ true → brings_name n c ≡ false
+brings_none s (Kept x) n h held = let c : Change = Kept x in brings_when x.new x.name n ∙ held_not_new s x.name n x.new held (parts (tests s c) (allows s c h).tests).1.0
+brings_none s (TookFresh x) n h held = let c : Change = TookFresh x in brings_when x.new x.name n ∙ held_not_new s x.name n x.new held (parts (tests s c) (allows s c h).tests).1.1.0
+brings_none s (TookSwap x) n h held = let c : Change = TookSwap x in brings_when x.new x.name n ∙ held_not_new s x.name n x.new held (parts (tests s c) (allows s c h).tests).1.1.0
+brings_none s _ n h held = refl

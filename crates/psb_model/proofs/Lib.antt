@@ -10,6 +10,9 @@ pub mod Steps
 pub mod Own
 pub mod Balance
 pub mod Prefixes
+pub mod Bare
+pub mod Steady
 pub mod Built
-pub mod Passing
 pub mod Held
+pub mod Lent
+pub mod Passing

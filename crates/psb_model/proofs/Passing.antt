@@ -11,18 +11,21 @@ use Rattle.psb_model.specs.declared.deals.Deal.{Deal}
 use Rattle.psb_model.specs.declared.deals.DealWhat.{DealWhat}
 use Rattle.psb_model.specs.declared.deals.DealWhat.TheVariants.{Fresh, Swap, Cancel, PutBack, Forward, Return}
 use Rattle.psb_model.specs.declared.change.Change.{Change}
-use Rattle.psb_model.specs.declared.change.Change.TheVariants.{Begun, Kept, Snapped, Forgot, TookFresh, TookSwap, LetGo, LetGoBack, Refused, Proposed, Settled, Turned, Chose}
-use Rattle.psb_model.specs.Words.{units, units_at, name_eq, object_eq, listed, slots, has, with_one, with_all, without}
+use Rattle.psb_model.specs.declared.change.Change.TheVariants.{Begun, Kept, Snapped, Forgot, TookFresh, TookSwap, LetGo, LetGoBack, Replaced, Refused, Proposed, Settled, Turned, Asked, Passed, Failed, Declined, Discarded, Chose}
+use Rattle.psb_model.specs.Words.{units, units_at, name_eq, listed, slots, has, with_one, with_all, without}
 use Rattle.psb_model.specs.State.{Row, State, row, row_in, is_peer, out_key, out_size, debt_key, own_has, own_len, own_marked, is_wanted, is_barred}
-use Rattle.psb_model.specs.Conditions.{peer_of}
-use Rattle.psb_model.specs.Move.{after_move}
-use Rattle.psb_model.specs.Effects.{chunk_out, own_slot, own_slots, own_after, kept_after, settle_move, all_rows_after, given_up, after}
+use Rattle.psb_model.specs.Conditions.{peer_of, declined_objects}
+use Rattle.psb_model.specs.declared.entries.DebtEntry.{DebtEntry}
+use Rattle.psb_model.specs.Move.{Move, still, after_move}
+use Rattle.psb_model.specs.Effects.{chunk_out, own_slot, own_slots, own_after, kept_after, move_of, settle_move, loses, all_rows_after, given_up, after}
 use Rattle.psb_model.specs.Proposing.{is_absent, is_missing, none_marked, none_missing}
-use Rattle.psb_model.specs.History.{is_built}
 use Rattle.psb_model.proofs.ByObject.{by_cases, all_with_one, all_kept}
 use Rattle.psb_model.proofs.Own.{name_same}
-use Rattle.psb_model.proofs.Held.{any_more, chunk_stays}
-use Rattle.psb_model.proofs.Built.{IsPlain, AllPlain, plain_row_in, names_apart, changed, row_then}
+use Rattle.psb_model.proofs.Parts.{no_chunk}
+use Rattle.psb_model.proofs.Rows.{note_lists}
+use Rattle.psb_model.proofs.Bare.{bare, bare_out, bare_debt, all_bare, has_bare, changed, row_bare}
+use Rattle.psb_model.proofs.Lent.{lent, lends, lost_has, returns_lent}
+use Rattle.psb_model.proofs.Steady.{IsSteady, names_apart}
 
 -- ---- Bools
 
@@ -88,10 +91,9 @@ none_placed test own name u outs free h = all_with_one out_key (λ (e : OutEntry
 
 -- ---- the chunks that are missing there
 
--- what the row has or turned down it still has and turned down, and nothing was lost
+-- what the row has, lost or turned down it still has, lost or turned down
 record RowKeeps (r r' : Row) : Type 0 where
-  outs : (n : List ℕ) → has out_key r.outs (Chunk n) ≡ true → has out_key r'.outs (Chunk n) ≡ true
-  debts : r.debts ≡ []
+  lent : (n : List ℕ) → lent r (Chunk n) ≡ true → lent r' (Chunk n) ≡ true
   barred : (n : List ℕ) → is_barred r n ≡ true → is_barred r' n ≡ true
 
 absent_before : (r r' : Row) (n : List ℕ) → RowKeeps r r' → is_absent r' n ≡ true → is_absent r n ≡ true
@@ -100,22 +102,20 @@ absent_before r r' n k h =
     let b = not (has debt_key r'.debts (Chunk n)) in
     let c = not (is_barred r' n) in
     let two = and_parts (a && b) c h in
-    let one = and_parts a b two.0 in
-    rw (was (has out_key r.outs (Chunk n)) (has out_key r'.outs (Chunk n)) (k.outs n) one.0, k.debts, was (is_barred r n) (is_barred r' n) (k.barred n) two.1) refl
+    let none = was (lent r (Chunk n)) (lent r' (Chunk n)) (k.lent n) (neither (has out_key r'.outs (Chunk n)) (has debt_key r'.debts (Chunk n)) two.0) in
+    rw (both (has out_key r.outs (Chunk n)) (has debt_key r.debts (Chunk n)) none, was (is_barred r n) (is_barred r' n) (k.barred n) two.1) refl
   where
     was : (x y : Bool) → (x ≡ true → y ≡ true) → not y ≡ true → not x ≡ true
     was false y f h = refl
     was true y f h = let h' = rw (f refl) at h in absurd (false≢true h')
 
-more_one : (e : OutEntry) (l : List OutEntry) (n : List ℕ) → has out_key l (Chunk n) ≡ true → has out_key (with_one out_key e l) (Chunk n) ≡ true
-more_one e l n h = any_more out_key (λ (x : OutEntry). object_eq (out_key x) (Chunk n)) e l ∙ ap (λ (b : Bool). b || object_eq e.object (Chunk n)) h
+    neither : (x y : Bool) → (not x && not y) ≡ true → not (x || y) ≡ true
+    neither false y h = h
+    neither true y h = absurd (false≢true h)
 
-more_slots : (first u : ℕ) (l : List OutEntry) (n : List ℕ) → has out_key l (Chunk n) ≡ true → has out_key (with_all out_key (own_slots first u) l) (Chunk n) ≡ true
-more_slots first zero l n h = h
-more_slots first (suc u) l n h = more_slots (first + 1) u (with_one out_key (own_slot first) l) n (more_one (own_slot first) l n h)
-
-slots_left : (numbers : List ℕ) (l : List OutEntry) (n : List ℕ) → has out_key l (Chunk n) ≡ true → has out_key (without out_key (slots numbers) l) (Chunk n) ≡ true
-slots_left numbers l n h = chunk_stays out_key numbers l n ∙ h
+    both : (x y : Bool) → not (x || y) ≡ true → (not x && not y) ≡ true
+    both false y h = h
+    both true y h = absurd (false≢true h)
 
 any_append : (t : List ℕ × ℕ → Bool) (l m : List (List ℕ × ℕ)) → list_any t l ≡ true → list_any t (l ++ m) ≡ true
 any_append t [] m h = absurd (false≢true h)
@@ -131,12 +131,16 @@ abbrev pub settles_release : Option Deal → Bool
 settles_release None = false
 settles_release (Some d) = elim d.what [ Cancel name numbers ↦ true | PutBack name first ↦ true | _ ↦ false ]
 
+-- so may a probe that passed give one back
 abbrev pub places_marked : State → Change → Bool
 places_marked s (Settled x) = settles_marked s (row s x.peer).pending
+places_marked s (Passed x) = true
 places_marked s _ = false
 
+-- and a discard may use up what a chunk is owed
 abbrev pub releases : State → Change → Bool
 releases s (Settled x) = settles_release (row s x.peer).pending
+releases s (Discarded x) = true
 releases s _ = false
 
 settle_marks : (test : List ℕ → Bool) (s : State) (r : Row) (o : Option Deal) (numbers : List ℕ) → settles_marked s o ≡ false → none_marked test s.own r.outs ≡ true → none_marked test s.own (after_move (settle_move s r o numbers) r).outs ≡ true
@@ -151,69 +155,121 @@ settle_marks test s r (Some d) numbers m h = by_what d.what m
     by_what (Forward slot entry) m = none_left test s.own [] r.outs h
     by_what (Return slot) m = none_left test s.own [] r.outs h
 
-settle_keeps : (s : State) (r : Row) (o : Option Deal) (numbers : List ℕ) (n : List ℕ) → settles_release o ≡ false → has out_key r.outs (Chunk n) ≡ true → has out_key (after_move (settle_move s r o numbers) r).outs (Chunk n) ≡ true
-settle_keeps s r None numbers n m h = slots_left [] r.outs n h
-settle_keeps s r (Some d) numbers n m h = by_what d.what m
+none_there : {E : Type 0} (t : E → Bool) (l : List E) → filter (λ e. false) l ≡ []
+none_there t [] = refl
+none_there t (e ∷ es) = none_there t es
+
+-- nothing of debt is returned, and no chunk goes
+pub quiet : (m : Move) (r : Row) (n : List ℕ) → m.used_up ≡ 0 → listed m.out_gone (Chunk n) ≡ false → m.returned ≡ still.returned → lent r (Chunk n) ≡ true → lent (after_move m r) (Chunk n) ≡ true
+quiet m r n unused stays none h = lends m r (Chunk n)
+    (record {
+      unused = unused;
+      gone = λ out gone. absurd (false≢true (sym stays ∙ gone));
+      returned = λ k. absurd (false≢true (ap (λ l. has debt_key l (Chunk n)) (sym (ap (λ (t : DebtEntry → Bool). filter t r.debts) none ∙ none_there still.returned r.debts)) ∙ k));
+    }) h
+
+settle_keeps : (s : State) (r : Row) (o : Option Deal) (numbers : List ℕ) (r' : Row) (n : List ℕ) → settles_release o ≡ false → lent r' (Chunk n) ≡ true → lent (after_move (settle_move s r o numbers) r') (Chunk n) ≡ true
+settle_keeps s r None numbers r' n m h = quiet (settle_move s r None numbers) r' n refl refl refl h
+settle_keeps s r (Some d) numbers r' n m h = by_what d.what m
   where
-    by_what : (what : DealWhat) → elim what [ Cancel name theirs ↦ true | PutBack name first ↦ true | _ ↦ false ] ≡ false → has out_key (after_move (settle_move s r (Some (record { number = d.number; what = what })) numbers) r).outs (Chunk n) ≡ true
-    by_what (Fresh name) m = more_one (chunk_out name (units (own_len s.own name))) (without out_key [] r.outs) n (slots_left [] r.outs n h)
-    by_what (Swap name mine) m = more_one (chunk_out name (units (own_len s.own name))) (without out_key (slots mine) r.outs) n (slots_left mine r.outs n h)
+    by_what : (what : DealWhat) → elim what [ Cancel name theirs ↦ true | PutBack name first ↦ true | _ ↦ false ] ≡ false → lent (after_move (settle_move s r (Some (record { number = d.number; what = what })) numbers) r') (Chunk n) ≡ true
+    by_what (Fresh name) m = quiet (settle_move s r (Some (record { number = d.number; what = Fresh name })) numbers) r' n refl refl refl h
+    by_what (Swap name mine) m = quiet (settle_move s r (Some (record { number = d.number; what = Swap name mine })) numbers) r' n refl (no_chunk mine n) refl h
     by_what (Cancel name theirs) m = absurd (false≢true (sym m))
     by_what (PutBack name first) m = absurd (false≢true (sym m))
-    by_what (Forward slot entry) m = slots_left [] r.outs n h
-    by_what (Return slot) m = slots_left [] r.outs n h
+    by_what (Forward slot entry) m = quiet (settle_move s r (Some (record { number = d.number; what = Forward slot entry })) numbers) r' n refl refl refl h
+    by_what (Return slot) m = quiet (settle_move s r (Some (record { number = d.number; what = Return slot })) numbers) r' n refl refl refl h
 
 -- ---- the row of the peer
 
-row_marks : (test : List ℕ → Bool) (s : State) (c : Change) (p : ℕ) → is_built c ≡ true → peer_of c ≡ Some p → places_marked s c ≡ false → none_marked test s.own (row s p).outs ≡ true → none_marked test s.own (changed s c (row s p)).outs ≡ true
-row_marks test s (Begun x) p b e m h = absurd (cc (e))
-row_marks test s (Kept x) p b e m h = absurd (cc (e))
-row_marks test s (Snapped x) p b e m h = absurd (cc (e))
-row_marks test s (Forgot x) p b e m h = absurd (cc (e))
-row_marks test s (Chose x) p b e m h = absurd (cc (e))
-row_marks test s (TookFresh x) p b e m h = none_slots test s.own x.first (units x.len) (without out_key [] (row s p).outs) (none_left test s.own [] (row s p).outs h)
-row_marks test s (TookSwap x) p b e m h = none_left test s.own [] (row s p).outs h
-row_marks test s (LetGo x) p b e m h = none_left test s.own (slots x.slots) (row s p).outs h
-row_marks test s (LetGoBack x) p b e m h = none_left test s.own [] (row s p).outs h
-row_marks test s (Refused x) p b e m h = none_left test s.own [] (row s p).outs h
-row_marks test s (Proposed x) p b e m h = none_left test s.own [] (row s p).outs h
-row_marks test s (Turned x) p b e m h = none_left test s.own [] (row s p).outs h
-row_marks test s (Settled y) p b e m h =
+row_marks : (test : List ℕ → Bool) (s : State) (c : Change) (p : ℕ) → peer_of c ≡ Some p → places_marked s c ≡ false → none_marked test s.own (row s p).outs ≡ true → none_marked test s.own (changed s c (row s p)).outs ≡ true
+row_marks test s (Begun x) p e m h = absurd (cc (e))
+row_marks test s (Kept x) p e m h = absurd (cc (e))
+row_marks test s (Snapped x) p e m h = absurd (cc (e))
+row_marks test s (Forgot x) p e m h = absurd (cc (e))
+row_marks test s (Chose x) p e m h = absurd (cc (e))
+row_marks test s (TookFresh x) p e m h = none_slots test s.own x.first (units x.len) (without out_key [] (row s p).outs) (none_left test s.own [] (row s p).outs h)
+row_marks test s (LetGo x) p e m h = none_left test s.own (slots x.slots) (row s p).outs h
+row_marks test s (Settled y) p e m h =
     let same : y.peer ≡ p = cc (e) in
     let m' = subst (λ x. settles_marked s (row s x).pending ≡ false) same m in
     subst (λ x. none_marked test s.own (after_move (settle_move s (row s x) (row s x).pending y.slots) (row s p)).outs ≡ true) (sym same) (settle_marks test s (row s p) (row s p).pending y.slots m' h)
-row_marks test s _ p b e m h = absurd (false≢true b)
+row_marks test s (Passed x) p e m h = absurd (false≢true (sym m))
+row_marks test s (Failed x) p e m h = none_left test s.own x.objects (row s p).outs h
+row_marks test s (Declined x) p e m h = none_left test s.own (declined_objects s x.peer x.asked x.places) (row s p).outs h
+row_marks test s _ p e m h = none_left test s.own [] (row s p).outs h
 
-row_keeps : (s : State) (c : Change) (p : ℕ) → AllPlain s.own s.rows → is_built c ≡ true → peer_of c ≡ Some p → releases s c ≡ false → RowKeeps (row s p) (changed s c (row s p))
-row_keeps s (Begun x) p plain b e m = absurd (cc (e))
-row_keeps s (Kept x) p plain b e m = absurd (cc (e))
-row_keeps s (Snapped x) p plain b e m = absurd (cc (e))
-row_keeps s (Forgot x) p plain b e m = absurd (cc (e))
-row_keeps s (Chose x) p plain b e m = absurd (cc (e))
-row_keeps s (TookFresh x) p plain b e m = record { outs = λ n h. more_slots x.first (units x.len) (without out_key [] (row s p).outs) n (slots_left [] (row s p).outs n h); debts = (plain_row_in s.own s.rows p plain).debts; barred = λ n h. h }
-row_keeps s (TookSwap x) p plain b e m = record { outs = λ n h. slots_left [] (row s p).outs n h; debts = (plain_row_in s.own s.rows p plain).debts; barred = λ n h. h }
-row_keeps s (LetGo x) p plain b e m = record { outs = λ n h. slots_left x.slots (row s p).outs n h; debts = (plain_row_in s.own s.rows p plain).debts; barred = λ n h. h }
-row_keeps s (LetGoBack x) p plain b e m = record { outs = λ n h. slots_left [] (row s p).outs n h; debts = (plain_row_in s.own s.rows p plain).debts; barred = λ n h. h }
-row_keeps s (Refused x) p plain b e m = record { outs = λ n h. slots_left [] (row s p).outs n h; debts = (plain_row_in s.own s.rows p plain).debts; barred = λ n h. h }
-row_keeps s (Proposed x) p plain b e m = record { outs = λ n h. slots_left [] (row s p).outs n h; debts = (plain_row_in s.own s.rows p plain).debts; barred = λ n h. h }
-row_keeps s (Turned y) p plain b e m = record {
-  outs = λ n h. slots_left [] (row s p).outs n h;
-  debts = (plain_row_in s.own s.rows p plain).debts;
-  barred = λ n h. by_cases (nat_le 2 y.why && nat_le y.why 4) (λ k. rw k (any_append (λ (x : List ℕ × ℕ). name_eq x.0 n) (row s p).barred _ h)) (λ k. rw k h);
-}
-row_keeps s (Settled y) p plain b e m =
+-- what a change notes leaves what is there and what is lost
+pub noted_lent : (s : State) (c : Change) (r : Row) (n : List ℕ) → lent (after_move (move_of s c) r) (Chunk n) ≡ true → lent (changed s c r) (Chunk n) ≡ true
+noted_lent s c r n h =
+    let lists = note_lists s c (after_move (move_of s c) r) in
+    ap (λ l. has out_key l (Chunk n) || has debt_key (changed s c r).debts (Chunk n)) lists.outs
+    ∙ ap (λ l. has out_key (after_move (move_of s c) r).outs (Chunk n) || has debt_key l (Chunk n)) lists.debts ∙ h
+
+still_barred : (s : State) (c : Change) (r : Row) (n : List ℕ) → is_barred r n ≡ true → is_barred (changed s c r) n ≡ true
+still_barred s (Turned y) r n h = by_cases (nat_le 2 y.why && nat_le y.why 4) (λ k. rw k (any_append (λ (x : List ℕ × ℕ). name_eq x.0 n) r.barred _ h)) (λ k. rw k h)
+still_barred s (Passed y) r n h = by_cases (y.asked == 0) (λ k. rw k h) (λ k. rw k h)
+still_barred s (TookFresh x) r n h = h
+still_barred s (TookSwap x) r n h = h
+still_barred s (LetGo x) r n h = h
+still_barred s (LetGoBack x) r n h = h
+still_barred s (Replaced x) r n h = h
+still_barred s (Refused x) r n h = h
+still_barred s (Proposed x) r n h = h
+still_barred s (Settled x) r n h = h
+still_barred s (Asked x) r n h = h
+still_barred s (Failed x) r n h = h
+still_barred s (Declined x) r n h = h
+still_barred s (Discarded x) r n h = h
+still_barred s _ r n h = h
+
+-- what is lost is booked
+loses_keeps : (s : State) (declined : Bool) (objects : List Object) (r : Row) (n : List ℕ) → lent r (Chunk n) ≡ true → lent (after_move (loses s.changes declined objects r) r) (Chunk n) ≡ true
+loses_keeps s declined objects r n h = lends (loses s.changes declined objects r) r (Chunk n)
+    (record {
+      unused = refl;
+      gone = λ out gone. lost_has s.changes declined objects r.outs (Chunk n) gone out;
+      returned = λ k. absurd (false≢true (ap (λ l. has debt_key l (Chunk n)) (sym (none_there still.returned r.debts)) ∙ k));
+    }) h
+
+pub row_lends : (s : State) (c : Change) (p : ℕ) (n : List ℕ) → peer_of c ≡ Some p → releases s c ≡ false → lent (row s p) (Chunk n) ≡ true → lent (after_move (move_of s c) (row s p)) (Chunk n) ≡ true
+row_lends s (LetGo x) p n e m h = quiet (move_of s (LetGo x)) (row s p) n refl (no_chunk x.slots n) refl h
+row_lends s (Settled y) p n e m h =
     let same : y.peer ≡ p = cc (e) in
     let m' = subst (λ x. settles_release (row s x).pending ≡ false) same m in
-    record {
-      outs = λ n h. subst (λ x. has out_key (after_move (settle_move s (row s x) (row s x).pending y.slots) (row s p)).outs (Chunk n) ≡ true) (sym same) (settle_keeps s (row s p) (row s p).pending y.slots n m' h);
-      debts = (plain_row_in s.own s.rows p plain).debts;
-      barred = λ n h. h;
-    }
-row_keeps s _ p plain b e m = absurd (false≢true b)
+    subst (λ x. lent (after_move (settle_move s (row s x) (row s x).pending y.slots) (row s p)) (Chunk n) ≡ true) (sym same) (settle_keeps s (row s p) (row s p).pending y.slots (row s p) n m' h)
+row_lends s (Passed y) p n e m h =
+    let same : y.peer ≡ p = cc (e) in
+    subst (λ x. lent (after_move (move_of s (Passed (record y { peer = x }))) (row s p)) (Chunk n) ≡ true) (sym same)
+    (lends (move_of s (Passed (record y { peer = p }))) (row s p) (Chunk n) (record { unused = refl; gone = λ out gone. absurd (false≢true gone); returned = returns_lent y.objects (row s p) (Chunk n) }) h)
+row_lends s (Failed y) p n e m h =
+    let same : y.peer ≡ p = cc (e) in
+    subst (λ x. lent (after_move (loses s.changes false y.objects (row s x)) (row s p)) (Chunk n) ≡ true) (sym same) (loses_keeps s false y.objects (row s p) n h)
+row_lends s (Declined y) p n e m h =
+    let same : y.peer ≡ p = cc (e) in
+    subst (λ x. lent (after_move (loses s.changes true (declined_objects s y.peer y.asked y.places) (row s x)) (row s p)) (Chunk n) ≡ true) (sym same) (loses_keeps s true (declined_objects s y.peer y.asked y.places) (row s p) n h)
+row_lends s (Discarded x) p n e m h = absurd (false≢true (sym m))
+row_lends s c p n e m h = quiet (move_of s c) (row s p) n refl refl refl h
+
+row_keeps : (s : State) (c : Change) (p : ℕ) → peer_of c ≡ Some p → releases s c ≡ false → RowKeeps (row s p) (changed s c (row s p))
+row_keeps s c p e m = record { lent = λ n h. noted_lent s c (row s p) n (row_lends s c p n e m h); barred = λ n h. still_barred s c (row s p) n h }
+
+-- ---- states of entries do not matter
+
+marked_bare : (test : List ℕ → Bool) (own : List OwnEntry) (r : Row) → none_marked test own (bare r).outs ≡ none_marked test own r.outs
+marked_bare test own r = all_bare bare_out (λ (e : OutEntry). elim e.object [ Chunk n ↦ not (test n && own_marked own n) | Slot n ↦ true ]) (λ e. refl) r.outs
+
+absent_bare : (r : Row) (n : List ℕ) → is_absent (bare r) n ≡ is_absent r n
+absent_bare r n =
+    ap (λ b. not b && not (has debt_key (bare r).debts (Chunk n)) && not (is_barred r n)) (has_bare out_key bare_out (λ e. refl) r.outs (Chunk n))
+    ∙ ap (λ b. not (has out_key r.outs (Chunk n)) && not b && not (is_barred r n)) (has_bare debt_key bare_debt (λ e. refl) r.debts (Chunk n))
+
+absent_same : (r r' : Row) (n : List ℕ) → bare r ≡ bare r' → is_absent r n ≡ is_absent r' n
+absent_same r r' n e = sym (absent_bare r n) ∙ ap (λ x. is_absent x n) e ∙ absent_bare r' n
 
 -- ---- the state after a change that leaves own chunks and snapshots, but for what is given up
 
-fewer_marked : (s : State) (c : Change) (n : List ℕ) → IsPlain s → own_after s c ≡ s.own → own_marked (after s c).own n ≡ true → own_marked s.own n ≡ true
+fewer_marked : (s : State) (c : Change) (n : List ℕ) → IsSteady s → own_after s c ≡ s.own → own_marked (after s c).own n ≡ true → own_marked s.own n ≡ true
 fewer_marked s c n plain same h = marked_left _ s.own n plain.apart (ap (λ (l : List OwnEntry). own_marked (given_up (all_rows_after s c) l) n) (sym same) ∙ h)
 
 missing_left : (test : OwnEntry → Bool) (s : State) (c : Change) (q : ℕ) → own_after s c ≡ s.own → kept_after s c ≡ s.kept → ((n : List ℕ) → is_absent (row (after s c) q) n ≡ true → is_absent (row s q) n ≡ true) → none_missing test s q ≡ true → none_missing test (after s c) q ≡ true
@@ -227,26 +283,28 @@ missing_left test s c q own kept before h =
 
 -- ---- after a change of a peer, for that peer and any other
 
-pub still_unmarked : (test : List ℕ → Bool) (s : State) (c : Change) (p q : ℕ) → IsPlain s → is_built c ≡ true → peer_of c ≡ Some p → is_peer s p ≡ true → own_after s c ≡ s.own → ((p == q) ≡ true → places_marked s c ≡ false) → none_marked test s.own (row s q).outs ≡ true → none_marked test (after s c).own (row (after s c) q).outs ≡ true
-still_unmarked test s c p q plain b e here own m h =
-    marks_fewer test s.own (after s c).own (row (after s c) q).outs (λ n k. fewer_marked s c n plain own k)
-    (subst (λ (r : Row). none_marked test s.own r.outs ≡ true) (sym (row_then s c p q plain.rows b e here))
-    (by_cases (p == q)
-    (λ k. let same : p ≡ q = eqb-true p q k in rw k (subst (λ x. none_marked test s.own (changed s c (row s x)).outs ≡ true) same (row_marks test s c p b e (m k) (subst (λ x. none_marked test s.own (row s x).outs ≡ true) (sym same) h))))
-    (λ k. rw k h)))
+pub still_unmarked : (test : List ℕ → Bool) (s : State) (c : Change) (p q : ℕ) → IsSteady s → peer_of c ≡ Some p → is_peer s p ≡ true → own_after s c ≡ s.own → ((p == q) ≡ true → places_marked s c ≡ false) → none_marked test s.own (row s q).outs ≡ true → none_marked test (after s c).own (row (after s c) q).outs ≡ true
+still_unmarked test s c p q steady e here own m h =
+    marks_fewer test s.own (after s c).own (row (after s c) q).outs (λ n k. fewer_marked s c n steady own k)
+    (sym (marked_bare test s.own (row (after s c) q))
+    ∙ ap (λ (r : Row). none_marked test s.own r.outs) (row_bare s c p q e here)
+    ∙ marked_bare test s.own (cond (p == q) (changed s c (row s q)) (row s q))
+    ∙ by_cases (p == q)
+    (λ k. let same : p ≡ q = eqb-true p q k in rw k (subst (λ x. none_marked test s.own (changed s c (row s x)).outs ≡ true) same (row_marks test s c p e (m k) (subst (λ x. none_marked test s.own (row s x).outs ≡ true) (sym same) h))))
+    (λ k. rw k h))
 
-pub still_not_missing : (test : OwnEntry → Bool) (s : State) (c : Change) (p q : ℕ) → IsPlain s → is_built c ≡ true → peer_of c ≡ Some p → is_peer s p ≡ true → own_after s c ≡ s.own → kept_after s c ≡ s.kept → ((p == q) ≡ true → releases s c ≡ false) → none_missing test s q ≡ true → none_missing test (after s c) q ≡ true
-still_not_missing test s c p q plain b e here own kept m h =
+pub still_not_missing : (test : OwnEntry → Bool) (s : State) (c : Change) (p q : ℕ) → peer_of c ≡ Some p → is_peer s p ≡ true → own_after s c ≡ s.own → kept_after s c ≡ s.kept → ((p == q) ≡ true → releases s c ≡ false) → none_missing test s q ≡ true → none_missing test (after s c) q ≡ true
+still_not_missing test s c p q e here own kept m h =
     missing_left test s c q own kept
-    (λ n k. by_cases (p == q)
+    (λ n k. let before = sym (absent_same (row (after s c) q) (cond (p == q) (changed s c (row s q)) (row s q)) n (row_bare s c p q e here)) ∙ k in
+    by_cases (p == q)
     (λ j. let same : p ≡ q = eqb-true p q j in
-    let row_is : row (after s c) q ≡ changed s c (row s q) = row_then s c p q plain.rows b e here ∙ ap (λ (x : Bool). cond x (changed s c (row s q)) (row s q)) j in
-    absent_before (row s q) (changed s c (row s q)) n (subst (λ x. RowKeeps (row s x) (changed s c (row s x))) same (row_keeps s c p plain.rows b e (m j))) (ap (λ (r : Row). is_absent r n) (sym row_is) ∙ k))
-    (λ j. let row_is : row (after s c) q ≡ row s q = row_then s c p q plain.rows b e here ∙ ap (λ (x : Bool). cond x (changed s c (row s q)) (row s q)) j in ap (λ (r : Row). is_absent r n) (sym row_is) ∙ k))
+    absent_before (row s q) (changed s c (row s q)) n (subst (λ x. RowKeeps (row s x) (changed s c (row s x))) same (row_keeps s c p e (m j))) (rw j at before))
+    (λ j. rw j at before))
     h
 
 -- and after one of no peer that leaves rows, own chunks and snapshots
-pub chosen_unmarked : (test : List ℕ → Bool) (s : State) (c : Change) (q : ℕ) → IsPlain s → own_after s c ≡ s.own → all_rows_after s c ≡ s.rows → none_marked test s.own (row s q).outs ≡ true → none_marked test (after s c).own (row (after s c) q).outs ≡ true
+pub chosen_unmarked : (test : List ℕ → Bool) (s : State) (c : Change) (q : ℕ) → IsSteady s → own_after s c ≡ s.own → all_rows_after s c ≡ s.rows → none_marked test s.own (row s q).outs ≡ true → none_marked test (after s c).own (row (after s c) q).outs ≡ true
 chosen_unmarked test s c q plain own rows h =
     marks_fewer test s.own (after s c).own (row (after s c) q).outs (λ n k. fewer_marked s c n plain own k)
     (subst (λ (l : List (ℕ × Row)). none_marked test s.own (row_in l q).outs ≡ true) (sym rows) h)

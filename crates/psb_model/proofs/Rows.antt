@@ -214,7 +214,7 @@ states_alike s (Replaced x) rows = at_row_alike x.peer _ (relabel_in_alike (Slot
 states_alike s (Settled x) rows = settled_alike x.peer (row s x.peer).pending rows
 states_alike s _ rows = alike_rows_self rows
 
-loose_alike : (o : Object) (r : Row) → Alike r (relabel_debt o on.Loose (relabel_out o on.Loose r))
+pub loose_alike : (o : Object) (r : Row) → Alike r (relabel_debt o on.Loose (relabel_out o on.Loose r))
 loose_alike o r = alike_then r (relabel_out o on.Loose r) _ (relabel_out_alike o on.Loose r) (relabel_debt_alike o on.Loose (relabel_out o on.Loose r))
 
 loosen_one : (st : InState) (rows : List (ℕ × Row)) → AlikeRows rows (elim st [ at.Forwarded seat ↦ at_row seat.peer (λ r. relabel_debt (Slot seat.slot) on.Loose (relabel_out (Slot seat.slot) on.Loose r)) rows | _ ↦ rows ])

@@ -191,8 +191,8 @@ is_one_slot (Slot n ∷ []) = true
 is_one_slot _ = false
 
 -- the outcome of the last Asked, with its objects; or, by a relay, that of number 0 and one slot
-abbrev pub answers_probe : State → ℕ → ℕ → List Object → Bool
-answers_probe s p asked objects = if asked == 0 then is_one_slot objects else elim (asked_objects (row s p).asked asked) [ None ↦ false | Some os ↦ same_objects os objects ]
+abbrev pub is_outcome : Row → ℕ → List Object → Bool
+is_outcome r asked objects = if asked == 0 then is_one_slot objects else elim (asked_objects r.asked asked) [ None ↦ false | Some os ↦ same_objects os objects ]
 
 -- the objects at these places
 abbrev pub at_places : List Object → List ℕ → List Object
@@ -200,8 +200,11 @@ at_places objects [] = []
 at_places objects (k ∷ ks) = option_to_list (slice_get objects k) ++ at_places objects ks
 
 -- the objects that a Declined lists, by its places
+abbrev pub objects_at : Row → ℕ → List ℕ → List Object
+objects_at r asked places = elim (asked_objects r.asked asked) [ None ↦ [] | Some os ↦ at_places os places ]
+
 abbrev pub declined_objects : State → ℕ → ℕ → List ℕ → List Object
-declined_objects s p asked places = elim (asked_objects (row s p).asked asked) [ None ↦ [] | Some os ↦ at_places os places ]
+declined_objects s p asked places = objects_at (row s p) asked places
 
 -- names ascend strictly, by bytes
 abbrev pub names_ascend : List (List ℕ) → Bool
@@ -274,6 +277,38 @@ settle_tests r deal numbers u =
     ∷ may_settle_row u r r.pending numbers
     ∷ [])
 
+-- what a probe may ask of: a chunk or an own slot that stands there, or that was lost and of which nothing was used up
+abbrev pub may_ask : Row → Object → Bool
+may_ask r o =
+    has_so out_key (λ e. elim o [ Chunk n ↦ true | Slot n ↦ is_own e ]) r.outs o
+    || has_so debt_key (λ d. elim o [ Chunk n ↦ is_whole d | Slot n ↦ is_whole_own d ]) r.debts o
+
+abbrev pub asked_tests : Row → List Object → List Bool
+asked_tests r objects =
+    (nat_le 1 (length objects)
+    ∷ nat_le (length objects) 32
+    ∷ each (may_ask r) objects
+    ∷ each (λ o. not (ties_out r.pending o)) objects
+    ∷ [])
+
+-- what the outcomes of a probe ask of its peer's row: a failure by a late or a wrong answer to a probe of the node's own,
+-- or by a relay; only a wrong answer has got anything
+abbrev pub failed_tests : Row → ℕ → ℕ → List ℕ → List Object → List Bool
+failed_tests r asked how got objects =
+    (is_outcome r asked objects
+    ∷ nat_le how 2
+    ∷ (if asked == 0 then how == 2 else nat_lt how 2)
+    ∷ ((how == 1) || list_all (λ b. b == 0) got)
+    ∷ each (λ o. not (ties_out r.pending o)) objects
+    ∷ [])
+
+abbrev pub declined_tests : Row → ℕ → List ℕ → List Bool
+declined_tests r asked places =
+    (is_some (asked_objects r.asked asked)
+    ∷ list_all (λ k. nat_lt k (asked_count (asked_objects r.asked asked))) places
+    ∷ each (λ o. not (ties_out r.pending o)) (objects_at r asked places)
+    ∷ [])
+
 -- what each kind asks
 abbrev pub tests : State → Change → List Bool
 tests s (Begun x) =
@@ -310,25 +345,10 @@ tests s (Proposed x) =
     ∷ [])
 tests s (Settled x) = settle_tests (row s x.peer) x.deal x.slots (coming s (row s x.peer).pending)
 tests s (Turned x) = is_pending (row s x.peer).pending x.deal ∷ []
-tests s (Asked x) =
-    (nat_le 1 (length x.objects)
-    ∷ nat_le (length x.objects) 32
-    ∷ each (λ o. has_so out_key (λ e. elim o [ Chunk n ↦ true | Slot n ↦ is_own e ]) (row s x.peer).outs o || has_so debt_key (λ d. elim o [ Chunk n ↦ is_whole d | Slot n ↦ is_whole_own d ]) (row s x.peer).debts o) x.objects
-    ∷ each (λ o. not (tied_out s x.peer o)) x.objects
-    ∷ [])
-tests s (Passed x) = answers_probe s x.peer x.asked x.objects ∷ []
-tests s (Failed x) =
-    (answers_probe s x.peer x.asked x.objects
-    ∷ nat_le x.how 2
-    ∷ (if x.asked == 0 then x.how == 2 else nat_lt x.how 2)
-    ∷ ((x.how == 1) || list_all (λ b. b == 0) x.got)
-    ∷ each (λ o. not (tied_out s x.peer o)) x.objects
-    ∷ [])
-tests s (Declined x) =
-    (is_some (asked_objects (row s x.peer).asked x.asked)
-    ∷ list_all (λ k. nat_lt k (asked_count (asked_objects (row s x.peer).asked x.asked))) x.places
-    ∷ each (λ o. not (tied_out s x.peer o)) (declined_objects s x.peer x.asked x.places)
-    ∷ [])
+tests s (Asked x) = asked_tests (row s x.peer) x.objects
+tests s (Passed x) = is_outcome (row s x.peer) x.asked x.objects ∷ []
+tests s (Failed x) = failed_tests (row s x.peer) x.asked x.how x.got x.objects
+tests s (Declined x) = declined_tests (row s x.peer) x.asked x.places
 tests s (Discarded x) =
     ((row s x.peer).due
     ∷ same_objects x.objects (map in_key (discards s x.peer))

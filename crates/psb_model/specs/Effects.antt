@@ -86,6 +86,10 @@ settle_move s r (Some d) numbers = elim d.what [
   | _ ↦ still
 ]
 
+-- the rows that are listed and whole stand in out(p) again
+abbrev pub regains : List Object → Row → Move
+regains objects r = record still { returned = is_whole_listed objects; out_new = map out_again (filter (is_whole_listed objects) r.debts) }
+
 -- what each kind moves
 abbrev pub move_of : State → Change → Move
 move_of s (TookFresh x) = record still { in_new = chunk_in x.name (units x.len) ∷ []; out_new = own_slots x.first (units x.len) }
@@ -93,8 +97,7 @@ move_of s (TookSwap x) = record still { in_gone = slots x.slots; in_new = chunk_
 move_of s (LetGo x) = record still { in_gone = Chunk x.name ∷ []; out_gone = slots x.slots }
 move_of s (LetGoBack x) = record still { in_gone = Chunk x.name ∷ []; in_new = direct_slots x.slots }
 move_of s (Settled x) = settle_move s (row s x.peer) (row s x.peer).pending x.slots
-move_of s (Passed x) =
-    record still { returned = is_whole_listed x.objects; out_new = map out_again (filter (is_whole_listed x.objects) (row s x.peer).debts) }
+move_of s (Passed x) = regains x.objects (row s x.peer)
 move_of s (Failed x) = loses s.changes false x.objects (row s x.peer)
 move_of s (Declined x) = loses s.changes true (declined_objects s x.peer x.asked x.places) (row s x.peer)
 move_of s (Discarded x) = record still { in_gone = x.objects; used_up = sum_by in_size (only in_key x.objects (row s x.peer).ins) }
@@ -149,6 +152,13 @@ took_deal deal n r = record r { last = record { number = deal; change = n } }
 abbrev pub failed_again : Row → Row
 failed_again r = let fails = min (r.fails + 1) 4294967295 in record r { fails = fails; due = r.due || nat_le 3 fails; asked = None }
 
+-- a probe has this outcome; one of a relay (number 0) leaves the node's own as it is
+abbrev pub was_passed : ℕ → Row → Row
+was_passed asked r = if asked == 0 then r else record r { fails = 0; asked = None }
+
+abbrev pub was_failed : ℕ → Row → Row
+was_failed asked r = let r' = failed_again r in record r' { asked = if asked == 0 then r.asked else None }
+
 -- the chunk that an own deal names, and that a Cancel names
 abbrev pub deal_name : DealWhat → List (List ℕ)
 deal_name (Fresh name) = name ∷ []
@@ -187,8 +197,8 @@ note_of s (Proposed x) r = record r { pending = Some (record { number = x.deal; 
 note_of s (Settled x) r = record r { pending = None }
 note_of s (Turned x) r = was_turned s.changes x.why r
 note_of s (Asked x) r = record r { asked = Some (s.changes, x.objects) }
-note_of s (Passed x) r = if x.asked == 0 then r else record r { fails = 0; asked = None }
-note_of s (Failed x) r = let r' = failed_again r in record r' { asked = if x.asked == 0 then r.asked else None }
+note_of s (Passed x) r = was_passed x.asked r
+note_of s (Failed x) r = was_failed x.asked r
 note_of s (Declined x) r = failed_again r
 note_of s (Discarded x) r = record r { due = false }
 note_of s _ r = r

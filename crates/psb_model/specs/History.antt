@@ -1,10 +1,9 @@
 -- What a history gives, which histories obey the table, and what is proved of all of them.
 use Rattle.std.specs.Prelude.{◌≡◌, ◌≤◌, ℕ, ◌+◌, Bool, true, false, not, ◌&&◌, ◌==◌, List, [], ◌∷◌, ◌++◌, length}
-use Rattle.std.specs.List.{list_all}
 use Rattle.psb_bytes.specs.declared.ids.Object.{Object}
 use Rattle.psb_model.specs.declared.entries.DebtEntry.{DebtEntry}
 use Rattle.psb_model.specs.declared.change.Change.{Change}
-use Rattle.psb_model.specs.declared.change.Change.TheVariants.{Begun, Kept, Snapped, Forgot, TookFresh, TookSwap, LetGo, LetGoBack, Refused, Proposed, Settled, Turned, Passed, Failed, Declined, Chose}
+use Rattle.psb_model.specs.declared.change.Change.TheVariants.{Begun, Kept, Snapped, Forgot, TookFresh, TookSwap, LetGo, LetGoBack, Refused, Proposed, Settled, Turned, Asked, Passed, Failed, Declined, Discarded, Chose}
 use Rattle.psb_model.specs.declared.deals.DealWhat.{DealWhat}
 use Rattle.psb_model.specs.declared.deals.DealWhat.TheVariants.{Fresh, Swap, Cancel, PutBack, Forward, Return}
 use Rattle.psb_model.specs.Words.{listed, has, units_at, has_so, occurs, In}
@@ -40,7 +39,8 @@ is_built_deal (Forward slot entry) = false
 is_built_deal (Return slot) = false
 
 -- the program has this kind so far: the beginning, what is kept of the node's own, what the deals of a peer
--- make but for a replaced claim, the own deals with their replies, and a choice of buddies
+-- make but for a replaced claim, the own deals with their replies, probes with their outcomes, discards, and a
+-- choice of buddies
 abbrev pub is_built : Change → Bool
 is_built (Begun x) = true
 is_built (Kept x) = true
@@ -54,6 +54,11 @@ is_built (Refused x) = true
 is_built (Proposed x) = is_built_deal x.what
 is_built (Settled x) = true
 is_built (Turned x) = true
+is_built (Asked x) = true
+is_built (Passed x) = true
+is_built (Failed x) = true
+is_built (Declined x) = true
+is_built (Discarded x) = true
 is_built (Chose x) = true
 is_built _ = false
 
@@ -73,7 +78,7 @@ Balances = (h : List Change) (p : ℕ) → is_lawful h ≡ true → held h p ≡
 
 -- What the node answers for, with what its pending deals will bring, stays within the capacity of its settings.
 abbrev pub StaysWithin : Type 0
-StaysWithin = (h : List Change) → is_lawful h ≡ true → list_all is_built h ≡ true → used (state h) ≤ capacity (state h).settings
+StaysWithin = (h : List Change) → is_lawful h ≡ true → used (state h) ≤ capacity (state h).settings
 
 -- the row is a loss of one of these objects: it stood in out(q) with the row's units.
 pub record IsLoss (s : State) (q : ℕ) (declined : Bool) (objects : List Object) (d : DebtEntry) : Type 0 where

@@ -63,5 +63,6 @@ pub fn keeps_question(change: &Change) -> bool
             | Change::Forgot(_)
             | Change::Settled(_)
             | Change::Turned(_)
+            | Change::Discarded(_)
     )
 }

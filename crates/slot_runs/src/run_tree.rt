@@ -418,12 +418,13 @@ impl<R: Said> SlotRuns<R> {
         next
     }
 
-    /// Puts in slots one by one, of which the same is said.
+    /// Puts in slots one by one, of which the same is said. Each takes the room of one run.
     pub fn add_each(&mut self, numbers: &[u32], rest: R)
         requires { length numbers.now ≤ runs_room self.old }
         ensures runs { runs self.new ≡ runs self.old ++ map (λ n. record { first = n; last = n; rest = rest }) numbers.now }
         ensures tree { self.new.tree ≡ self.old.tree }
         ensures small { list_all (λ n. nat_lt n (2 ^ 32)) numbers.now ≡ true }
+        ensures room { runs_room self.old ≤ runs_room self.new + length numbers.now }
     {
         for number in numbers {
             self.add(run_of(*number, rest));

@@ -14,7 +14,7 @@ use Rattle.psb_machine.specs.Course.{Step, Absorb, after_all}
 use Rattle.psb_machine.proofs.Courses.{after_all-append}
 use Rattle.convergent_seal.specs.Sealing.{sealed, sealed_ref}
 use Rattle.node_core.specs.declared.node.Node.{Node}
-use Rattle.node_core.proofs.Presence.{err_is}
+use Rattle.node_history.proofs.Presence.{err_is}
 use Rattle.node_core.specs.Refusing.{is_refused, when_taken, IsHeldAs}
 use Rattle.node_core.specs.declared.fault.Fault.{Fault}
 use Rattle.node_core.specs.declared.fault.Fault.TheVariants as fault

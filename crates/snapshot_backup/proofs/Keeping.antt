@@ -15,7 +15,7 @@ use Rattle.psb_model.specs.declared.change.Change.TheVariants.{Kept}
 use Rattle.psb_model.specs.declared.entries.OwnEntry.{OwnEntry}
 use Rattle.psb_model.proofs.Own.{name_same, name_refl}
 use Rattle.psb_model.proofs.Prefixes.{state_snoc}
-use Rattle.psb_model.proofs.Built.{plain_state}
+use Rattle.psb_model.proofs.Steady.{steady_state}
 use Rattle.psb_model.proofs.Held.{own_with_is}
 use Rattle.model_laws.proofs.Leaving.{own_kept}
 use Rattle.psb_machine.specs.Deals.{are_others, meets_others}
@@ -23,10 +23,10 @@ use Rattle.psb_machine.specs.Machine.{Situation, Keep, kept_with, quiet, grows, 
 use Rattle.psb_machine.specs.Course.{after_all}
 use Rattle.chunk_store.specs.declared.store.Store.{Store}
 use Rattle.chunk_store.specs.Store.{record_of}
-use Rattle.node_core.specs.Lacking.{lacks}
-use Rattle.node_core.specs.Names.{brought_from, KnowsNames}
+use Rattle.node_history.specs.Lacking.{lacks}
+use Rattle.node_history.specs.Names.{brought_from, KnowsNames}
 use Rattle.node_core.specs.Refusing.{when_taken}
-use Rattle.node_core.proofs.Lacks.{sound_lacks}
+use Rattle.node_history.proofs.Lacks.{sound_lacks}
 use Rattle.snapshot_backup.specs.Course.{keep_steps}
 use Rattle.snapshot_backup.specs.Kept.{IsKept, AreKept, KeepsAll, Owns, names_of}
 
@@ -58,7 +58,7 @@ own_after : (h : List Change) (name bytes q : List ℕ) → IsValid h → own_ha
 own_after h name bytes q v =
     let s = state h in
     ap (λ (t : State). own_has t.own q) (state_snoc h (kept_with s name bytes))
-    ∙ ap (λ (l : List OwnEntry). own_has l q) (own_kept s name (length bytes) (not (is_held s name)) (Some (cond (not (is_held s name)) bytes [])) (plain_state h v.lawful v.built))
+    ∙ ap (λ (l : List OwnEntry). own_has l q) (own_kept s name (length bytes) (not (is_held s name)) (Some (cond (not (is_held s name)) bytes [])) (steady_state h v.lawful))
     ∙ own_with_is (record { name = name; len = length bytes; marked = false }) s.own q
 
 or_true : (a : Bool) → (a || true) ≡ true

@@ -6,7 +6,7 @@ use Rattle.psb_model.specs.State.{own_has, snaps_made}
 use Rattle.psb_model.specs.History.{state}
 use Rattle.psb_model.specs.Needed.{last_brought, IsValid}
 use Rattle.psb_model.specs.declared.change.Change.{Change}
-use Rattle.psb_model.proofs.Built.{plain_state}
+use Rattle.psb_model.proofs.Steady.{steady_state}
 use Rattle.model_laws.proofs.Leaving.{snapped_has}
 use Rattle.psb_model.proofs.Prefixes.{state_snoc}
 use Rattle.psb_machine.specs.Machine.{snapped_with}
@@ -27,7 +27,7 @@ use Rattle.snapshot_backup.proofs.Keeping.{last_stays}
 -- the note of a snapshot leaves the bodies as they are
 pub snapped_stays : (h : List Change) (note : SnapNote) (name bytes : List ℕ) → IsValid h → IsKept h name bytes → IsKept (h ++ snapped_with (state h) note ∷ []) name bytes
 snapped_stays h note name bytes v k = record {
-  own = ap (λ s. own_has s.own name) (state_snoc h (snapped_with (state h) note)) ∙ snapped_has (state h) (snaps_made (state h) + 1) note.ticket note.files note.folders note.bytes note.left note.names name (plain_state h v.lawful v.built) ∙ k.own;
+  own = ap (λ s. own_has s.own name) (state_snoc h (snapped_with (state h) note)) ∙ snapped_has (state h) (snaps_made (state h) + 1) note.ticket note.files note.folders note.bytes note.left note.names name (steady_state h v.lawful) ∙ k.own;
   last = last_stays name h (snapped_with (state h) note) refl ∙ k.last;
 }
 

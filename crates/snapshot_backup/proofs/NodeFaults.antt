@@ -5,7 +5,7 @@ use Rattle.psb_machine.specs.Machine.{Keep}
 use Rattle.node_core.specs.Refusing.{Refuses}
 use Rattle.node_core.specs.declared.fault.Fault.{Fault}
 use Rattle.node_core.specs.declared.fault.Fault.TheVariants as fault
-use Rattle.node_core.proofs.Presence.{err_is, err_as}
+use Rattle.node_history.proofs.Presence.{err_is, err_as}
 use Rattle.convergent_seal.specs.Sealing.{sealed_ref}
 use Rattle.snapshot_backup.specs.Endings.{backup_fault_of}
 use Rattle.snapshot_backup.specs.Faults.{walked_as, FailsOfPiece, IsOfPieces}

@@ -3,7 +3,7 @@ use Rattle.std.proofs.Common.{◌≡◌, ◌⊎◌, inl, inr, ⊎_elim, ℕ, ◌
 use Rattle.std.proofs.lemmas.List.{take_more, take-append-drop, map-append}
 use Rattle.node_core.specs.declared.fault.Fault.{Fault}
 use Rattle.node_core.specs.declared.fault.Fault.TheVariants.{DiskFault, Memory}
-use Rattle.node_core.proofs.Presence.{err_as}
+use Rattle.node_history.proofs.Presence.{err_as}
 use Rattle.rolling_chunks.specs.Cuts.{longest}
 use Rattle.rolling_chunks.specs.Spans.{spans}
 use Rattle.rolling_chunks.specs.Laws.{part}

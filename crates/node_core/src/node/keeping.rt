@@ -12,8 +12,8 @@ ghost use Rattle.psb_model.specs.declared.change.Change.{Change};
 ghost use Rattle.psb_machine.specs.Laws.{SnapFits};
 ghost use Rattle.psb_machine.specs.Machine.{Situation, Keep, on_keep, on_snap, on_forget, kept_with, snapped_with, has_snapshot};
 ghost use Rattle.chunk_store.specs.Store.{record_of};
-ghost use Rattle.node_core.specs.Stands.{AreDecoded};
-ghost use Rattle.node_core.specs.Names.{KnowsNames};
+ghost use Rattle.node_history.specs.Stands.{AreDecoded};
+ghost use Rattle.node_history.specs.Names.{KnowsNames};
 ghost use Rattle.node_core.specs.Refusing.{Compared, Refuses, when_taken};
 
 use super::Node;

@@ -4,7 +4,7 @@ use Rattle.psb_machine.specs.Deals.{clashes}
 use Rattle.deals.specs.declared.deal.DealView.{DealView}
 use Rattle.deals.specs.Views.{deal_in}
 use Rattle.node_core.specs.Making.{refused_by}
-use Rattle.node_core.proofs.Presence.{ok_map}
+use Rattle.node_history.proofs.Presence.{ok_map}
 use Rattle.node_core.proofs.Judged.{idle_fresh, idle_swap, idle_of}
 use Rattle.node_core.proofs.facts.looked_up.Goals as goal
 

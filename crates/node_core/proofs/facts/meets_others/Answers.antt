@@ -1,6 +1,6 @@
 use Rattle.std.proofs.Common.{◌∙◌, Err, ap, subst}
 use Rattle.psb_machine.specs.Deals.{meets_others}
-use Rattle.node_core.proofs.Brought.{MeetsBy, look_exact}
+use Rattle.node_core.proofs.Compared.{MeetsBy, look_exact}
 use Rattle.node_core.proofs.facts.meets_others.Goals as goal
 
 pub returns-in-Ok-New-clause-exact : goal.returns-in-Ok-New-clause-exact

@@ -1,5 +1,5 @@
 use Rattle.chunk_store.specs.Store.{record_of}
-use Rattle.node_core.proofs.Presence.{one_there}
+use Rattle.node_history.proofs.Presence.{one_there}
 use Rattle.node_core.proofs.facts.sealed_facts.Goals as goal
 
 pub meets_others-requires-clause-below : goal.meets_others-requires-clause-below

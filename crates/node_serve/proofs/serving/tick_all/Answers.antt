@@ -3,7 +3,7 @@ use Rattle.std.proofs.lemmas.List.{take_more, take-append-drop}
 use Rattle.psb_machine.specs.Machine.{Tick}
 use Rattle.psb_machine.specs.Commands.{ticks}
 use Rattle.node_serve.specs.Spans.{Fed, Tally, tally_sum}
-use Rattle.node_core.proofs.Presence.{err_is}
+use Rattle.node_history.proofs.Presence.{err_is}
 use Rattle.node_serve.specs.Turns.{turn_tally, serve_fault_of}
 use Rattle.node_serve.proofs.OneTurn.{only_then, ticks-append, tick_more}
 use Rattle.node_serve.proofs.Runs.{counts_same, counts_then, fed_none, fed_cut, fed_as}

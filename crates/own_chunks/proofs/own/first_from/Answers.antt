@@ -1,5 +1,5 @@
 use Rattle.std.proofs.Common.{◌∙◌, rules}
-use Rattle.peer_account.proofs.NameOrder.{by_name}
+use Rattle.own_deals.proofs.NameOrder.{by_name}
 use Rattle.own_chunks.proofs.OwnTrees.{first_none, first_some}
 use Rattle.own_chunks.proofs.own.first_from.Goals as goal
 

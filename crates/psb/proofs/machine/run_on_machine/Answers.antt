@@ -5,7 +5,7 @@ use Rattle.psb_station.proofs.Spans.{at_some}
 use Rattle.psb_model.specs.Needed.{IsValid}
 use Rattle.psb_model.specs.declared.change.Change.{Change}
 use Rattle.node_journal.specs.Format.{Stands}
-use Rattle.node_core.specs.Stands.{HoldsHistory}
+use Rattle.node_history.specs.Stands.{HoldsHistory}
 use Rattle.snapshot_backup.specs.Backed.{IsSnapOf}
 use Rattle.backup_cli.specs.Served.{IsNode}
 use Rattle.psb.proofs.machine.run_on_machine.Goals as goal

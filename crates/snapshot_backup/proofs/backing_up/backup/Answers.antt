@@ -3,13 +3,12 @@ use Rattle.psb_station.specs.Span.{Tells_bytes}
 use Rattle.psb_model.specs.State.{snaps_made}
 use Rattle.psb_model.specs.History.{state}
 use Rattle.psb_machine.specs.Machine.{Situation, Snap}
-use Rattle.node_core.proofs.Presence.{err_as, err_is}
+use Rattle.node_history.proofs.Presence.{err_as, err_is}
 use Rattle.node_core.specs.Stored.{Knows, Stored}
 use Rattle.node_core.specs.declared.fault.Fault.TheVariants as fault
 use Rattle.skeleton.specs.declared.entry.Entry.{Entry}
 use Rattle.skeleton.specs.declared.limits.TheConstants.{MOST_TEXT_BYTES}
 use Rattle.skeleton.specs.Texts.{skeleton_text}
-use Rattle.snapshots.specs.Meaning.{Place, refs_in}
 use Rattle.snapshots.specs.Tickets.{skeleton_of_tree, most_levels}
 use Rattle.snapshots.specs.Walks.{bare_len, AreFound, AreFoldersOf, IsWalk}
 use Rattle.snapshots.specs.declared.walking.WalkFault.{WalkFault}

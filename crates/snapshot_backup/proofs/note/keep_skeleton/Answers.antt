@@ -2,7 +2,7 @@ use Rattle.std.proofs.Common.{◌≡◌, ◌≤◌, ◌||◌, ℕ, List, length,
 use Rattle.psb_model.specs.Words.{name_listed}
 use Rattle.psb_machine.specs.declared.snap_note.SnapNote.{SnapNote}
 use Rattle.node_core.specs.declared.fault.Fault.TheVariants as fault
-use Rattle.node_core.proofs.Presence.{err_as}
+use Rattle.node_history.proofs.Presence.{err_as}
 use Rattle.skeleton.specs.declared.entry.Entry.{Entry}
 use Rattle.skeleton.specs.declared.limits.TheConstants.{MOST_TEXT_BYTES}
 use Rattle.skeleton.specs.Texts.{skeleton_text}

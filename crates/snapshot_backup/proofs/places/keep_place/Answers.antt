@@ -2,7 +2,7 @@ use Rattle.std.proofs.Common.{◌≡◌, Err, [], ◌∷◌, rules}
 use Rattle.skeleton.specs.Entries.{total}
 use Rattle.skeleton.specs.declared.entry.EntryKind.TheVariants as kind
 use Rattle.psb_station.specs.Folder.{child}
-use Rattle.node_core.proofs.Presence.{err_as}
+use Rattle.node_history.proofs.Presence.{err_as}
 use Rattle.snapshot_backup.specs.declared.fault.BackupFault.TheVariants as backup_fault
 use Rattle.snapshot_backup.proofs.Fronts.{if_err}
 use Rattle.snapshot_backup.proofs.PlaceRuns.{reads_file, files_none, folder_kept, file_kept, place_untried, place_stopped}

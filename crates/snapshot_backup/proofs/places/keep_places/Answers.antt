@@ -1,5 +1,5 @@
 use Rattle.std.proofs.Common.{◌≡◌, ◌+◌, ◌≤◌, ℕ, List, [], ◌∷◌, ◌++◌, length, take, drop, Err, rules, arith, refl, sym, subst}
-use Rattle.node_core.proofs.Presence.{err_as}
+use Rattle.node_history.proofs.Presence.{err_as}
 use Rattle.snapshots.specs.declared.walking.Found.{Found}
 use Rattle.snapshot_backup.specs.Course.{pieces_of_files}
 use Rattle.snapshot_backup.specs.Endings.{StoppedFor}

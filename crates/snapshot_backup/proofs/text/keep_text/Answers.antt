@@ -1,8 +1,8 @@
-use Rattle.std.proofs.Common.{◌≡◌, ◌+◌, List, ℕ, true, false, map, take, drop, Result, Err, refl, sym, ◌∙◌, subst, rules}
+use Rattle.std.proofs.Common.{◌≡◌, ◌+◌, List, ℕ, true, map, take, drop, Result, Err, refl, sym, ◌∙◌, subst, rules}
 use Rattle.psb_bytes.specs.declared.ids.Ref.{Ref}
 use Rattle.node_core.specs.declared.fault.Fault.{Fault}
 use Rattle.node_core.specs.declared.fault.Fault.TheVariants as fault
-use Rattle.node_core.proofs.Presence.{err_as}
+use Rattle.node_history.proofs.Presence.{err_as}
 use Rattle.rolling_chunks.specs.Laws.{part}
 use Rattle.snapshots.specs.Tickets.{chunks_of}
 use Rattle.snapshots.proofs.Tickets.{span_is_piece}

@@ -1,5 +1,5 @@
 use Rattle.std.proofs.Common.{sym, subst}
-use Rattle.node_core.proofs.Presence.{err_is}
+use Rattle.node_history.proofs.Presence.{err_is}
 use Rattle.snapshot_restore.specs.Fetching.{StopsRound}
 use Rattle.snapshot_restore.proofs.Rounds.{makes_round, stops_round, unbegun_round}
 use Rattle.snapshot_restore.proofs.fetching.make_round.Goals as goal

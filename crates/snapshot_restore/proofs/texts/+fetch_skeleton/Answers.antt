@@ -2,7 +2,7 @@ use Rattle.std.proofs.Common.{◌≡◌, ◌-◌, ℕ, suc, List, ◌++◌, refl
 use Rattle.psb_bytes.specs.declared.ids.Ref.{Ref}
 use Rattle.snapshot_restore.specs.Reading.{IsTextRead}
 use Rattle.snapshot_restore.specs.StoppedTexts.{StopsLevels}
-use Rattle.node_core.proofs.Presence.{ok_map}
+use Rattle.node_history.proofs.Presence.{ok_map}
 use Rattle.snapshot_restore.proofs.Results.{err_also}
 use Rattle.snapshot_restore.proofs.Taking.{takes_then}
 use Rattle.snapshot_restore.proofs.LevelRuns.{levels_cut, levels_stopped}

@@ -7,7 +7,7 @@ use Rattle.psb_model.specs.History.{is_built}
 use Rattle.next_deals.specs.declared.search.Search.{Search}
 use Rattle.next_deals.specs.Searches.{restarts_of, restarted, all_restarted}
 use Rattle.psb_ledger.specs.View.{LedgerView}
-use Rattle.psb_ledger.proofs.Sound.{plain_of}
+use Rattle.psb_ledger.proofs.Sound.{steady_of}
 use Rattle.next_deals.proofs.Searched.{carried, passed_after, written_back}
 use Rattle.next_deals.proofs.planner.Planner.apply.Goals as goal
 
@@ -22,4 +22,4 @@ invariant_of-self c =
     let made : c.restart.new.searches ≡ all_restarted (restarts_of s c.args.c) l.items = search rules in
     carried (after s c.args.c) c.apply.new.self.state (all_restarted (restarts_of s c.args.c) l.items) _ grown
     (written_back (λ (x : Search). restarted (restarts_of s c.args.c) x.peer x) l.items c.restart.new.searches l.len long made)
-    (passed_after s c.args.c l.items (plain_of s c.is_reached.ensures) both.0 both.1 c.self.invariant)
+    (passed_after s c.args.c l.items (steady_of s c.is_reached.ensures) both.1 c.self.invariant)

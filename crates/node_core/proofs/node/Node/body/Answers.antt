@@ -1,9 +1,9 @@
 use Rattle.std.proofs.Common.{◌≡◌, None, true, false, ◌∙◌, rules}
 use Rattle.chunk_store.specs.Store.{record_of}
-use Rattle.node_core.proofs.Presence.{one_there}
-use Rattle.node_core.proofs.Brought.{read_exact}
-use Rattle.node_core.proofs.Less.{last_bytes_less, names_less}
-use Rattle.node_core.proofs.Owned.{named_there}
+use Rattle.node_history.proofs.Presence.{one_there}
+use Rattle.node_history.proofs.Brought.{read_exact}
+use Rattle.node_history.proofs.Less.{last_bytes_less, names_less}
+use Rattle.node_history.proofs.Named.{named_there}
 use Rattle.node_core.proofs.node.Node.body.Goals as goal
 
 pub read-requires-clause-below : goal.read-requires-clause-below

@@ -3,132 +3,121 @@ use Rattle.std.proofs.lemmas.Bool.{and_parts, false≢true}
 use Rattle.psb_model.specs.State.{State}
 use Rattle.psb_model.specs.Conditions.{allowed}
 use Rattle.psb_ledger.specs.View.{LedgerView}
-use Rattle.node_core.specs.Names.{Enters, Enter, IsEntering}
-use Rattle.node_core.proofs.Entered.{names_same, is_new, enters_after, there_same, there_grown}
-use Rattle.node_core.proofs.Ordering.{IsOrdered, ordered_state}
+use Rattle.node_history.specs.Names.{Enters, Enter}
+use Rattle.node_history.proofs.Entered.{names_same, is_new, enters_after, there_same, there_grown}
+use Rattle.node_history.proofs.Ordering.{IsOrdered, ordered_state}
 use Rattle.psb_station.proofs.Spans.{shows_wider}
 use Rattle.psb_model.specs.Effects.{after}
 use Rattle.psb_model.specs.Heads.{head_of}
 use Rattle.node_core.proofs.Committing.{knows_still, counted_still, step_knows, step_stored, step_leaves, stored_room}
-use Rattle.node_core.proofs.Presence.{on_err, log_failed}
+use Rattle.node_history.proofs.Presence.{on_err}
+use Rattle.node_core.proofs.LogFaults.{log_failed}
 use Rattle.node_core.proofs.node.Node.commit.Goals as goal
 
-pub of-requires-clause-own : goal.of-requires-clause-own
-of-requires-clause-own g c =
+pub ready-requires-clause-own : goal.ready-requires-clause-own
+ready-requires-clause-own g c =
     let n = c.requires.known.0 in
     let k = c.requires.known.1 in
-    (subst IsOrdered (sym k.ledger ∙ ap (λ (v : LedgerView). v.state) (sym c.ledger-past.ensures)) (ordered_state n.history k.valid.lawful k.valid.built)).own
+    (subst IsOrdered (sym k.ledger) (ordered_state n.history k.valid.lawful k.valid.built)).own
 
-pub of-requires-clause-kept : goal.of-requires-clause-kept
-of-requires-clause-kept g c =
+pub ready-requires-clause-kept : goal.ready-requires-clause-kept
+ready-requires-clause-kept g c =
     let n = c.requires.known.0 in
     let k = c.requires.known.1 in
-    (subst IsOrdered (sym k.ledger ∙ ap (λ (v : LedgerView). v.state) (sym c.ledger-past.ensures)) (ordered_state n.history k.valid.lawful k.valid.built)).kept
+    (subst IsOrdered (sym k.ledger) (ordered_state n.history k.valid.lawful k.valid.built)).kept
 
 pub enter-requires-clause-fresh : goal.enter-requires-clause-fresh
 enter-requires-clause-fresh g c =
     let n = c.requires.known.0 in
     let k = c.requires.known.1 in
     let node = c.args.self.now in
-    is_new c.make_room-2.new.self n.history node.ledger.state c.args.change c.in_ok-entering.entering (names_same node.names c.make_room-2.new.self n.history (record { owners = c.make_room-2.ensures.owners; records = c.make_room-2.ensures.records }) k.names) k.ledger c.requires.may.read
-    (and_parts _ (allowed node.ledger.state c.args.change) c.requires.may.may).1 (subst (λ (v : LedgerView). IsEntering v.state c.args.change c.in_ok-entering.entering) c.ledger-past.ensures c.in_ok-entering.ensures)
+    is_new c.ready.new.names n.history node.ledger.state c.args.change c.in_ok-entering.entering (names_same node.names c.ready.new.names n.history (c.ready.ensures.names) k.names) k.ledger c.requires.may.read
+    (and_parts _ (allowed node.ledger.state c.args.change) c.requires.may.may).1 c.in_ok-entering.ensures.entering
 
-pub returns-in_err-make_room-2-clause-kept : goal.returns-in_err-make_room-2-clause-kept
-returns-in_err-make_room-2-clause-kept g c = on_err c.from_residual-in_err-make_room-2.result _ (λ whole. (
-  λ n k. knows_still c.args.self.now _ n c.in_ok-make_room.ensures.state (record { owners = c.make_room-2.ensures.owners; records = c.make_room-2.ensures.records }) (record { peers = refl; seed = refl; issued = omega arith }) refl (λ q. q) k,
-  λ tells h s. stored_room g.L.Log.holds c.args.self.now _ h _ (λ es i held. held) s,
+pub returns-in_err-entering-clause-kept : goal.returns-in_err-entering-clause-kept
+returns-in_err-entering-clause-kept g c = on_err c.from_residual-in_err-entering.result _ (λ whole. (
+  λ n k. knows_still c.args.self.now _ n c.ready.ensures.state (c.ready.ensures.names) (record { peers = refl; seed = refl; issued = omega arith }) refl (λ q. q) k,
+  λ tells h s. stored_room g.L.Log.holds c.args.self.now _ h _ c.ready.ensures.holds s,
 ))
 
-pub returns-in_err-make_room-3-clause-kept : goal.returns-in_err-make_room-3-clause-kept
-returns-in_err-make_room-3-clause-kept g c = on_err c.from_residual-in_err-make_room-3.result _ (λ whole. (
-  λ n k. knows_still c.args.self.now _ n c.in_ok-make_room.ensures.state (record { owners = c.make_room-2.ensures.owners; records = c.make_room-2.ensures.records }) (record { peers = refl; seed = refl; issued = omega arith }) refl (λ q. q) k,
-  λ tells h s. stored_room g.L.Log.holds c.args.self.now _ h _ c.make_room-3.ensures.holds s,
-))
-
-pub returns-in_err-make_room-clause-again : goal.returns-in_err-make_room-clause-again
-returns-in_err-make_room-clause-again g c = on_err c.from_residual-in_err-make_room.result _ (λ whole. counted_still g.L.Log.size g.L.Log.keeps_body c.args.self.now _ c.make_room.ensures.state (record { owners = λ o q. refl; records = λ q. refl }) refl (λ i. refl) c.requires.counted)
-
-pub returns-in_err-make_room-2-clause-again : goal.returns-in_err-make_room-2-clause-again
-returns-in_err-make_room-2-clause-again g c = on_err c.from_residual-in_err-make_room-2.result _ (λ whole. counted_still g.L.Log.size g.L.Log.keeps_body c.args.self.now _ c.in_ok-make_room.ensures.state (record { owners = c.make_room-2.ensures.owners; records = c.make_room-2.ensures.records }) refl (λ i. refl) c.requires.counted)
-
-pub returns-in_err-make_room-3-clause-again : goal.returns-in_err-make_room-3-clause-again
-returns-in_err-make_room-3-clause-again g c = on_err c.from_residual-in_err-make_room-3.result _ (λ whole. counted_still g.L.Log.size g.L.Log.keeps_body c.args.self.now _ c.in_ok-make_room.ensures.state (record { owners = c.make_room-2.ensures.owners; records = c.make_room-2.ensures.records }) c.make_room-3.ensures.size c.make_room-3.ensures.bodies c.requires.counted)
+pub returns-in_err-entering-clause-again : goal.returns-in_err-entering-clause-again
+returns-in_err-entering-clause-again g c = on_err c.from_residual-in_err-entering.result _ (λ whole. counted_still g.L.Log.size g.L.Log.keeps_body c.args.self.now _ c.ready.ensures.state (c.ready.ensures.names) c.ready.ensures.size c.ready.ensures.bodies c.requires.counted)
 
 pub returns-in_err-number-clause-any_moment : goal.returns-in_err-number-clause-any_moment
 returns-in_err-number-clause-any_moment g c = λ tells n m valid step s.
     let head_is : c.deref.result.now ≡ head_of c.args.change = search rules in
     step_leaves g.L.Log.holds g.L.Log.stands c.args.self.now n m c.args.change c.deref.result.now c.body_part-body.result.now _ _ _ _ c.requires.may valid step head_is c.body_part-body.ensures s
-    (c.in_err-number.ensures.any_moment (c.in_ok-make_room-3.ensures.broken ∙ c.requires.whole) tells s.records (shows_wider (g.L.Log.holds c.args.self.now.log s.records) (g.L.Log.holds c.make_room-3.new.self s.records) _ (λ i held. c.in_ok-make_room-3.ensures.holds s.records i held) s.shows))
+    (c.in_err-number.ensures.any_moment (c.ready.ensures.broken ∙ c.requires.whole) tells s.records (shows_wider (g.L.Log.holds c.args.self.now.log s.records) (g.L.Log.holds c.ready.new.log s.records) _ (λ i held. c.ready.ensures.holds s.records i held) s.shows))
 
 pub returns-clause-step : goal.returns-clause-step
 returns-clause-step g c = λ n m k step.
     let grown : c.apply.new.self.state ≡ after c.args.self.now.ledger.state c.args.change = search rules in
     let issued : c.apply.new.self.state.issued ≤ c.issue_to.new.claims.issued = omega (arith, c.issued.ensures, ap (λ (v : LedgerView). v.state.issued) c.ledger-left.ensures, c.issue_to.ensures.issued) in
-    let entered = enters_after c.args.self.now.ledger.state c.apply.new.self.state n.history c.make_room-2.new.self c.enter.new.names c.args.change c.in_ok-entering.entering c.in_ok-number.number k.ledger k.valid.lawful k.valid.built c.requires.may.read grown (subst (λ (v : LedgerView). IsEntering v.state c.args.change c.in_ok-entering.entering) c.ledger-past.ensures c.in_ok-entering.ensures) (subst (λ (v : LedgerView). Enter v.state.own c.make_room-2.new.self c.enter.new.names c.in_ok-entering.entering c.in_ok-number.number) c.ledger-left.ensures c.enter.ensures) in
-    step_knows c.args.self.now _ n m c.args.change c.make_room-2.new.self c.in_ok-number.number c.requires.may k step grown (record { owners = c.make_room-2.ensures.owners; records = c.make_room-2.ensures.records }) entered
-    (c.requires.counted.changes ∙ sym c.in_ok-make_room-3.ensures.size ∙ sym c.in_ok-number.ensures.number) (record { peers = refl; seed = c.issue_to.ensures.seed; issued = c.issue_to.ensures.stay }) issued (search rules) c.note_question.ensures
+    let entered = enters_after c.args.self.now.ledger.state c.apply.new.self.state n.history c.ready.new.names c.enter.new.names c.args.change c.in_ok-entering.entering c.in_ok-number.number k.ledger k.valid.lawful k.valid.built c.requires.may.read grown c.in_ok-entering.ensures.entering (subst (λ (v : LedgerView). Enter v.state.own c.ready.new.names c.enter.new.names c.in_ok-entering.entering c.in_ok-number.number) c.ledger-left.ensures c.enter.ensures) in
+    step_knows c.args.self.now _ n m c.args.change c.ready.new.names c.in_ok-number.number c.requires.may k step grown (c.ready.ensures.names) entered
+    (c.requires.counted.changes ∙ sym c.ready.ensures.size ∙ sym c.in_ok-number.ensures.number) (record { peers = refl; seed = c.issue_to.ensures.seed; issued = c.issue_to.ensures.stay }) issued (search rules) c.note_question.ensures
 
 pub returns-clause-counted : goal.returns-clause-counted
 returns-clause-counted g c =
     let node = c.args.self.now in
     let grown : c.apply.new.self.state ≡ after node.ledger.state c.args.change = search rules in
-    let long : g.L.Log.size c.append.new.self ≡ g.L.Log.size node.log + 1 = c.in_ok-number.ensures.size ∙ ap (λ (i : ℕ). i + 1) c.in_ok-make_room-3.ensures.size in
-    let here : c.in_ok-number.number ≡ g.L.Log.size node.log = c.in_ok-number.ensures.number ∙ c.in_ok-make_room-3.ensures.size in
+    let long : g.L.Log.size c.append.new.self ≡ g.L.Log.size node.log + 1 = c.in_ok-number.ensures.size ∙ ap (λ (i : ℕ). i + 1) c.ready.ensures.size in
+    let here : c.in_ok-number.number ≡ g.L.Log.size node.log = c.in_ok-number.ensures.number ∙ c.ready.ensures.size in
     let n = c.requires.known.0 in
     let k = c.requires.known.1 in
-    let entered = enters_after node.ledger.state c.apply.new.self.state n.history c.make_room-2.new.self c.enter.new.names c.args.change c.in_ok-entering.entering c.in_ok-number.number k.ledger k.valid.lawful k.valid.built c.requires.may.read grown (subst (λ (v : LedgerView). IsEntering v.state c.args.change c.in_ok-entering.entering) c.ledger-past.ensures c.in_ok-entering.ensures) (subst (λ (v : LedgerView). Enter v.state.own c.make_room-2.new.self c.enter.new.names c.in_ok-entering.entering c.in_ok-number.number) c.ledger-left.ensures c.enter.ensures) in
+    let entered = enters_after node.ledger.state c.apply.new.self.state n.history c.ready.new.names c.enter.new.names c.args.change c.in_ok-entering.entering c.in_ok-number.number k.ledger k.valid.lawful k.valid.built c.requires.may.read grown c.in_ok-entering.ensures.entering (subst (λ (v : LedgerView). Enter v.state.own c.ready.new.names c.enter.new.names c.in_ok-entering.entering c.in_ok-number.number) c.ledger-left.ensures c.enter.ensures) in
     record {
       changes = omega (arith, ap (λ (s : State). s.changes) grown, c.requires.counted.changes, long);
-      bodies = there_grown node.ledger.state c.make_room-2.new.self c.enter.new.names c.args.change (g.L.Log.size node.log) (g.L.Log.size c.append.new.self) (g.L.Log.keeps_body node.log) (g.L.Log.keeps_body c.append.new.self) c.requires.may.read long
-          (λ i lt. c.in_ok-number.ensures.bodies i (omega (arith, lt, c.in_ok-make_room-3.ensures.size)) ∙ c.in_ok-make_room-3.ensures.bodies i)
-          (subst (λ (i : ℕ). g.L.Log.keeps_body c.append.new.self i ≡ true) c.in_ok-make_room-3.ensures.size c.in_ok-number.ensures.there)
-          (there_same node.names c.make_room-2.new.self (g.L.Log.size node.log) (g.L.Log.keeps_body node.log) (record { owners = c.make_room-2.ensures.owners; records = c.make_room-2.ensures.records }) c.requires.counted.bodies)
-          (subst (λ (i : ℕ). Enters node.ledger.state c.make_room-2.new.self c.enter.new.names c.args.change i) here entered);
+      bodies = there_grown node.ledger.state c.ready.new.names c.enter.new.names c.args.change (g.L.Log.size node.log) (g.L.Log.size c.append.new.self) (g.L.Log.keeps_body node.log) (g.L.Log.keeps_body c.append.new.self) c.requires.may.read long
+          (λ i lt. c.in_ok-number.ensures.bodies i (omega (arith, lt, c.ready.ensures.size)) ∙ c.ready.ensures.bodies i)
+          (subst (λ (i : ℕ). g.L.Log.keeps_body c.append.new.self i ≡ true) c.ready.ensures.size c.in_ok-number.ensures.there)
+          (there_same node.names c.ready.new.names (g.L.Log.size node.log) (g.L.Log.keeps_body node.log) (c.ready.ensures.names) c.requires.counted.bodies)
+          (subst (λ (i : ℕ). Enters node.ledger.state c.ready.new.names c.enter.new.names c.args.change i) here entered);
     }
 
 pub returns-clause-disk : goal.returns-clause-disk
 returns-clause-disk g c = λ tells n m step s.
     let head_is : c.deref.result.now ≡ head_of c.args.change = search rules in
     step_stored g.L.Log.holds c.args.self.now _ n m c.args.change c.deref.result.now c.body_part-body.result.now _ _ c.requires.may step head_is c.body_part-body.ensures s
-    (c.in_ok-number.ensures.added tells s.records (shows_wider (g.L.Log.holds c.args.self.now.log s.records) (g.L.Log.holds c.make_room-3.new.self s.records) _ (λ i held. c.in_ok-make_room-3.ensures.holds s.records i held) s.shows))
+    (c.in_ok-number.ensures.added tells s.records (shows_wider (g.L.Log.holds c.args.self.now.log s.records) (g.L.Log.holds c.ready.new.log s.records) _ (λ i held. c.ready.ensures.holds s.records i held) s.shows))
 
 pub returns-clause-any_moment : goal.returns-clause-any_moment
 returns-clause-any_moment g c = λ tells n m valid step s.
     let head_is : c.deref.result.now ≡ head_of c.args.change = search rules in
     step_leaves g.L.Log.holds g.L.Log.stands c.args.self.now n m c.args.change c.deref.result.now c.body_part-body.result.now _ _ _ _ c.requires.may valid step head_is c.body_part-body.ensures s
-    (c.in_ok-number.ensures.any_moment (c.in_ok-make_room-3.ensures.broken ∙ c.requires.whole) tells s.records (shows_wider (g.L.Log.holds c.args.self.now.log s.records) (g.L.Log.holds c.make_room-3.new.self s.records) _ (λ i held. c.in_ok-make_room-3.ensures.holds s.records i held) s.shows))
+    (c.in_ok-number.ensures.any_moment (c.ready.ensures.broken ∙ c.requires.whole) tells s.records (shows_wider (g.L.Log.holds c.args.self.now.log s.records) (g.L.Log.holds c.ready.new.log s.records) _ (λ i held. c.ready.ensures.holds s.records i held) s.shows))
 
 pub returns-in_err-number-clause-disk_cause : goal.returns-in_err-number-clause-disk_cause
 returns-in_err-number-clause-disk_cause g c =
-    let failed = log_failed _ c.from_residual-in_err-number.result _ _ (c.in_ok-make_room-3.ensures.broken ∙ c.requires.whole) c.in_err-number.ensures.refused c.in_err-number.ensures.only refl c.from_residual-in_err-number.ensures.0 c.from_residual-in_err-number.ensures.1 in
+    let failed = log_failed _ c.from_residual-in_err-number.result _ _ (c.ready.ensures.broken ∙ c.requires.whole) c.in_err-number.ensures.refused c.in_err-number.ensures.only refl c.from_residual-in_err-number.ensures.0 c.from_residual-in_err-number.ensures.1 in
     λ _. c.in_err-number.ensures.disk_cause failed.0
 
 pub returns-in_err-number-clause-steady : goal.returns-in_err-number-clause-steady
 returns-in_err-number-clause-steady g c =
-    let failed = log_failed _ c.from_residual-in_err-number.result _ _ (c.in_ok-make_room-3.ensures.broken ∙ c.requires.whole) c.in_err-number.ensures.refused c.in_err-number.ensures.only refl c.from_residual-in_err-number.ensures.0 c.from_residual-in_err-number.ensures.1 in
+    let failed = log_failed _ c.from_residual-in_err-number.result _ _ (c.ready.ensures.broken ∙ c.requires.whole) c.in_err-number.ensures.refused c.in_err-number.ensures.only refl c.from_residual-in_err-number.ensures.0 c.from_residual-in_err-number.ensures.1 in
     inl failed.1
 
 pub returns-in_err-number-clause-breaks : goal.returns-in_err-number-clause-breaks
 returns-in_err-number-clause-breaks g c =
-    let failed = log_failed _ c.from_residual-in_err-number.result _ _ (c.in_ok-make_room-3.ensures.broken ∙ c.requires.whole) c.in_err-number.ensures.refused c.in_err-number.ensures.only refl c.from_residual-in_err-number.ensures.0 c.from_residual-in_err-number.ensures.1 in
+    let failed = log_failed _ c.from_residual-in_err-number.result _ _ (c.ready.ensures.broken ∙ c.requires.whole) c.in_err-number.ensures.refused c.in_err-number.ensures.only refl c.from_residual-in_err-number.ensures.0 c.from_residual-in_err-number.ensures.1 in
     (λ _. failed.1, λ _. c.in_err-number.ensures.breaks.1 (inr failed.0))
 
 pub returns-in_err-number-clause-write_cause : goal.returns-in_err-number-clause-write_cause
 returns-in_err-number-clause-write_cause g c =
-    let failed = log_failed _ c.from_residual-in_err-number.result _ _ (c.in_ok-make_room-3.ensures.broken ∙ c.requires.whole) c.in_err-number.ensures.refused c.in_err-number.ensures.only refl c.from_residual-in_err-number.ensures.0 c.from_residual-in_err-number.ensures.1 in
+    let failed = log_failed _ c.from_residual-in_err-number.result _ _ (c.ready.ensures.broken ∙ c.requires.whole) c.in_err-number.ensures.refused c.in_err-number.ensures.only refl c.from_residual-in_err-number.ensures.0 c.from_residual-in_err-number.ensures.1 in
     λ _. c.in_err-number.ensures.write_cause failed.0
 
 pub returns-in_err-number-clause-again : goal.returns-in_err-number-clause-again
 returns-in_err-number-clause-again g c =
-    let failed = log_failed _ c.from_residual-in_err-number.result _ _ (c.in_ok-make_room-3.ensures.broken ∙ c.requires.whole) c.in_err-number.ensures.refused c.in_err-number.ensures.only refl c.from_residual-in_err-number.ensures.0 c.from_residual-in_err-number.ensures.1 in
+    let failed = log_failed _ c.from_residual-in_err-number.result _ _ (c.ready.ensures.broken ∙ c.requires.whole) c.in_err-number.ensures.refused c.in_err-number.ensures.only refl c.from_residual-in_err-number.ensures.0 c.from_residual-in_err-number.ensures.1 in
     on_err c.from_residual-in_err-number.result _ (λ whole. absurd (false≢true (sym whole ∙ c.in_err-number.ensures.breaks.1 (inr failed.0))))
 
 pub returns-in_err-number-clause-kept : goal.returns-in_err-number-clause-kept
 returns-in_err-number-clause-kept g c =
-    let failed = log_failed _ c.from_residual-in_err-number.result _ _ (c.in_ok-make_room-3.ensures.broken ∙ c.requires.whole) c.in_err-number.ensures.refused c.in_err-number.ensures.only refl c.from_residual-in_err-number.ensures.0 c.from_residual-in_err-number.ensures.1 in
+    let failed = log_failed _ c.from_residual-in_err-number.result _ _ (c.ready.ensures.broken ∙ c.requires.whole) c.in_err-number.ensures.refused c.in_err-number.ensures.only refl c.from_residual-in_err-number.ensures.0 c.from_residual-in_err-number.ensures.1 in
     on_err c.from_residual-in_err-number.result _ (λ whole. absurd (false≢true (sym whole ∙ c.in_err-number.ensures.breaks.1 (inr failed.0))))
 
 pub returns-in_err-number-clause-only : goal.returns-in_err-number-clause-only
 returns-in_err-number-clause-only g c =
-    let failed = log_failed _ c.from_residual-in_err-number.result _ _ (c.in_ok-make_room-3.ensures.broken ∙ c.requires.whole) c.in_err-number.ensures.refused c.in_err-number.ensures.only refl c.from_residual-in_err-number.ensures.0 c.from_residual-in_err-number.ensures.1 in
+    let failed = log_failed _ c.from_residual-in_err-number.result _ _ (c.ready.ensures.broken ∙ c.requires.whole) c.in_err-number.ensures.refused c.in_err-number.ensures.only refl c.from_residual-in_err-number.ensures.0 c.from_residual-in_err-number.ensures.1 in
     on_err c.from_residual-in_err-number.result _ (inl failed.1)

@@ -3,7 +3,7 @@ use Rattle.std.specs.Option.{option_map}
 use Rattle.psb_machine.specs.Proposals.{is_askable}
 use Rattle.node_core.specs.Stored.{Knows, Stored}
 use Rattle.node_core.specs.Asking.{asking_in}
-use Rattle.node_core.proofs.Presence.{ok_map, ok_map2, ok_map3}
+use Rattle.node_history.proofs.Presence.{ok_map, ok_map2, ok_map3}
 use Rattle.node_core.proofs.Ticks.{asked_now, none_asks, asks_so, asks_here, asks_deal, asks_deal_so, asks_askable, asks_bare, asks_may_come, next_number}
 use Rattle.node_core.proofs.node.Node.deal_at.Goals as goal
 

@@ -1,8 +1,8 @@
-use Rattle.std.proofs.Common.{◌≡◌, ⊎_elim, List, ℕ, true, rules, sym, ap, ◌∙◌}
+use Rattle.std.proofs.Common.{◌≡◌, ⊎_elim, List, ℕ, rules, sym, ap, ◌∙◌}
 use Rattle.std.proofs.lemmas.Bool.{true≢false}
 use Rattle.psb_model.specs.declared.deals.DealWhat.TheVariants.{Swap}
 use Rattle.psb_machine.specs.Proposals.{brings_bytes, frame_of}
-use Rattle.node_core.proofs.Presence.{ok_map}
+use Rattle.node_history.proofs.Presence.{ok_map}
 use Rattle.node_core.proofs.node.Node.frame_of.Goals as goal
 
 pub returns-in-Swap-clause-exact : goal.returns-in-Swap-clause-exact

@@ -1,6 +1,6 @@
 use Rattle.std.proofs.Common.{rules, length, ap, arith}
 use Rattle.psb_machine.specs.Machine.{Datagram}
-use Rattle.node_core.proofs.Presence.{ok_map, ok_map2, ok_map3}
+use Rattle.node_history.proofs.Presence.{ok_map, ok_map2, ok_map3}
 use Rattle.node_core.proofs.Reacting.{reacts_made, reacts_made_so, made_may_come, makes_few, unread_unheld, reacts_again, reacts_again_so, never_unread, reacts_given, reacts_given_so, never_unread_get}
 use Rattle.node_core.proofs.Settles.{reacts_settled, reacts_settled_so, settled_may_come}
 use Rattle.node_core.proofs.Ticks.{reacts_so}

@@ -1,7 +1,7 @@
 use Rattle.std.proofs.Common.{rules, arith, subst}
 use Rattle.psb_model.specs.History.{state}
 use Rattle.node_core.specs.Refusing.{Compared}
-use Rattle.node_core.proofs.Presence.{one_there}
+use Rattle.node_history.proofs.Presence.{one_there}
 use Rattle.node_core.proofs.Owned.{found_stored, keep_fits, keep_may_come, keeps_new, keeps_taken, new_is}
 use Rattle.node_core.proofs.node.Node.on_keep.Goals as goal
 

@@ -1,7 +1,7 @@
 -- The name is in the tree, or it is that of the newest.
 use Rattle.std.proofs.Common.{◌∙◌, ◌||◌, sym, ap}
 use Rattle.own_chunks.specs.OwnList.{is_newest}
-use Rattle.peer_account.proofs.NameOrder.{by_name}
+use Rattle.own_deals.proofs.NameOrder.{by_name}
 use Rattle.own_chunks.proofs.OwnTrees.{tree_has_own}
 use Rattle.own_chunks.specs.OwnTree.{OwnView}
 use Rattle.psb_model.specs.State.{own_has}

@@ -1,6 +1,6 @@
 -- The tree has the mark, or the newest has it.
 use Rattle.std.proofs.Common.{◌∙◌, rules, ap}
-use Rattle.peer_account.proofs.NameOrder.{by_name}
+use Rattle.own_deals.proofs.NameOrder.{by_name}
 use Rattle.own_chunks.proofs.OwnTrees.{marked_in_tree, marked_of_newest}
 use Rattle.own_chunks.specs.OwnTree.{OwnView}
 use Rattle.peer_lists.specs.Entries.{in_order}

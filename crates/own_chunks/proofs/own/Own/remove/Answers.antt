@@ -1,6 +1,6 @@
 -- The name leaves the tree, or it is that of the newest.
 use Rattle.std.proofs.Common.{◌∙◌, ap}
-use Rattle.peer_account.proofs.NameOrder.{by_name}
+use Rattle.own_deals.proofs.NameOrder.{by_name}
 use Rattle.own_chunks.proofs.OwnTrees.{out_of_own}
 use Rattle.own_chunks.specs.OwnTree.{OwnView}
 use Rattle.peer_lists.specs.Entries.{in_order}

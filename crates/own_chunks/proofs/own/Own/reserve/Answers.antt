@@ -1,6 +1,6 @@
 -- The newest goes to its place in the order.
 use Rattle.std.proofs.Common.{◌∙◌, ap}
-use Rattle.peer_account.proofs.NameOrder.{by_name}
+use Rattle.own_deals.proofs.NameOrder.{by_name}
 use Rattle.own_chunks.proofs.OwnTrees.{newest_put}
 use Rattle.own_chunks.specs.OwnTree.{OwnView}
 use Rattle.peer_lists.specs.Entries.{in_order}

@@ -18,8 +18,8 @@ returns-clause-list g c =
     let l = tree_items key joined t.chunks in
     let e = c.args.entry in
     record {
-      ordered = ap (in_order key) c.insert.ensures ∙ in_order_with key e l c.requires.list.ordered (lacks_front key l (slot_items key joined (runs t.slots)) (key e) c.requires.absent);
-      chunks = ap (chunks key) c.insert.ensures ∙ all_with_one key (λ x. is_chunk (key x)) e l c.requires.chunk c.requires.list.chunks;
+      ordered = ap (in_order key) c.insert.ensures.items ∙ in_order_with key e l c.requires.list.ordered (lacks_front key l (slot_items key joined (runs t.slots)) (key e) c.requires.absent);
+      chunks = ap (chunks key) c.insert.ensures.items ∙ all_with_one key (λ x. is_chunk (key x)) e l c.requires.chunk c.requires.list.chunks;
       slots = c.requires.list.slots;
     }
 
@@ -29,4 +29,4 @@ returns-clause-items g c =
     let joined = g.E.Entry.joined in
     let t = c.args.self.now in
     let s = slot_items key joined (runs t.slots) in
-    ap (λ l. l ++ s) c.insert.ensures ∙ chunk_in key c.args.entry (tree_items key joined t.chunks) s c.requires.chunk (table_of key joined g.met.E.Entry.key_joined (runs t.slots) c.requires.list.slots.are).slots
+    ap (λ l. l ++ s) c.insert.ensures.items ∙ chunk_in key c.args.entry (tree_items key joined t.chunks) s c.requires.chunk (table_of key joined g.met.E.Entry.key_joined (runs t.slots) c.requires.list.slots.are).slots

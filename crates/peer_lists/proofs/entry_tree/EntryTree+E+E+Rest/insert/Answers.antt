@@ -4,8 +4,8 @@ use Rattle.peer_lists.specs.Trees.{items_of}
 use Rattle.peer_lists.proofs.Trees.{with_more, joins}
 use Rattle.peer_lists.proofs.entry_tree.EntryTree+E+E+Rest.insert.Goals as goal
 
-pub returns : goal.returns
-returns g c =
+pub returns-clause-items : goal.returns-clause-items
+returns-clause-items g c =
     let key = g.E.Entry.key in
     let joined = g.E.Entry.joined in
     let t = c.args.self.now in

@@ -1,5 +1,0 @@
-use Rattle.node_core.proofs.Less.{less_same}
-use Rattle.node_core.proofs.laws.less_gives_the_same.Goals as goal
-
-pub returns : goal.returns
-returns c = less_same

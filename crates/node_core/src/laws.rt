@@ -1,8 +1,0 @@
-//! The laws of the histories that a disk may hold.
-ghost use Rattle.node_core.specs.Less.{LessGivesTheSame};
-
-/// A history and the same less bodies that were given up give one state; and where what is left is valid, the same
-/// bytes are held under each name. So a node that is opened goes on as the history has it.
-pub fn less_gives_the_same()
-    ensures { LessGivesTheSame }
-{}

@@ -1,0 +1,15 @@
+pub mod OwnWalks
+pub mod Walking
+pub mod Dropping
+pub mod Ordering
+pub mod Brought
+pub mod Entered
+pub mod SlotKeys
+pub mod Lacks
+pub mod Reading
+pub mod Less
+pub mod Named
+pub mod Reopened
+pub mod Appending
+pub mod Presence
+pub mod Handed

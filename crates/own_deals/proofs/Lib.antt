@@ -1,0 +1,3 @@
+pub mod NameOrder
+pub mod Numbers
+pub mod BarredNumbers

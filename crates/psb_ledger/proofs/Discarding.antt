@@ -1,0 +1,219 @@
+-- A discard: which entries the node's own words take, entry by entry, and what the change leaves.
+use Rattle.std.proofs.Common.{◌≡◌, ℕ, zero, suc, ◌+◌, ◌-◌, ◌*◌, ◌≤◌, ◌<◌, ◌^◌, Bool, true, false, not, ◌&&◌, ◌||◌, cond, List, [], ◌∷◌, ◌++◌, length, map, filter, drop, sum_by, Option, Some, None, refl, sym, ap, ◌∙◌, subst, arith, append-nil}
+use Rattle.std.specs.Prelude.{◌==◌, ◌%◌, nat_le, nat_lt}
+use Rattle.std.specs.List.{list_all}
+use Rattle.std.proofs.lemmas.Bool.{and_parts, leb-true}
+use Rattle.std.proofs.lemmas.Bool.Decides.{nat_tests}
+use Rattle.psb_bytes.specs.declared.ids.Object.{Object}
+use Rattle.psb_bytes.specs.declared.ids.Object.TheVariants.{Chunk}
+use Rattle.psb_digest.specs.Words.{Reader, word, own_word}
+use Rattle.psb_settings.specs.declared.settings.Settings.{Settings}
+use Rattle.psb_model.specs.declared.entries.InEntry.{InEntry}
+use Rattle.psb_model.specs.declared.entries.DebtEntry.{DebtEntry}
+use Rattle.psb_model.specs.declared.change.Change.TheVariants as change
+use Rattle.psb_model.specs.declared.kinds.Discarded.{Discarded}
+use Rattle.psb_model.specs.Words.{name_listed, has, only, without}
+use Rattle.psb_model.specs.State.{Row, State, row, tied_in, in_key, in_size, out_key, debt_key, debt_units, coming}
+use Rattle.psb_model.specs.Discards.{is_picked, picks, one_in, discards, seed}
+use Rattle.psb_model.specs.Conditions.{same_objects, capacity}
+use Rattle.psb_model.specs.Move.{Move, still, use_up, after_move}
+use Rattle.psb_model.specs.Effects.{deal_name, pending_name}
+use Rattle.psb_model.proofs.ByObject.{by_cases, all_kept}
+use Rattle.psb_model.proofs.Balance.{steps}
+use Rattle.psb_model.proofs.Steady.{allows}
+use Rattle.psb_model.proofs.Steps.{Step}
+use Rattle.psb_model.proofs.Bare.{changed}
+use Rattle.discard_policy.specs.Drawing.{drawn}
+use Rattle.discard_policy.proofs.Draws.{own_reader, own_picks, draw_step}
+use Rattle.peer_lists.specs.Entries.{in_order}
+use Rattle.peer_lists.specs.Walks.{entry_after}
+use Rattle.peer_lists.proofs.Next.{behind, behind_none, behind_next, behind_end}
+use Rattle.peer_lists.proofs.Trees.{without_none}
+use Rattle.peer_account.specs.View.{AccountView, discarded_row}
+use Rattle.peer_account.specs.OwnDeals.{row_names}
+use Rattle.own_chunks.specs.OwnList.{own_key}
+use Rattle.psb_ledger.specs.declared.ledger.Ledger.TheInside.{Inside}
+use Rattle.psb_ledger.specs.View.{HasListRoom, IsReached}
+use Rattle.psb_ledger.specs.Moves.{CanDiscard}
+use Rattle.psb_ledger.specs.Discarding.{untied}
+use Rattle.psb_ledger.proofs.Places.{found_here, found_peer, found_account}
+use Rattle.psb_ledger.proofs.Sound.{state_of, view_of, good_of}
+use Rattle.psb_ledger.proofs.Peers.{IsAt, makes_own, released_at, row_at, within_used, kept_all}
+use Rattle.psb_ledger.proofs.Weights.{weighs, weigh_row, few_ins}
+
+-- THE OBJECTS OF A LIST, ONE AFTER ANOTHER
+
+-- nothing more is listed
+no_more : (os : List Object) (n : ℕ) → n ≤ length os → same_objects (drop n os) [] ≡ (n == length os)
+no_more [] zero le = refl
+no_more [] (suc n) le = absurd (omega (arith, le))
+no_more (x ∷ xs) zero le = grind (arith, nat_tests)
+no_more (x ∷ xs) (suc n) le = no_more xs n (omega (arith, le)) ∙ more n (length xs)
+  where
+    more : (a b : ℕ) → (a == b) ≡ (suc a == suc b)
+    more a b = grind (arith, nat_tests)
+
+pub none_listed : (os : List Object) → (length os == 0) ≡ same_objects os []
+none_listed [] = refl
+none_listed (x ∷ xs) = grind (arith, nat_tests)
+
+-- THE ENTRIES THAT ARE TAKEN
+
+-- a tied entry is passed over
+pub tied_passes : (s : State) (p : ℕ) (e : InEntry) → true ≡ tied_in s p e.object → (es : List InEntry) → untied s p (e ∷ es) ≡ untied s p es
+tied_passes s p e is es = rw (sym is) refl
+
+-- any other is offered
+pub untied_offered : (s : State) (p : ℕ) (r t : Reader) (every every_then left room left_then room_then : ℕ) (e : InEntry) (b : Bool)
+    → false ≡ tied_in s p e.object → b ≡ is_picked every (word r.key r.stream r.place) left room e → t ≡ record r { place = (r.place + 1) % 2 ^ 68 } → every_then ≡ every → left_then ≡ cond b (left - e.units) left → room_then ≡ cond b (room - 1) room
+    → (es : List InEntry) → picks (drawn r) every 0 left room (untied s p (e ∷ es)) ≡ cond b (e ∷ []) [] ++ picks (drawn t) every_then 0 left_then room_then (untied s p es)
+untied_offered s p r t every every_then left room left_then room_then e b is picked moved same left_is room_is es =
+    let offered : picks (drawn r) every 0 left room (untied s p (e ∷ es)) ≡ cond b (e ∷ []) [] ++ picks (drawn t) every 0 left_then room_then (untied s p es) =
+    rw (sym is) (draw_step r t every left room left_then room_then e (untied s p es) b picked moved left_is room_is) in
+    offered ∙ ap (λ (g : ℕ). cond b (e ∷ []) [] ++ picks (drawn t) g 0 left_then room_then (untied s p es)) (sym same)
+
+-- what is to be taken of those behind a place, at first of all
+abbrev pub to_take : State → ℕ → Reader → ℕ → ℕ → ℕ → Option Object → List InEntry → List Object
+to_take s p t every left room place l = map in_key (picks (drawn t) every 0 left room (untied s p (behind in_key place l)))
+
+pub take_first : (s : State) (p : ℕ) (t : Reader) (every left room : ℕ) (l : List InEntry) → map in_key (picks (drawn t) every 0 left room (untied s p l)) ≡ to_take s p t every left room None l
+take_first s p t every left room l = ap (λ (xs : List InEntry). map in_key (picks (drawn t) every 0 left room (untied s p xs))) (sym (behind_none in_key l))
+
+pub take_step : (s : State) (p : ℕ) (l : List InEntry) (place : Option Object) (e : InEntry) (b : Bool) (t t' : Reader) (every every' left left' room room' : ℕ)
+    → in_order in_key l ≡ true → Some e ≡ entry_after in_key place l
+    → ((es : List InEntry) → picks (drawn t) every 0 left room (untied s p (e ∷ es)) ≡ cond b (e ∷ []) [] ++ picks (drawn t') every' 0 left' room' (untied s p es))
+    → to_take s p t every left room place l ≡ cond b (e.object ∷ []) [] ++ to_take s p t' every' left' room' (Some e.object) l
+take_step s p l place e b t t' every every' left left' room room' ordered next taken =
+    let es = behind in_key (Some e.object) l in
+    ap (λ (xs : List InEntry). map in_key (picks (drawn t) every 0 left room (untied s p xs))) (behind_next in_key place l e ordered next)
+    ∙ ap (map in_key) (taken es)
+    ∙ by_choice b (picks (drawn t') every' 0 left' room' (untied s p es))
+  where
+    by_choice : (c : Bool) (ps : List InEntry) → map in_key (cond c (e ∷ []) [] ++ ps) ≡ cond c (e.object ∷ []) [] ++ map in_key ps
+    by_choice true ps = refl
+    by_choice false ps = refl
+
+-- so the comparison goes on, where the entry is passed over, and where it is taken and listed; and else it fails
+pub goes_on : (seen now next : List Object) (o : Object) (x b : Bool) → x ≡ same_objects seen now → now ≡ cond b (o ∷ []) [] ++ next → b ≡ false → x ≡ same_objects seen next
+goes_on seen now next o x b was step passed = was ∙ ap (same_objects seen) (step ∙ ap (λ t. cond t (o ∷ []) [] ++ next) passed)
+
+told_then : (os : List Object) (n : ℕ) (now next : List Object) (o : Object) (x b at : Bool) → x ≡ same_objects (drop n os) now → now ≡ cond b (o ∷ []) [] ++ next → b ≡ true → ((rest : List Object) → same_objects (drop n os) (o ∷ rest) ≡ (at && same_objects (drop (n + 1) os) rest)) → x ≡ (at && same_objects (drop (n + 1) os) next)
+told_then os n now next o x b at was step taken told = was ∙ ap (same_objects (drop n os)) (step ∙ ap (λ t. cond t (o ∷ []) [] ++ next) taken) ∙ told next
+
+pub goes_on_listed : (os : List Object) (n : ℕ) (now next : List Object) (o : Object) (x b at : Bool) → x ≡ same_objects (drop n os) now → now ≡ cond b (o ∷ []) [] ++ next → b ≡ true → ((rest : List Object) → same_objects (drop n os) (o ∷ rest) ≡ (at && same_objects (drop (n + 1) os) rest)) → at ≡ true → x ≡ same_objects (drop (n + 1) os) next
+goes_on_listed os n now next o x b at was step taken told is = told_then os n now next o x b at was step taken told ∙ ap (λ t. t && same_objects (drop (n + 1) os) next) is
+
+pub not_listed : (os : List Object) (n : ℕ) (now next : List Object) (o : Object) (x b at : Bool) → x ≡ same_objects (drop n os) now → now ≡ cond b (o ∷ []) [] ++ next → b ≡ true → ((rest : List Object) → same_objects (drop n os) (o ∷ rest) ≡ (at && same_objects (drop (n + 1) os) rest)) → at ≡ false → x ≡ false
+not_listed os n now next o x b at was step taken told is = told_then os n now next o x b at was step taken told ∙ ap (λ t. t && same_objects (drop (n + 1) os) next) is
+
+-- fewer are left behind it
+pub take_fewer : (l : List InEntry) (place : Option Object) (e : InEntry) → in_order in_key l ≡ true → Some e ≡ entry_after in_key place l → length (behind in_key (Some e.object) l) < length (behind in_key place l)
+take_fewer l place e ordered next = omega (arith, ap length (behind_next in_key place l e ordered next))
+
+-- at the end
+pub take_end : (s : State) (p : ℕ) (l : List InEntry) (place : Option Object) (t : Reader) (every left room n : ℕ) (os : List Object) → n ≤ length os → None ≡ entry_after in_key place l → same_objects (drop n os) (to_take s p t every left room place l) ≡ (n == length os)
+take_end s p l place t every left room n os le none =
+    ap (λ (xs : List InEntry). same_objects (drop n os) (map in_key (picks (drawn t) every 0 left room (untied s p xs)))) (behind_end in_key place l none)
+    ∙ no_more os n le
+
+-- THE WORDS OF THE CHANGE
+
+filter_few : (q : InEntry → Bool) (l : List InEntry) → length (filter q l) ≤ length l
+filter_few q [] = omega arith
+filter_few q (e ∷ es) = by_cases (q e) (λ k. rw k (omega (arith, filter_few q es))) (λ k. rw k (omega (arith, filter_few q es)))
+
+none_of : (l : List InEntry) → length l ≤ 0 → l ≡ []
+none_of [] le = refl
+none_of (e ∷ es) le = absurd (omega (arith, le))
+
+pub none_taken : (s : State) (p : ℕ) → IsReached s → s.settings ≡ None → discards s p ≡ []
+none_taken s p reached none =
+    let q : InEntry → Bool = λ e. not (tied_in s p e.object) in
+    let few : length (row s p).ins ≤ 0 = omega (arith, few_ins s p reached, ap capacity none) in
+    ap (λ (l : List InEntry). picks (own_word (seed s.settings) s.changes) (one_in (row s p).fails) 0 (debt_units (row s p)) 1048576 (filter q l)) (none_of (row s p).ins few)
+
+-- where nothing is owed, no entry is within the debt
+none_within : (words : ℕ → ℕ) (every j room : ℕ) (es : List InEntry) → list_all weighs es ≡ true → picks words every j 0 room es ≡ []
+none_within words every j room [] h = refl
+none_within words every j room (e ∷ es) h =
+    let two = and_parts (weighs e) (list_all weighs es) h in
+    by_cases (is_picked every (words j) 0 room e)
+    (λ k.
+    let fits = and_parts (nat_lt 0 every && words j % every == 0) (nat_le e.units 0) (and_parts (nat_lt 0 every && words j % every == 0 && nat_le e.units 0) (nat_lt 0 room) k).0 in
+    absurd (omega (arith, leb-true e.units 0 fits.1, leb-true 1 e.units two.0)))
+    (λ k. rw k (none_within words every (j + 1) room es two.1))
+
+pub none_owed : (s : State) (p : ℕ) → IsReached s → debt_units (row s p) ≡ 0 → discards s p ≡ []
+none_owed s p reached none =
+    let q : InEntry → Bool = λ e. not (tied_in s p e.object) in
+    let words = own_word (seed s.settings) s.changes in
+    let every = one_in (row s p).fails in
+    ap (λ (n : ℕ). picks words every 0 n 1048576 (untied s p (row s p).ins)) none
+    ∙ none_within words every 0 1048576 (untied s p (row s p).ins) (all_kept weighs q (row s p).ins (weigh_row s p reached))
+
+pub own_taken : (s : State) (p : ℕ) (x : Settings) (t : Reader) (every left room : ℕ) (r : Row) (ins : List InEntry) → IsReached s → capacity s.settings < 2 ^ 32 → s.settings ≡ Some x → t ≡ own_reader x.seed s.changes → r ≡ row s p → every ≡ one_in r.fails → left ≡ debt_units r → room ≡ 1048576 → ins ≡ r.ins
+    → picks (drawn t) every 0 left room (untied s p ins) ≡ discards s p
+own_taken s p x t every left room r ins reached small is reads row_is grade_is debt_is most ins_are =
+    let es = untied s p (row s p).ins in
+    let few : length es ≤ 2 ^ 68 = omega (arith, filter_few (λ (e : InEntry). not (tied_in s p e.object)) (row s p).ins, few_ins s p reached, small) in
+    (λ i. picks (drawn (reads i)) (grade_is i) 0 (debt_is i) (most i) (untied s p (ins_are i)))
+    ∙ ap (λ (y : Row). picks (drawn (own_reader x.seed s.changes)) (one_in y.fails) 0 (debt_units y) 1048576 (untied s p y.ins)) row_is
+    ∙ own_picks x.seed s.changes (one_in (row s p).fails) (debt_units (row s p)) 1048576 es few
+    ∙ ap (λ (o : Option Settings). picks (own_word (seed o) s.changes) (one_in (row s p).fails) 0 (debt_units (row s p)) 1048576 es) (sym is)
+
+-- WHAT IS LEFT
+
+abbrev discard_move : List Object → ℕ → Move
+discard_move objects units = record still { in_gone = objects; used_up = units }
+
+row_discarded : (objects : List Object) (r : Row) → (let m = after_move (discard_move objects (sum_by in_size (only in_key objects r.ins))) r in let y : Row = record m { due = false } in y) ≡ discarded_row objects r
+row_discarded objects r = λ i. record r { ins = without in_key objects r.ins; outs = without_none out_key r.outs i; debts = left_debts (sum_by in_size (only in_key objects r.ins)) r.debts i; due = false }
+  where
+    left_debts : (n : ℕ) (ds : List DebtEntry) → use_up n (filter (λ d. true) ds) ++ [] ≡ use_up n ds
+    left_debts n ds = append-nil (use_up n (filter (λ d. true) ds)) ∙ ap (use_up n) (kept_all ds)
+
+-- rows of debt of which none is gone have the objects that they had
+used_fewer : (n : ℕ) (ds : List DebtEntry) → length (use_up n ds) ≤ length ds
+used_fewer zero ds = omega arith
+used_fewer (suc n) [] = omega arith
+used_fewer (suc n) (d ∷ ds) = by_cases (nat_le d.left (suc n)) (λ k. rw k (omega (arith, used_fewer (suc n - d.left) ds))) (λ k. rw k (omega arith))
+
+used_keeps : (n : ℕ) (ds : List DebtEntry) (o : Object) → length ds ≤ length (use_up n ds) → has debt_key (use_up n ds) o ≡ has debt_key ds o
+used_keeps zero ds o le = refl
+used_keeps (suc n) [] o le = refl
+used_keeps (suc n) (d ∷ ds) o le = by_cases (nat_le d.left (suc n))
+    (λ k. absurd (omega (arith, used_fewer (suc n - d.left) ds, rw k at le)))
+    (λ k. rw k refl)
+
+pub can_discard : (l : Inside) (x : Discarded) (i : ℕ) (r : AccountView) → IsAt l (change.Discarded x) x.peer i r → in_order own_key l.own.items ≡ true → HasListRoom (view_of l) x.peer (2 * length x.objects) 0 → CanDiscard (view_of l) x i r
+can_discard l x i r f ordered room =
+    let s = state_of l in
+    let c = change.Discarded x in
+    let vs = l.accounts.items in
+    let at = found_here vs x.peer i r f.place f.here in
+    let q = row_at l c x.peer i r f in
+    let step : Step s c x.peer = steps s c (good_of s f.sound.reached) f.grammar (allows s c f.may).tests in
+    let units = sum_by in_size (only in_key x.objects (row s x.peer).ins) in
+    let moved : changed s c r.row ≡ discarded_row x.objects r.row =
+    subst (λ (y : Row). (let m = after_move (discard_move x.objects units) y in let z : Row = record m { due = false } in z) ≡ discarded_row x.objects y) q (row_discarded x.objects (row s x.peer))
+    in
+    record {
+      needs = record {
+        in_room = subst (λ (y : AccountView). 2 * length x.objects ≤ y.in_room) (found_account vs x.peer i r at) (room.in_room (found_peer vs x.peer i r at));
+        owed = omega (arith, step.weighs.debt, ap debt_units q, ap (λ (y : Row). sum_by in_size (only in_key x.objects y.ins)) q);
+      };
+      before = within_used l c x.peer i r f;
+      stays = λ w a b le.
+          let same : (n : List ℕ) → row_names (changed s c r.row) n ≡ row_names r.row n = λ n.
+          ap (λ (y : Row). row_names y n) moved
+          ∙ ap (λ t. has out_key r.row.outs (Chunk n) || t || name_listed (pending_name deal_name r.row.pending) n)
+          (used_keeps (sum_by in_size (only in_key x.objects r.row.ins)) r.row.debts (Chunk n) (omega (arith, le, ap (λ (y : Row). length y.debts) b)))
+          in
+          sym (released_at l c x.peer i r w None f a (b ∙ sym moved) ordered (λ n _ h. same n ∙ h));
+      made = λ w n own sums own_is a b. makes_own l c x.peer i l.issued n r w own refl refl (record { settings = refl; own = refl; kept = refl; snapped = refl; chosen = refl }) f a (b ∙ sym moved) refl
+          (omega (arith, sums, ap (λ (y : Row). coming s y.pending) b)) own_is;
+    }
+
+-- as many rows are left as there were, or more
+pub not_fewer : (a b : ℕ) → nat_lt a b ≡ false → b ≤ a
+not_fewer a b h = grind (arith, nat_tests)

@@ -1,0 +1,18 @@
+-- What the condition says of the account.
+use Rattle.std.proofs.Common.{subst, ap, ◌∙◌}
+use Rattle.std.specs.Prelude.{◌==◌, position}
+use Rattle.peer_account.specs.View.{AccountView}
+use Rattle.psb_model.specs.declared.change.Change.TheVariants as change
+use Rattle.psb_ledger.specs.View.{LedgerView}
+use Rattle.psb_ledger.specs.Moves.{MayAsk}
+use Rattle.psb_ledger.proofs.Peers.{at_place}
+use Rattle.psb_ledger.proofs.Probing.{may_ask}
+use Rattle.psb_ledger.proofs.ledger.Ledger.place_to_ask.Goals as goal
+
+pub returns-clause-may : goal.returns-clause-may
+returns-clause-may c =
+    let x = c.args.x.now in
+    let i = c.place_in.result in
+    let l = c.self.inside in
+    let place = c.place_in.ensures ∙ ap (position (λ (v : AccountView). v.id == x.peer)) c.as_slice.ensures.value in
+    subst (λ (v : LedgerView). MayAsk v x i) c.self.view_is (λ r here. may_ask l x i r (at_place l c.args.self.now (change.Asked x) x.peer i r c.self.view_is c.self.invariant.sound place c.requires.may c.requires.grammar here) c.self.invariant.own_part.own_ordered)

@@ -1,0 +1,24 @@
+-- Which kinds of change the machine makes so far.
+use Rattle.std.specs.Prelude.{Bool, true, false}
+use Rattle.psb_model.specs.History.{is_built_deal}
+use Rattle.psb_model.specs.declared.change.Change.{Change}
+use Rattle.psb_model.specs.declared.change.Change.TheVariants.{Begun, Kept, Snapped, Forgot, TookFresh, TookSwap, LetGo, LetGoBack, Refused, Proposed, Settled, Turned, Chose}
+
+-- The kinds in a history that the machine makes: the beginning, which stands before its first input; what is kept of
+-- the node's own; what the deals of a peer make but for a replaced claim; the own deals but for those that move a
+-- claim, with their replies; and a choice of buddies. So far it makes no probe, no outcome of one and no discard.
+abbrev pub is_made : Change → Bool
+is_made (Begun x) = true
+is_made (Kept x) = true
+is_made (Snapped x) = true
+is_made (Forgot x) = true
+is_made (TookFresh x) = true
+is_made (TookSwap x) = true
+is_made (LetGo x) = true
+is_made (LetGoBack x) = true
+is_made (Refused x) = true
+is_made (Proposed x) = is_built_deal x.what
+is_made (Settled x) = true
+is_made (Turned x) = true
+is_made (Chose x) = true
+is_made _ = false
