@@ -20,7 +20,7 @@ pub struct ProposeFacts {
     pub issued: u32,
     /// How many units the node may use.
     pub capacity: u32,
-    /// Whether it may forward claims. No proposal of the kinds that are built does.
+    /// Whether it may forward claims. No proposal does so far.
     pub forward: bool,
 }
 

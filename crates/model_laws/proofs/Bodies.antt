@@ -13,7 +13,7 @@ use Rattle.psb_model.specs.State.{State, row, is_held}
 use Rattle.psb_model.specs.Grammar.{in_grammar, is_u8, fits_widths}
 use Rattle.psb_model.specs.Conditions.{peer_of, is_begun, allowed}
 use Rattle.psb_model.specs.Effects.{after}
-use Rattle.psb_model.specs.History.{state, is_lawful, is_built}
+use Rattle.psb_model.specs.History.{state, is_lawful}
 use Rattle.psb_model.specs.Needed.{brings, brings_name, slots_given, gives_slot, no_slots, needs_name, needs_slot, is_needed_by, body_is_right, bodies_right, brings_right, IsValid}
 use Rattle.psb_model.proofs.ByObject.{by_cases}
 use Rattle.psb_model.proofs.Own.{name_refl}
@@ -141,14 +141,13 @@ some_changes : (h : List Change) → IsValid h → 1 ≤ (state h).changes
 some_changes h v = omega (arith, changes_counted h, v.some)
 
 -- one change more
-pub valid_snoc : (h : List Change) (c : Change) → IsValid h → in_grammar c ≡ true → allowed (state h) c ≡ true → fits_widths c ≡ true → is_built c ≡ true → brings_right c ≡ true → IsValid (h ++ c ∷ [])
-valid_snoc h c v g a f b r =
+pub valid_snoc : (h : List Change) (c : Change) → IsValid h → in_grammar c ≡ true → allowed (state h) c ≡ true → fits_widths c ≡ true → brings_right c ≡ true → IsValid (h ++ c ∷ [])
+valid_snoc h c v g a f r =
     let s = state h in
     let law = were_held s c (some_changes h v) a in
     record {
       lawful = lawful_snoc h c ∙ rw (v.lawful, g, a) refl;
       fit = all_snoc fits_widths h c ∙ rw (v.fit, f) refl;
-      built = all_snoc is_built h c ∙ rw (v.built, b) refl;
       some = omega (arith, length-append h (c ∷ []));
       sound = subst (λ t. bodies_right t (h ++ c ∷ []) ≡ true) (sym (state_snoc h c)) (right_more s (after s c) c h law (right_here (after s c) c [] g r) v.sound);
     }
@@ -225,11 +224,9 @@ last_brings h c lawful a right = by_name (brings c) refl
 pub valid_begun : (text : List ℕ) (x : Settings) → settings_of text ≡ Some x → list_all is_u8 text ≡ true → IsValid (Begun (record { body = Some text }) ∷ [])
 valid_begun text x h bytes =
     let lawful : is_lawful (Begun (record { body = Some text }) ∷ []) ≡ true = rw h refl in
-    let built : list_all is_built (Begun (record { body = Some text }) ∷ []) ≡ true = refl in
     record {
       lawful = lawful;
       fit = rw bytes refl;
-      built = built;
       some = omega arith;
       sound = refl;
     }

@@ -1,6 +1,6 @@
 -- Numbers that stay small in each lawful history: the length of an own chunk, the units of
 -- an entry there, and the number of an own deal.
-use Rattle.std.proofs.Common.{◌≡◌, ℕ, ◌+◌, ◌-◌, ◌≤◌, Bool, true, false, not, cond, List, [], ◌∷◌, ◌++◌, map, filter, Option, Some, None, refl, sym, ap, ◌∙◌, subst, arith}
+use Rattle.std.proofs.Common.{◌≡◌, ℕ, ◌+◌, ◌≤◌, Bool, true, false, not, cond, List, [], ◌∷◌, Option, Some, None, refl, sym, ap, ◌∙◌, subst, arith}
 use Rattle.std.specs.Prelude.{zero, suc, ◌==◌, nat_le, if◌then◌else◌}
 use Rattle.std.specs.List.{list_all}
 use Rattle.std.specs.Ordering.{is_lt, nat_cmp}
@@ -17,12 +17,12 @@ use Rattle.psb_model.specs.declared.deals.DealWhat.TheVariants.{Fresh, Swap, Can
 use Rattle.psb_model.specs.declared.change.Change.{Change}
 use Rattle.psb_model.specs.declared.change.Change.TheVariants.{Begun, Kept, Snapped, Forgot, TookFresh, TookSwap, LetGo, LetGoBack, Replaced, Refused, Proposed, Settled, Turned, Asked, Passed, Failed, Declined, Discarded, Chose}
 use Rattle.psb_model.specs.declared.entries.DebtEntry.{DebtEntry}
-use Rattle.psb_model.specs.Words.{units, units_at, listed, only, slots, name_eq, with_one, with_all, without}
+use Rattle.psb_model.specs.Words.{units, units_at, listed, slots, name_eq, with_one, with_all, without}
 use Rattle.psb_model.specs.State.{Row, State, nothing_yet, row, is_peer, out_key, out_size, own_len}
 use Rattle.psb_model.specs.Grammar.{in_grammar, body_fits}
 use Rattle.psb_model.specs.Conditions.{peer_of, settings_of_body, declined_objects, tests, allowed}
-use Rattle.psb_model.specs.Move.{Move, use_up, after_move}
-use Rattle.psb_model.specs.Effects.{chunk_out, own_slot, own_slots, own_with, set_marks, own_after, settle_move, move_of, debt_row, lost_rows, out_again, is_whole_listed, after}
+use Rattle.psb_model.specs.Move.{after_move}
+use Rattle.psb_model.specs.Effects.{chunk_out, own_slot, own_slots, own_with, set_marks, own_after, settle_move, move_of, after}
 use Rattle.psb_model.specs.History.{state_from, lawful_from, state, is_lawful}
 use Rattle.psb_model.proofs.ByObject.{by_cases, all_with_one, all_kept}
 use Rattle.psb_model.proofs.Steps.{parts}
@@ -30,10 +30,17 @@ use Rattle.psb_model.proofs.Rows.{row_in-first_rows, note_lists}
 use Rattle.psb_model.proofs.Prefixes.{lawful_cons}
 use Rattle.psb_model.proofs.Bare.{bare, bare_out, bare_debt, all_bare, changed, row_bare}
 use Rattle.psb_model.proofs.Steady.{allows}
+use Rattle.model_laws.proofs.Losing.{regained, debts_pass}
 
--- an entry has no more units than the longest chunk
+-- an entry, and a row of debt, has no more units than the longest chunk
+abbrev is_few : Object → ℕ → Bool
+is_few o u = nat_le u 64
+
 abbrev pub is_small : OutEntry → Bool
 is_small e = nat_le e.units 64
+
+abbrev pub is_small_debt : DebtEntry → Bool
+is_small_debt d = nat_le d.units 64
 
 abbrev pub is_fit_len : OwnEntry → Bool
 is_fit_len e = nat_le e.len 32768
@@ -41,7 +48,7 @@ is_fit_len e = nat_le e.len 32768
 pub record IsFitRow (changes : ℕ) (r : Row) : Type 0 where
   pub mine : r.mine ≤ changes
   pub small : list_all is_small r.outs ≡ true
-  pub owed : list_all (λ (d : DebtEntry). nat_le d.units 64) r.debts ≡ true
+  pub owed : list_all is_small_debt r.debts ≡ true
 
 pub record IsFit (s : State) : Type 0 where
   pub rows : (q : ℕ) → IsFitRow s.changes (row s q)
@@ -92,66 +99,11 @@ settles s r (Some d) numbers own h = by_what d.what
     by_what (Forward slot entry) = small_less [] r.outs h
     by_what (Return slot) = small_less [] r.outs h
 
--- rows of debt came of entries there
-abbrev pub is_small_debt : DebtEntry → Bool
-is_small_debt d = nat_le d.units 64
-
-again_small : (objects : List Object) (ds : List DebtEntry) → list_all is_small_debt ds ≡ true → list_all is_small (map out_again (filter (is_whole_listed objects) ds)) ≡ true
-again_small objects [] h = refl
-again_small objects (d ∷ ds) h =
-    let a = and_parts (is_small_debt d) (list_all is_small_debt ds) h in
-    by_cases (is_whole_listed objects d) (λ k. rw (k, a.0) (again_small objects ds a.1)) (λ k. rw k (again_small objects ds a.1))
-
-all_small : (es l : List OutEntry) → list_all is_small es ≡ true → list_all is_small l ≡ true → list_all is_small (with_all out_key es l) ≡ true
-all_small [] l a b = b
-all_small (e ∷ es) l a b = let two = and_parts (is_small e) (list_all is_small es) a in all_small es (with_one out_key e l) two.1 (all_with_one out_key is_small e l two.0 b)
-
--- what is booked is as small as what was there
-booked_small : (n : ℕ) (declined : Bool) (l : List OutEntry) → list_all is_small l ≡ true → list_all is_small_debt (map (debt_row n declined) l) ≡ true
-booked_small n declined [] h = refl
-booked_small n declined (e ∷ es) h = let a = and_parts (is_small e) (list_all is_small es) h in rw a.0 (booked_small n declined es a.1)
-
-debts_both : (xs ys : List DebtEntry) → list_all is_small_debt xs ≡ true → list_all is_small_debt ys ≡ true → list_all is_small_debt (xs ++ ys) ≡ true
-debts_both [] ys a b = b
-debts_both (x ∷ xs) ys a b = let two = and_parts (is_small_debt x) (list_all is_small_debt xs) a in rw two.0 (debts_both xs ys two.1 b)
-
-lost_small : (n : ℕ) (declined : Bool) (objects : List Object) (l : List OutEntry) → list_all is_small l ≡ true → list_all is_small_debt (lost_rows n declined objects l) ≡ true
-lost_small n declined [] l h = refl
-lost_small n declined (o ∷ os) l h = debts_both (map (debt_row n declined) (only out_key (o ∷ []) l)) (lost_rows n declined os l) (booked_small n declined (only out_key (o ∷ []) l) (all_kept is_small (λ (e : OutEntry). listed (o ∷ []) (out_key e)) l h)) (lost_small n declined os l h)
-
-used_small : (k : ℕ) (ds : List DebtEntry) → list_all is_small_debt ds ≡ true → list_all is_small_debt (use_up k ds) ≡ true
-used_small zero ds h = h
-used_small (suc k) [] h = refl
-used_small (suc k) (d ∷ ds) h =
-    let a = and_parts (is_small_debt d) (list_all is_small_debt ds) h in
-    by_cases (nat_le d.left (suc k)) (λ j. rw j (used_small (suc k - d.left) ds a.1)) (λ j. rw j h)
-
-debts_moved : (m : Move) (r : Row) → list_all is_small_debt m.booked ≡ true → list_all is_small_debt r.debts ≡ true → list_all is_small_debt (after_move m r).debts ≡ true
-debts_moved m r b h = debts_both (use_up m.used_up (filter (λ d. not (m.returned d)) r.debts)) m.booked (used_small m.used_up _ (all_kept is_small_debt (λ (d : DebtEntry). not (m.returned d)) r.debts h)) b
-
-settle_books : (s : State) (r : Row) (o : Option Deal) (numbers : List ℕ) → list_all is_small_debt (settle_move s r o numbers).booked ≡ true
-settle_books s r None numbers = refl
-settle_books s r (Some d) numbers = by_what d.what
-  where
-    by_what : (what : DealWhat) → list_all is_small_debt (settle_move s r (Some (record { number = d.number; what = what })) numbers).booked ≡ true
-    by_what (Fresh name) = refl
-    by_what (Swap name mine) = refl
-    by_what (Cancel name theirs) = refl
-    by_what (PutBack name first) = refl
-    by_what (Forward slot entry) = refl
-    by_what (Return slot) = refl
-
-books_small : (s : State) (c : Change) (p : ℕ) → IsFit s → peer_of c ≡ Some p → list_all is_small_debt (move_of s c).booked ≡ true
-books_small s (Failed x) p f e = lost_small s.changes false x.objects (row s x.peer).outs (f.rows x.peer).small
-books_small s (Declined x) p f e = lost_small s.changes true (declined_objects s x.peer x.asked x.places) (row s x.peer).outs (f.rows x.peer).small
-books_small s (Settled x) p f e = settle_books s (row s x.peer) (row s x.peer).pending x.slots
-books_small s _ p f e = refl
-
 row_fits : (s : State) (c : Change) (p : ℕ) → IsFit s → allowed s c ≡ true → peer_of c ≡ Some p → IsFitRow (s.changes + 1) (changed s c (row s p))
 row_fits s c p f h e = record {
   mine = mine_fits s c p f h e;
   small = ap (list_all is_small) (note_lists s c (after_move (move_of s c) (row s p))).outs ∙ outs_fit s c p f e;
-  owed = ap (list_all is_small_debt) (note_lists s c (after_move (move_of s c) (row s p))).debts ∙ debts_moved (move_of s c) (row s p) (books_small s c p f e) (f.rows p).owed;
+  owed = debts_pass is_few s c (row s p) (λ q. (f.rows q).small) (f.rows p).owed;
 }
   where
     mine_fits : (s : State) (c : Change) (p : ℕ) → IsFit s → allowed s c ≡ true → peer_of c ≡ Some p → (changed s c (row s p)).mine ≤ s.changes + 1
@@ -180,7 +132,7 @@ row_fits s c p f h e = record {
     outs_fit s (Settled y) p f e =
         let same : y.peer ≡ p = cc (e) in
         subst (λ x. list_all is_small (after_move (settle_move s (row s x) (row s x).pending y.slots) (row s p)).outs ≡ true) (sym same) (settles s (row s p) (row s p).pending y.slots f.own (f.rows p).small)
-    outs_fit s (Passed y) p f e = all_small (map out_again (filter (is_whole_listed y.objects) (row s y.peer).debts)) (without out_key [] (row s p).outs) (again_small y.objects (row s y.peer).debts (f.rows y.peer).owed) (small_less [] (row s p).outs (f.rows p).small)
+    outs_fit s (Passed y) p f e = regained is_few y.objects (row s y.peer).debts (without out_key [] (row s p).outs) (f.rows y.peer).owed (small_less [] (row s p).outs (f.rows p).small)
     outs_fit s (Failed x) p f e = small_less x.objects (row s p).outs (f.rows p).small
     outs_fit s (Declined x) p f e = small_less (declined_objects s x.peer x.asked x.places) (row s p).outs (f.rows p).small
     outs_fit s _ p f e = small_less [] (row s p).outs (f.rows p).small

@@ -16,7 +16,7 @@ use Rattle.psb_model.specs.Grammar.{is_u8, is_digest, in_grammar}
 use Rattle.psb_model.specs.Conditions.{allowed, same_objects}
 use Rattle.psb_model.specs.Discards.{one_in, picks, seed}
 use Rattle.psb_model.specs.State.{State, row, nothing_yet, is_peer, in_key, debt_units, tied_in}
-use Rattle.psb_model.specs.History.{state, is_lawful, lawful_from, is_built}
+use Rattle.psb_model.specs.History.{state, is_lawful, lawful_from}
 use Rattle.psb_model.proofs.Prefixes.{lawful_app, lawful_snoc}
 use Rattle.model_laws.specs.Worked.{one_peer, two_peers, first_deals, shared_deals, name_of, returned, come_home, six_failures, first_discard, discarded_once, seventh_failure, second_discard, discarded_twice, Numbers, LettingGoWorked, DiscardsWorked, FirstWorked, SharedWorked, Worked, ProbesWorked, ClaimsWorked, WorkedRows}
 use Rattle.model_laws.proofs.Bodies.{all_right}
@@ -25,12 +25,10 @@ use Rattle.psb_model.proofs.Own.{name_refl}
 first_worked : (text chunk : List ℕ) → settings_of text ≡ Some one_peer → list_all is_u8 text ≡ true → length chunk ≡ 512 → list_all is_u8 chunk ≡ true → is_digest (sha chunk) ≡ true → FirstWorked text chunk
 first_worked text chunk says text_fits long chunk_fits name_fits =
     let lawful : is_lawful (first_deals text chunk) ≡ true = rw (says, long) refl in
-    let built : list_all is_built (first_deals text chunk) ≡ true = refl in
     record {
       valid = record {
         lawful = lawful;
         fit = rw (text_fits, chunk_fits, name_fits) (refl {a = true});
-        built = built;
         some = omega arith;
         sound = all_right (state (first_deals text chunk)) (first_deals text chunk) (rw long refl) (rw (name_refl (sha chunk)) refl);
       };
@@ -41,12 +39,10 @@ shared_worked : (text chunk : List ℕ) → settings_of text ≡ Some two_peers 
 shared_worked text chunk says text_fits long chunk_fits name_fits =
     let same = name_refl (sha chunk) in
     let lawful : is_lawful (shared_deals text chunk) ≡ true = rw (says, long, same) refl in
-    let built : list_all is_built (shared_deals text chunk) ≡ true = refl in
     record {
       valid = record {
         lawful = lawful;
         fit = rw (text_fits, chunk_fits, name_fits) (refl {a = true});
-        built = built;
         some = omega arith;
         sound = all_right (state (shared_deals text chunk)) (shared_deals text chunk) (rw long refl) (rw same refl);
       };

@@ -1,5 +1,6 @@
 pub mod RowOrder
 pub mod Explained
+pub mod Losing
 pub mod Fitting
 pub mod Widths
 pub mod Proposable
@@ -8,3 +9,9 @@ pub mod Directs
 pub mod Bodies
 pub mod Sums
 pub mod Histories
+pub mod Marks
+pub mod Traces
+pub mod Linking
+pub mod Forwards
+pub mod Linked
+pub mod Following

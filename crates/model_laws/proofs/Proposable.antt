@@ -1,4 +1,4 @@
--- What is proposed may be proposed: its condition holds, its slots ascend, and it is of a kind that is built.
+-- What is proposed may be proposed: its condition holds, its slots ascend, and its fields fit.
 use Rattle.std.proofs.Common.{◌≡◌, ℕ, ◌+◌, ◌≤◌, ◌^◌, Bool, true, false, not, ◌&&◌, List, [], ◌∷◌, ◌++◌, length, take, Option, Some, None, refl, sym, ap, ◌∙◌, subst, inl, inr, arith}
 use Rattle.std.specs.Prelude.{zero, suc, ◌==◌, nat_le, nat_lt, is_none, find, if◌then◌else◌}
 use Rattle.std.specs.List.{list_any, list_all}
@@ -18,7 +18,6 @@ use Rattle.psb_model.specs.State.{State, row, is_peer, in_key, out_key, out_size
 use Rattle.psb_model.specs.Grammar.{ascend, numbers_listed, what_in_grammar, is_u32, is_digest, object_fits, what_fits}
 use Rattle.psb_model.specs.Conditions.{capacity, most_claims, is_own, is_direct_or_home, each_slot, place_tests, propose_tests, allowed}
 use Rattle.psb_model.specs.Proposing.{ProposeFacts, is_free, as_many, slot_number, slots_to_give, may_release, cancel, put_back, release_of, release, slots_to_fill, is_missing, swap, fresh, place_of, first_place, place, proposal}
-use Rattle.psb_model.specs.History.{is_built_deal}
 use Rattle.psb_model.proofs.ByObject.{by_cases, object_eq-refl, has-occurs}
 use Rattle.psb_model.proofs.Standing.{occurs_none}
 use Rattle.model_laws.proofs.RowOrder.{IsSortedRow, numbers_that, numbers_ascend, ascend_take}
@@ -169,7 +168,6 @@ pub record MayBe (s : State) (p : ℕ) (what : DealWhat) : Type 0 where
   pub tests : all_of (propose_tests s p what) ≡ true
   pub listed : what_in_grammar what ≡ true
   pub fits : what_fits what ≡ true
-  pub built : is_built_deal what ≡ true
 
 listed_few : (u : ℕ) (ms : List ℕ) → AreFirst u ms → u ≤ 64 → numbers_listed ms ≡ true
 listed_few u ms first few = rw (first.ordered, lt-ltb (length ms) (2 ^ 32) (omega (arith, first.count, few))) refl
@@ -201,10 +199,10 @@ placed s p probed what plain fit wide sorted h =
     let free = each_of (λ o. not (tied_out s p o)) (units e.len) (slots_to_fill s p probed) ms many (all_numbers out_key test (λ o. not (tied_out s p o)) (row s p).outs (λ x at passes. (and_parts (not (tied_out s p x.object)) (not (listed probed x.object)) (and_parts (is_own x) (is_free s p probed x.object) passes).1).0)) in
     let slots = each_of object_fits (units e.len) (slots_to_fill s p probed) ms many (all_numbers out_key test object_fits (row s p).outs (λ x at passes. all_in out_fits x (row s p).outs at (wide.rows p).outs)) in
     let long : (length ms == units (own_len s.own e.name)) ≡ true = ap (λ n. n == units (own_len s.own e.name)) (first.count ∙ ap units (sym len)) ∙ eq-eqb (units (own_len s.own e.name)) (units (own_len s.own e.name)) refl in
-    subst (MayBe s p) same (record { tests = rw (placeable s p e.name chosen missing, long, owned, free) refl; listed = listed_few (units e.len) ms first few; fits = rw (name, slots) refl; built = refl }))
+    subst (MayBe s p) same (record { tests = rw (placeable s p e.name chosen missing, long, owned, free) refl; listed = listed_few (units e.len) ms first few; fits = rw (name, slots) refl }))
     (λ missing fits same.
     let room : nat_le (used s + units (own_len s.own e.name)) (capacity s.settings) ≡ true = ap (λ n. nat_le (used s + units n) (capacity s.settings)) len ∙ fits in
-    subst (MayBe s p) same (record { tests = rw (placeable s p e.name chosen missing, room) refl; listed = refl; fits = name; built = refl }))))
+    subst (MayBe s p) same (record { tests = rw (placeable s p e.name chosen missing, room) refl; listed = refl; fits = name }))))
     (λ other. let h' : None ≡ Some what = rw other at h in absurd (cc (h')))
 
 released : (s : State) (p : ℕ) (probed : List Object) (what : DealWhat) → IsSteady s → IsFit s → AreWide s → IsSortedRow (row s p) → release s p probed s.issued ≡ Some what → MayBe s p what
@@ -225,14 +223,14 @@ released s p probed what plain fit wide sorted h =
     let slots = each_of object_fits e.units (slots_to_give s p) ms many (all_numbers in_key test object_fits (row s p).ins (λ x at ok. all_in in_fits x (row s p).ins at (wide.rows p).ins)) in
     let long : (length ms == units_at out_key out_size (row s p).outs (Chunk name)) ≡ true = eq-eqb (length ms) (units_at out_key out_size (row s p).outs (Chunk name)) (first.count ∙ sym (once e name there is)) in
     let few : e.units ≤ 64 = leb-true e.units 64 (all_in is_small e (row s p).outs there (fit.rows p).small) in
-    subst (MayBe s p) same (record { tests = rw (here e name there is, mark.0, free.0, long, ready, untied) refl; listed = listed_few e.units ms first few; fits = rw (digest e name there is, slots) refl; built = refl }))
+    subst (MayBe s p) same (record { tests = rw (here e name there is, mark.0, free.0, long, ready, untied) refl; listed = listed_few e.units ms first few; fits = rw (digest e name there is, slots) refl }))
     (λ e name there is passes fits same.
     let mark = and_parts (own_marked s.own name) (is_free s p probed (Chunk name)) passes in
     let free = and_parts (not (tied_out s p (Chunk name))) (not (listed probed (Chunk name))) mark.1 in
     let same_number : (s.issued == s.issued) ≡ true = eq-eqb s.issued s.issued refl in
     let number : is_u32 s.issued ≡ true = lt-ltb s.issued (2 ^ 32) (omega (arith, wide.issued)) in
     let few : nat_le (s.issued + units_at out_key out_size (row s p).outs (Chunk name)) most_claims ≡ true = ap (λ u. nat_le (s.issued + u) most_claims) (once e name there is) ∙ fits in
-    subst (MayBe s p) same (record { tests = rw (here e name there is, mark.0, free.0, same_number, few) refl; listed = refl; fits = rw (digest e name there is, number) refl; built = refl }))
+    subst (MayBe s p) same (record { tests = rw (here e name there is, mark.0, free.0, same_number, few) refl; listed = refl; fits = rw (digest e name there is, number) refl }))
 
 pub proposable : (s : State) (p : ℕ) (probed : List Object) (facts : ProposeFacts) (what : DealWhat) → IsSteady s → IsFit s → AreWide s → IsSortedRow (row s p) → facts.issued ≡ s.issued → facts.capacity ≡ capacity s.settings → proposal s p probed facts ≡ Some what → MayBe s p what
 proposable s p probed facts what plain fit wide sorted issued most h =

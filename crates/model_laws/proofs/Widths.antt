@@ -1,7 +1,7 @@
 -- The widths of what a state keeps, in each lawful history: a name has 32 bytes and a slot's
 -- number four, and no more claims are drawn than there are.
-use Rattle.std.proofs.Common.{◌≡◌, ℕ, ◌+◌, ◌-◌, ◌≤◌, ◌^◌, Bool, true, false, not, ◌&&◌, cond, List, [], ◌∷◌, ◌++◌, map, filter, Option, Some, None, refl, sym, ap, ◌∙◌, subst, arith}
-use Rattle.std.specs.Prelude.{zero, suc, ◌==◌, nat_le}
+use Rattle.std.proofs.Common.{◌≡◌, ℕ, ◌+◌, ◌≤◌, ◌^◌, Bool, true, false, not, ◌&&◌, cond, List, [], ◌∷◌, Option, Some, None, refl, sym, ap, ◌∙◌, subst, arith}
+use Rattle.std.specs.Prelude.{zero, suc, ◌==◌}
 use Rattle.std.specs.List.{list_all}
 use Rattle.std.specs.Ordering.{is_lt, nat_cmp}
 use Rattle.std.specs.Cmp.Lexicographic.{slice_cmp}
@@ -17,12 +17,12 @@ use Rattle.psb_model.specs.declared.deals.DealWhat.TheVariants.{Fresh, Swap, Can
 use Rattle.psb_model.specs.declared.change.Change.{Change}
 use Rattle.psb_model.specs.declared.change.Change.TheVariants.{Begun, Kept, Snapped, Forgot, TookFresh, TookSwap, LetGo, LetGoBack, Replaced, Refused, Proposed, Settled, Turned, Asked, Passed, Failed, Declined, Discarded, Chose}
 use Rattle.psb_model.specs.declared.entries.DebtEntry.{DebtEntry}
-use Rattle.psb_model.specs.Words.{units, units_at, all_of, slots, only, with_one, with_all, without, listed}
+use Rattle.psb_model.specs.Words.{units, units_at, all_of, slots, with_one, with_all, without, listed}
 use Rattle.psb_model.specs.State.{Row, State, blank, nothing_yet, row, is_peer, in_key, out_key, out_size, own_len}
 use Rattle.psb_model.specs.Grammar.{is_u32, is_u64, is_digest, are_bytes, object_fits, what_fits, fits_widths}
 use Rattle.psb_model.specs.Conditions.{most_claims, peer_of, settings_of_body, declined_objects, tests, propose_tests, allowed}
-use Rattle.psb_model.specs.Move.{Move, use_up, after_move}
-use Rattle.psb_model.specs.Effects.{chunk_in, chunk_out, direct_slot, direct_slots, own_slot, own_slots, own_with, set_marks, own_after, settle_move, move_of, debt_row, lost_rows, out_again, is_whole_listed, issued_after, after}
+use Rattle.psb_model.specs.Move.{after_move}
+use Rattle.psb_model.specs.Effects.{chunk_in, chunk_out, direct_slot, direct_slots, own_slot, own_slots, own_with, set_marks, own_after, settle_move, move_of, issued_after, after}
 use Rattle.psb_model.specs.History.{state_from, lawful_from, state, is_lawful}
 use Rattle.psb_model.proofs.ByObject.{by_cases, all_with_one, all_kept}
 use Rattle.psb_model.proofs.Steps.{parts}
@@ -31,9 +31,13 @@ use Rattle.psb_model.proofs.Rows.{row_in-first_rows, note_lists}
 use Rattle.psb_model.proofs.Prefixes.{lawful_cons}
 use Rattle.psb_model.proofs.Bare.{bare, bare_in, bare_out, bare_debt, all_bare, changed, row_bare}
 use Rattle.psb_model.proofs.Steady.{IsSteady, steady_nothing, steady_after, allows}
+use Rattle.model_laws.proofs.Losing.{regained, debts_pass}
 
 abbrev pub in_fits : InEntry → Bool
 in_fits e = object_fits e.object
+
+abbrev fits_there : Object → ℕ → Bool
+fits_there o u = object_fits o
 
 abbrev pub out_fits : OutEntry → Bool
 out_fits e = object_fits e.object
@@ -106,61 +110,6 @@ settle_fits s r (Some d) numbers w p n stands few = by_what d.what p (stands d r
     by_what (Forward slot entry) fit st = record { ins = ins_left [] r.ins w.ins; outs = outs_left [] r.outs w.outs }
     by_what (Return slot) fit st = record { ins = ins_left [] r.ins w.ins; outs = outs_left [] r.outs w.outs }
 
--- ---- what is lost, and what returns
-
-again_wide : (objects : List Object) (ds : List DebtEntry) → list_all debt_fits ds ≡ true → list_all out_fits (map out_again (filter (is_whole_listed objects) ds)) ≡ true
-again_wide objects [] h = refl
-again_wide objects (d ∷ ds) h =
-    let a = and_parts (debt_fits d) (list_all debt_fits ds) h in
-    by_cases (is_whole_listed objects d) (λ k. rw (k, a.0) (again_wide objects ds a.1)) (λ k. rw k (again_wide objects ds a.1))
-
-all_wide : (es l : List OutEntry) → list_all out_fits es ≡ true → list_all out_fits l ≡ true → list_all out_fits (with_all out_key es l) ≡ true
-all_wide [] l a b = b
-all_wide (e ∷ es) l a b = let two = and_parts (out_fits e) (list_all out_fits es) a in all_wide es (with_one out_key e l) two.1 (all_with_one out_key out_fits e l two.0 b)
-
-booked_wide : (n : ℕ) (declined : Bool) (l : List OutEntry) → list_all out_fits l ≡ true → list_all debt_fits (map (debt_row n declined) l) ≡ true
-booked_wide n declined [] h = refl
-booked_wide n declined (e ∷ es) h = let a = and_parts (out_fits e) (list_all out_fits es) h in rw a.0 (booked_wide n declined es a.1)
-
-debts_both : (xs ys : List DebtEntry) → list_all debt_fits xs ≡ true → list_all debt_fits ys ≡ true → list_all debt_fits (xs ++ ys) ≡ true
-debts_both [] ys a b = b
-debts_both (x ∷ xs) ys a b = let two = and_parts (debt_fits x) (list_all debt_fits xs) a in rw two.0 (debts_both xs ys two.1 b)
-
-lost_wide : (n : ℕ) (declined : Bool) (objects : List Object) (l : List OutEntry) → list_all out_fits l ≡ true → list_all debt_fits (lost_rows n declined objects l) ≡ true
-lost_wide n declined [] l h = refl
-lost_wide n declined (o ∷ os) l h = debts_both (map (debt_row n declined) (only out_key (o ∷ []) l)) (lost_rows n declined os l) (booked_wide n declined (only out_key (o ∷ []) l) (all_kept out_fits (λ (e : OutEntry). listed (o ∷ []) (out_key e)) l h)) (lost_wide n declined os l h)
-
-used_wide : (k : ℕ) (ds : List DebtEntry) → list_all debt_fits ds ≡ true → list_all debt_fits (use_up k ds) ≡ true
-used_wide zero ds h = h
-used_wide (suc k) [] h = refl
-used_wide (suc k) (d ∷ ds) h =
-    let a = and_parts (debt_fits d) (list_all debt_fits ds) h in
-    by_cases (nat_le d.left (suc k)) (λ j. rw j (used_wide (suc k - d.left) ds a.1)) (λ j. rw j h)
-
-debts_moved : (m : Move) (r : Row) → list_all debt_fits m.booked ≡ true → list_all debt_fits r.debts ≡ true → list_all debt_fits (after_move m r).debts ≡ true
-debts_moved m r b h = debts_both (use_up m.used_up (filter (λ d. not (m.returned d)) r.debts)) m.booked (used_wide m.used_up _ (all_kept debt_fits (λ (d : DebtEntry). not (m.returned d)) r.debts h)) b
-
-settle_books : (s : State) (r : Row) (o : Option Deal) (numbers : List ℕ) → list_all debt_fits (settle_move s r o numbers).booked ≡ true
-settle_books s r None numbers = refl
-settle_books s r (Some d) numbers = by_what d.what
-  where
-    by_what : (what : DealWhat) → list_all debt_fits (settle_move s r (Some (record { number = d.number; what = what })) numbers).booked ≡ true
-    by_what (Fresh name) = refl
-    by_what (Swap name mine) = refl
-    by_what (Cancel name theirs) = refl
-    by_what (PutBack name first) = refl
-    by_what (Forward slot entry) = refl
-    by_what (Return slot) = refl
-
-books_wide : (s : State) (c : Change) (p : ℕ) → AreWide s → peer_of c ≡ Some p → list_all debt_fits (move_of s c).booked ≡ true
-books_wide s (Failed x) p w e = lost_wide s.changes false x.objects (row s x.peer).outs (w.rows x.peer).outs
-books_wide s (Declined x) p w e = lost_wide s.changes true (declined_objects s x.peer x.asked x.places) (row s x.peer).outs (w.rows x.peer).outs
-books_wide s (Settled x) p w e = settle_books s (row s x.peer) (row s x.peer).pending x.slots
-books_wide s _ p w e = refl
-
-debts_wide : (s : State) (c : Change) (p : ℕ) → AreWide s → peer_of c ≡ Some p → list_all debt_fits (changed s c (row s p)).debts ≡ true
-debts_wide s c p w e = ap (list_all debt_fits) (note_lists s c (after_move (move_of s c) (row s p))).debts ∙ debts_moved (move_of s c) (row s p) (books_wide s c p w e) (w.rows p).debts
-
 -- ---- a change of the peer
 
 -- the entries, and the own deal
@@ -220,7 +169,7 @@ entries_wide s (Passed y) p steady w f h e =
     let lists = note_lists s (Passed y) (after_move (move_of s (Passed y)) (row s p)) in
     record {
       ins = ap (list_all in_fits) lists.ins ∙ ins_left [] (row s p).ins r.ins;
-      outs = ap (list_all out_fits) lists.outs ∙ all_wide (map out_again (filter (is_whole_listed y.objects) (row s y.peer).debts)) (without out_key [] (row s p).outs) (again_wide y.objects (row s y.peer).debts (w.rows y.peer).debts) (outs_left [] (row s p).outs r.outs);
+      outs = ap (list_all out_fits) lists.outs ∙ regained fits_there y.objects (row s y.peer).debts (without out_key [] (row s p).outs) (w.rows y.peer).debts (outs_left [] (row s p).outs r.outs);
       deal = by_cases (y.asked == 0) (λ k. rw k r.deal) (λ k. rw k r.deal);
     }
 entries_wide s (Failed x) p steady w f h e = let r = w.rows p in record { ins = ins_left [] (row s p).ins r.ins; outs = outs_left x.objects (row s p).outs r.outs; deal = r.deal }
@@ -228,7 +177,7 @@ entries_wide s (Declined x) p steady w f h e = let r = w.rows p in record { ins 
 entries_wide s (Discarded x) p steady w f h e = let r = w.rows p in record { ins = ins_left x.objects (row s p).ins r.ins; outs = outs_left [] (row s p).outs r.outs; deal = r.deal }
 
 row_wide : (s : State) (c : Change) (p : ℕ) → IsSteady s → AreWide s → fits_widths c ≡ true → allowed s c ≡ true → peer_of c ≡ Some p → IsWideRow (changed s c (row s p))
-row_wide s c p steady w f h e = let x = entries_wide s c p steady w f h e in record { ins = x.ins; outs = x.outs; debts = debts_wide s c p w e; deal = x.deal }
+row_wide s c p steady w f h e = let x = entries_wide s c p steady w f h e in record { ins = x.ins; outs = x.outs; debts = debts_pass fits_there s c (row s p) (λ q. (w.rows q).outs) (w.rows p).debts; deal = x.deal }
 
 -- ---- every change
 

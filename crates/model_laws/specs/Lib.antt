@@ -1,2 +1,4 @@
 pub mod Moved
 pub mod Worked
+pub mod Links
+pub mod Following

@@ -2,6 +2,8 @@
 #![tactic(auto)]
 
 ghost use Rattle.psb_model.specs.History.{AllExplained, Balances, StaysWithin};
+ghost use Rattle.model_laws.specs.Following.{AllDiscardsFollow, AllOutcomesOnce};
+ghost use Rattle.model_laws.specs.Links.{AllAreLinked};
 ghost use Rattle.model_laws.specs.Moved.{AllAreSums};
 ghost use Rattle.model_laws.specs.Worked.{WorkedRows};
 
@@ -28,6 +30,28 @@ pub fn explanation_law()
 /// changes moved, by a table of its own.
 pub fn sums_law()
     ensures { AllAreSums }
+{}
+
+/// After every lawful history: forwarded claims and the slots that carry them are linked one to one.
+/// What stands at the seat to which an entry is forwarded carries that entry, and the entry that a slot
+/// carries is there, forwarded to this slot; so no two slots that stand carry one entry, and no two
+/// entries are forwarded to one slot that stands.
+pub fn links_law()
+    ensures { AllAreLinked }
+{}
+
+/// In every lawful history each discard of a peer comes after a failure of that peer, a Failed or
+/// Declined change, and no other discard of the peer is between the two.
+pub fn discards_law()
+    ensures { AllDiscardsFollow }
+{}
+
+/// In every lawful history each outcome of a probe of the node's own comes behind the Asked change that
+/// it names by number. Between the two the peer is neither asked again, nor is there another outcome of
+/// a probe of it. A Passed or Failed lists the objects that were asked for, and a Declined names places
+/// among them. So no Asked has two outcomes.
+pub fn outcomes_law()
+    ensures { AllOutcomesOnce }
 {}
 
 /// Worked histories are lawful, with these numbers and states: a chunk that was taken, a slot that

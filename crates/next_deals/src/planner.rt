@@ -6,7 +6,6 @@ ghost use Rattle.psb_model.specs.State.{row, nothing_yet};
 ghost use Rattle.psb_model.specs.Grammar.{in_grammar};
 ghost use Rattle.psb_model.specs.Conditions.{allowed};
 ghost use Rattle.psb_model.specs.Effects.{after};
-ghost use Rattle.psb_model.specs.History.{is_built};
 ghost use Rattle.psb_model.specs.Proposing.{may_release, is_missing, slots_to_give, slots_to_fill};
 ghost use Rattle.psb_ledger.specs.View.{HasRoom};
 
@@ -79,7 +78,7 @@ impl Planner {
         requires grammar { IsTrue (in_grammar c) }
         requires room { HasRoom self.old c }
         requires few { self.old.state.changes < 2 ^ 62 }
-        requires may { IsTrue (is_built c && allowed self.old.state c) }
+        requires may { IsTrue (allowed self.old.state c) }
         ensures { self.new.state ≡ after self.old.state c }
     {
         self.ledger.is_reached();

@@ -150,7 +150,7 @@ can_choose node n q k opened =
     ∙ found_same settings.peers node.clocks.items (map key_of_row settings.peers) n.volatile (length q.names) clocks (all_keyed settings.peers) in
     subst CanChoose (sym same) (record {
       asked = found_asked settings.peers n.volatile.samples (length q.names) is.some_names;
-      distinct = found_distinct settings.peers n.volatile.samples (length q.names) (settings_read n.history settings k.valid.built k.settings.present).distinct;
+      distinct = found_distinct settings.peers n.volatile.samples (length q.names) (settings_read n.history settings k.settings.present).distinct;
     })
 
 -- ---- it may be made
@@ -171,7 +171,7 @@ chosen_few : (settings : Settings) (n : Situation) (p : ℕ) (cs : List Candidat
 chosen_few settings n p cs v present is =
     choice_cases (length cs ≤ 64) settings n p cs is (λ q f.
     let found = candidates settings.peers n.volatile.samples (length q.names) in
-    omega (arith, ap length f.order, put_long found, found_few settings.peers n.volatile.samples (length q.names), (settings_read n.history settings v.built present).few_peers))
+    omega (arith, ap length f.order, put_long found, found_few settings.peers n.volatile.samples (length q.names), (settings_read n.history settings present).few_peers))
 
 pub record MayChoose (n : Situation) (c : Change) : Type 0 where
   pub make : MayMake (state n.history) c
@@ -182,14 +182,13 @@ may_choose settings n p cs v present few is =
     let m = choice_may settings n p cs v present is in
     record {
       make = record {
-        read = m.built;
         grammar = m.grammar;
-        may = rw (m.built, m.may) refl;
+        may = m.may;
         few = few;
         there = refl;
         short = omega (arith, chose_short cs (chosen_few settings n p cs v present is));
       };
-      valid = valid_snoc n.history (choice_of cs) v m.grammar m.may m.widths m.built m.brings;
+      valid = valid_snoc n.history (choice_of cs) v m.grammar m.may m.widths m.brings;
     }
 
 by_choice_made : {P : Type 0} (o : Option (List Candidate)) (c : Change) → Some c ≡ option_map choice_of o → ((cs : List Candidate) → o ≡ Some cs → c ≡ choice_of cs → P) → P

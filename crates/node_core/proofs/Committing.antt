@@ -1,7 +1,7 @@
 -- A change is made as the machine makes it.
 use Rattle.std.proofs.Common.{◌≡◌, ◌⊎◌, inl, inr, ⊎_elim, ℕ, ◌≤◌, ◌<◌, Bool, true, List, [], ◌∷◌, ◌++◌, length, is_some, option_map, option_to_list, Option, Some, None, refl, sym, ◌∙◌, ap, subst, arith}
 use Rattle.std.specs.Option.{unwrap_or}
-use Rattle.std.proofs.lemmas.Bool.{and_parts, eqb-true, false≢true}
+use Rattle.std.proofs.lemmas.Bool.{eqb-true, false≢true}
 use Rattle.std.proofs.lemmas.List.{append-nil}
 use Rattle.psb_station.specs.View.{View}
 use Rattle.psb_station.specs.Span.{Leaves, Shows, Keeps, Tells_bytes}
@@ -26,7 +26,6 @@ use Rattle.psb_machine.specs.Sampling.{question_of, keeps_question}
 use Rattle.psb_machine.specs.declared.question.Question.{Question}
 use Rattle.psb_machine.proofs.Unticked.{passed, clocks_pass, noted_pass}
 use Rattle.psb_machine.proofs.Questions.{question_stays}
-use Rattle.psb_model.specs.History.{is_built}
 use Rattle.psb_model.proofs.Steady.{steady_state}
 use Rattle.node_core.specs.declared.clocks.Clock.{Clock}
 use Rattle.node_core.specs.Peers.{PeersView}
@@ -81,8 +80,8 @@ clocks_stepped old new n m c k grown peers clocks =
     subst (λ (l : List Clock). KnowsClocks l new.peers.keys (by_changes s m.grown n.volatile)) (sym (clocks ∙ ap (λ (i : ℕ). clocks_changed i c old.clocks.items) own)) keyed
 
 -- the question is the same, or is worked out anew
-question_stepped : {L : Type 0} (old : Node L) (n : Situation) (c : Change) (q : Option Question) → Knows old n → is_built c ≡ true → allowed (state n.history) c ≡ true → ((q ≡ old.question) × (keeps_question c ≡ true)) ⊎ (q ≡ None) → IsKnown q (after (state n.history) c)
-question_stepped old n c q k built may kept =
+question_stepped : {L : Type 0} (old : Node L) (n : Situation) (c : Change) (q : Option Question) → Knows old n → allowed (state n.history) c ≡ true → ((q ≡ old.question) × (keeps_question c ≡ true)) ⊎ (q ≡ None) → IsKnown q (after (state n.history) c)
+question_stepped old n c q k may kept =
     ⊎_elim
     (λ both. subst (λ (o : Option Question). IsKnown o (after (state n.history) c)) (sym both.0)
     (known_then old.question (state n.history) (after (state n.history) c) (question_stays (state n.history) c (steady_state n.history k.valid.lawful) may both.1) k.question))
@@ -101,7 +100,7 @@ step_knows old new n m c mid size may k step grown same enters counted rest issu
     let h = n.history in
     let here : old.ledger.state.changes ≡ length h = ap (λ (s : State). s.changes) k.ledger ∙ changes_counted h in
     let after_is : after (state h) c ≡ state (h ++ c ∷ []) = sym (state_snoc h c) in
-    let allowed_here = subst (λ (s : State). allowed s c ≡ true) k.ledger (and_parts _ (allowed old.ledger.state c) may.may).1 in
+    let allowed_here = subst (λ (s : State). allowed s c ≡ true) k.ledger may.may in
     let settings : KnowsSettings new (after (state h) c) = record {
       settings = k.settings.settings;
       present = settings_stay (state h) c allowed_here (omega (arith, changes_counted h, k.valid.some)) ∙ k.settings.present;
@@ -112,10 +111,10 @@ step_knows old new n m c mid size may k step grown same enters counted rest issu
       valid = with_it n m c step;
       ledger = grown ∙ ap (λ (s : State). after s c) k.ledger ∙ after_is;
       settings = subst (λ (s : State). KnowsSettings new s) after_is settings;
-      names = names_grown mid new.names h c k.valid.lawful k.valid.built may.read allowed_here (names_same old.names mid h same k.names) (subst (λ (s : State). Enters s mid new.names c (length h)) k.ledger (subst (λ (j : ℕ). Enters old.ledger.state mid new.names c j) (sym counted ∙ here) enters));
+      names = names_grown mid new.names h c k.valid.lawful allowed_here (names_same old.names mid h same k.names) (subst (λ (s : State). Enters s mid new.names c (length h)) k.ledger (subst (λ (j : ℕ). Enters old.ledger.state mid new.names c j) (sym counted ∙ here) enters));
       issued = omega (arith, issued, ap (λ (s : State). s.issued) grown, ap (λ (s : State). (after s c).issued) k.ledger, ap (λ (s : State). s.issued) after_is);
       clocks = clocks_stepped old new n m c k step.grown rest.peers clocks;
-      question = subst (IsKnown new.question) after_is (question_stepped old n c new.question k may.read allowed_here question);
+      question = subst (IsKnown new.question) after_is (question_stepped old n c new.question k allowed_here question);
     } in
     subst (λ (o : Situation). Knows new o) (sym (λ j. record { history = grown_to n m c step.grown j; volatile = (settled n (steady n m)).volatile })) knows
 

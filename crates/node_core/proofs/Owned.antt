@@ -164,7 +164,6 @@ kept_may_make h name bytes some f lacks few =
     let may = kept_may h name bytes some f lacks in
     let named : length name ≡ 32 = eqb-true (length name) 32 (and_parts (length name == 32) (list_all is_u8 name) f.name_fits).0 in
     record {
-      read = refl;
       grammar = may.0;
       may = may.1;
       few = few;
@@ -271,7 +270,6 @@ snap_may_come r node note c makes is f known few =
         let here : SnapFits (state h) note = subst (λ (s : State). SnapFits s note) k.ledger f in
         let may = snapped_may h note k.valid.some here in
         subst (λ (s : State). MayMake s (snapped_with s note)) (sym k.ledger) (record {
-          read = refl;
           grammar = may.0;
           may = may.1;
           few = subst (λ (s : State). s.changes < 2 ^ 62) k.ledger few;
@@ -295,7 +293,6 @@ forget_may_come r node number makes fits has known few =
     may_make known =
         let k = known.1 in
         subst (λ (s : State). MayMake s (Forgot (record { number = number }))) (sym k.ledger) (record {
-          read = refl;
           grammar = refl;
           may = forgot_may known.0.history number k.valid.some (there known.0 k);
           few = subst (λ (s : State). s.changes < 2 ^ 62) k.ledger few;

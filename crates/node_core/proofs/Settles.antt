@@ -73,12 +73,12 @@ may_settle : (n : Situation) (p number : ℕ) (reply : AnyReply) (c : Change) �
 may_settle n p number reply c v peer p_fits number_fits f makes few =
     let m = settle_may n.history p number reply c v.some peer p_fits number_fits f makes in
     let r = subst IsShort (is_answer (state n.history) p number reply c makes) (short_reply p number reply f) in
-    record { read = m.built; grammar = m.grammar; may = rw (m.built, m.may) refl; few = few; there = r.there; short = r.short }
+    record { grammar = m.grammar; may = m.may; few = few; there = r.there; short = r.short }
 
 -- ---- the reply that a node reads
 
 peer_of : {L : Type 0} (node : Node L) (n : Situation) (x : List ℕ) (r : Reply) (k : Knows node n) → IsReply node.peers.own.id node.peers.keys x r → is_peer (state n.history) r.peer ≡ true
-peer_of node n x r k is = keyed_is_peer n.history k.settings.settings r.peer is.key k.valid.built k.settings.present (keyed_in node n r.peer is.key k is.keyed)
+peer_of node n x r k is = keyed_is_peer n.history k.settings.settings r.peer is.key k.settings.present (keyed_in node n r.peer is.key k is.keyed)
 
 pub settles_as : {L : Type 0} (node : Node L) (n : Situation) (x : List ℕ) (r : Reply) → Knows node n → IsReply node.peers.own.id node.peers.keys x r → SettlesDeal n x r
 settles_as node n x r k is = record {
@@ -87,7 +87,7 @@ settles_as node n x r k is = record {
       ∙ on_read-reply k.settings.settings n _ r.peer r.reply.number is.key is.frame (answer_in r.reply.answer) is.reads is.answers (keyed_in node n r.peer is.key k is.keyed);
   valid = λ c makes.
       let m = settle_may n.history r.peer r.reply.number (answer_in r.reply.answer) c k.valid.some (peer_of node n x r k is) is.peer_fits is.number_fits is.fits makes in
-      valid_snoc n.history c k.valid m.grammar m.may m.widths m.built m.brings;
+      valid_snoc n.history c k.valid m.grammar m.may m.widths m.brings;
 }
 
 pub can_settle : {L : Type 0} (node : Node L) (n : Situation) (x : List ℕ) (r : Reply) → Knows node n → IsReply node.peers.own.id node.peers.keys x r → node.ledger.state.changes < 2 ^ 62 → (c : Change) → settled_by node.ledger.state r ≡ Some c → MayMake node.ledger.state c

@@ -219,19 +219,18 @@ may_propose node n p a c k small few q grown =
     let s = state n.history in
     let number = (row s p).mine + 1 in
     let is : Proposed (record { peer = p; deal = number; what = what }) ≡ c = cc (ap (grown_by p) same ∙ grown) in
-    let m = proposed_may n.history q.settings p what k.valid q.present (keyed_is_peer n.history q.settings p q.key k.valid.built q.present q.keyed) (tick_fits n p k.valid small few) idle found in
+    let m = proposed_may n.history q.settings p what k.valid q.present (keyed_is_peer n.history q.settings p q.key q.present q.keyed) (tick_fits n p k.valid small few) idle found in
     let fits = and_parts (is_u32 p && is_u64 number) (what_fits what) m.widths in
     let askable = subst (λ (b : MachineAsking). is_askable s p b.deal.what ≡ true) (sym same) (asking_askable q.settings n p a k.valid q.present q.asking) in
     subst (MayPropose n) is (record {
       make = record {
-        read = m.built;
         grammar = m.grammar;
-        may = rw (m.built, m.may) refl;
+        may = m.may;
         few = few;
         there = refl;
         short = omega (arith, proposed_short p number what (fields_short s p what fits.1 askable));
       };
-      valid = valid_snoc n.history (Proposed (record { peer = p; deal = number; what = what })) k.valid m.grammar m.may m.widths m.built m.brings;
+      valid = valid_snoc n.history (Proposed (record { peer = p; deal = number; what = what })) k.valid m.grammar m.may m.widths m.brings;
     }))
 
 -- so it may come next

@@ -1,6 +1,5 @@
 -- The names of a node's store follow its history.
 use Rattle.std.proofs.Common.{◌≡◌, ◌⊎◌, inl, inr, ℕ, ◌+◌, ◌<◌, Bool, true, false, not, ◌||◌, ◌&&◌, ◌==◌, cond, List, [], ◌∷◌, ◌++◌, length, is_some, Option, Some, None, refl, sym, ◌∙◌, ap, subst, arith}
-use Rattle.std.specs.List.{list_all}
 use Rattle.std.proofs.lemmas.Bool.{false≢true, eqb-true}
 use Rattle.psb_bytes.specs.declared.ids.Object.{Object}
 use Rattle.psb_bytes.specs.declared.ids.Object.TheVariants.{Chunk}
@@ -10,23 +9,21 @@ use Rattle.chunk_store.specs.declared.store.Store.{Store}
 use Rattle.chunk_store.specs.Owners.{owner_eq}
 use Rattle.chunk_store.specs.Records.{or_else}
 use Rattle.chunk_store.specs.Store.{record_of, is_owner}
-use Rattle.psb_model.specs.declared.entries.InEntry.{InEntry}
 use Rattle.psb_model.specs.declared.change.Change.{Change}
-use Rattle.psb_model.specs.declared.change.Change.TheVariants.{Begun, Kept, Snapped, Forgot, TookFresh, TookSwap, LetGo, LetGoBack, Refused, Proposed, Settled, Turned, Asked, Passed, Failed, Declined, Discarded, Chose}
-use Rattle.psb_model.specs.Words.{name_eq, name_listed, object_eq, listed, has, without}
-use Rattle.psb_model.specs.State.{Row, State, nothing_yet, row, row_in, has_row, at_row, is_peer, in_key, own_has, own_marked, is_held}
+use Rattle.psb_model.specs.declared.change.Change.TheVariants.{Begun, Kept, Snapped, Forgot, TookFresh, TookSwap, LetGo, LetGoBack, Replaced, Refused, Proposed, Settled, Turned, Asked, Passed, Failed, Declined, Discarded, Chose}
+use Rattle.psb_model.specs.Words.{name_eq, name_listed, listed, has}
+use Rattle.psb_model.specs.State.{Row, State, nothing_yet, row, row_in, is_peer, in_key, own_has, own_marked, is_held}
 use Rattle.psb_model.specs.Conditions.{allowed, tests, settings_of_body, peer_of, of_a_peer, is_begun}
 use Rattle.psb_model.specs.Effects.{after, own_after, all_rows_after, kept_lists, kept_without, is_named}
-use Rattle.psb_model.specs.History.{state, is_built, is_lawful}
+use Rattle.psb_model.specs.History.{state, is_lawful}
 use Rattle.psb_model.specs.Needed.{brings_name}
-use Rattle.psb_model.proofs.ByObject.{by_cases, object_eq-same}
+use Rattle.psb_model.proofs.ByObject.{by_cases}
 use Rattle.psb_model.proofs.Own.{name_same}
-use Rattle.psb_model.proofs.Rows.{row_in-at_row, row_in-at_other, row_in-first_rows}
+use Rattle.psb_model.proofs.Rows.{row_in-first_rows}
 use Rattle.psb_model.proofs.Steps.{parts}
-use Rattle.psb_model.proofs.Built.{IsPlain, plain_state, rows_one, row_then}
-use Rattle.psb_model.proofs.Steady.{steady_state, marks_has, allows, begun_before}
-use Rattle.psb_model.proofs.Bare.{changed}
-use Rattle.psb_model.proofs.Held.{held_in, own_with_is, Gains, Loses, fresh_gains, swap_gains, refused_gains, proposed_gains, settled_gains, turned_gains, let_go_loses, put_back_loses, still_gains, all_gain, none_first, was_held, brings_none}
+use Rattle.psb_model.proofs.Steady.{IsSteady, steady_state, marks_has, allows, begun_before}
+use Rattle.psb_model.proofs.Bare.{bare, bare_in, has_bare, changed, row_bare}
+use Rattle.psb_model.proofs.Held.{or_none, or_last, or_middle, and_none, has_less, held_in, own_with_is, Gains, Loses, fresh_gains, swap_gains, settled_gains, turned_gains, let_go_loses, put_back_loses, still_gains, held_more, none_first, was_held, brings_none}
 use Rattle.model_laws.proofs.Leaving.{gives_up_none, own_stays, forgot_has, ended_has, settled_beside, turned_beside, discard_beside}
 use Rattle.psb_model.proofs.Prefixes.{state_snoc, changes_counted}
 use Rattle.node_history.specs.declared.entering.Entering.{Entering}
@@ -38,24 +35,9 @@ use Rattle.node_history.proofs.Dropping.{owner_same, gone_as}
 
 -- ---- one of two
 
-or_none : (a : Bool) → (a || false) ≡ a
-or_none true = refl
-or_none false = refl
-
-or_last : (a b c : Bool) → (a || (b || c)) ≡ ((a || b) || c)
-or_last true b c = refl
-or_last false b c = refl
-
-or_middle : (a b c : Bool) → ((a || b) || c) ≡ ((a || c) || b)
-or_middle true b c = refl
-or_middle false true true = refl
-or_middle false true false = refl
-or_middle false false true = refl
-or_middle false false false = refl
-
-and_none : (a : Bool) → (a && false) ≡ false
-and_none true = refl
-and_none false = refl
+and_true : (a : Bool) → (a && true) ≡ a
+and_true true = refl
+and_true false = refl
 
 not_true : (a : Bool) → not a ≡ true → a ≡ false
 not_true true h = absurd (false≢true h)
@@ -63,19 +45,21 @@ not_true false h = refl
 
 -- ---- what the rows have after a change
 
-one_gains : (p : ℕ) (f : Row → Row) (q : List ℕ) (b : Bool) (rows : List (ℕ × Row)) → has_row rows p ≡ true → Gains f q b → (o : ℕ) → has in_key (row_in (at_row p f rows) o).ins (Chunk q) ≡ (has in_key (row_in rows o).ins (Chunk q) || (b && (p == o)))
-one_gains p f q b rows here gains o = by_cases (p == o)
-    (λ k.
-    let same : p ≡ o = eqb-true p o k in
-    subst (λ (x : ℕ). has in_key (row_in (at_row p f rows) x).ins (Chunk q) ≡ (has in_key (row_in rows x).ins (Chunk q) || (b && (p == x)))) same
-    (ap (λ (r : Row). has in_key r.ins (Chunk q)) (row_in-at_row p f rows here) ∙ gains (row_in rows p) ∙ ap (λ (c : Bool). has in_key (row_in rows p).ins (Chunk q) || c) (sym (and_true b (p == p) (ap (λ (x : ℕ). p == x) same ∙ k)))))
-    (λ k.
-    ap (λ (r : Row). has in_key r.ins (Chunk q)) (row_in-at_other p o f rows k)
-    ∙ sym (ap (λ (c : Bool). has in_key (row_in rows o).ins (Chunk q) || (b && c)) k ∙ ap (λ (c : Bool). has in_key (row_in rows o).ins (Chunk q) || c) (and_none b) ∙ or_none (has in_key (row_in rows o).ins (Chunk q))))
-  where
-    and_true : (b c : Bool) → c ≡ true → (b && c) ≡ b
-    and_true true c is = is
-    and_true false c is = refl
+-- which chunks a row has here does not look at the states of entries
+in_bare : (r : Row) (q : List ℕ) → has in_key (bare r).ins (Chunk q) ≡ has in_key r.ins (Chunk q)
+in_bare r q = has_bare in_key bare_in (λ e. refl) r.ins (Chunk q)
+
+-- so a change of a peer changes them in the row of that peer alone
+ins_then : (s : State) (c : Change) (p r : ℕ) (q : List ℕ) → peer_of c ≡ Some p → is_peer s p ≡ true → has in_key (row (after s c) r).ins (Chunk q) ≡ has in_key (cond (p == r) (changed s c (row s r)) (row s r)).ins (Chunk q)
+ins_then s c p r q peer here =
+    sym (in_bare (row (after s c) r) q)
+    ∙ ap (λ (x : Row). has in_key x.ins (Chunk q)) (row_bare s c p r peer here)
+    ∙ in_bare (cond (p == r) (changed s c (row s r)) (row s r)) q
+
+one_gains : (s : State) (c : Change) (p r : ℕ) (q : List ℕ) (b : Bool) → peer_of c ≡ Some p → is_peer s p ≡ true → Gains (changed s c) q b → has in_key (row (after s c) r).ins (Chunk q) ≡ (has in_key (row s r).ins (Chunk q) || (b && (p == r)))
+one_gains s c p r q b peer here gains = ins_then s c p r q peer here ∙ by_cases (p == r)
+    (λ k. rw k (gains (row s r) ∙ ap (λ (x : Bool). has in_key (row s r).ins (Chunk q) || x) (sym (and_true b))))
+    (λ k. rw k (sym (ap (λ (x : Bool). has in_key (row s r).ins (Chunk q) || x) (and_none b) ∙ or_none (has in_key (row s r).ins (Chunk q)))))
 
 -- ---- who owns what, and what is held, after a change
 
@@ -84,34 +68,30 @@ record Differ (s t : State) (owner : Owner) (name : List ℕ) (b : Bool) : Type 
   owners : (o : Owner) (q : List ℕ) → owns t o q ≡ (owns s o q || ((b && name_eq name q) && owner_eq owner o))
   held : (q : List ℕ) → is_held t q ≡ (is_held s q || (b && name_eq name q))
 
-differ_at : (s t : State) (p : ℕ) (f : Row → Row) (name : List ℕ) (b : Bool) → t.own ≡ s.own → t.rows ≡ at_row p f s.rows → is_peer s p ≡ true → ((q : List ℕ) → Gains f q (b && name_eq name q)) → Differ s t (Peer p) name b
-differ_at s t p f name b own rows peer gains = record {
+-- a change of a peer that gives it the chunk, if b, and leaves what is the node's own
+differ_at : (s : State) (c : Change) (p : ℕ) (name : List ℕ) (b : Bool) → (after s c).own ≡ s.own → peer_of c ≡ Some p → is_peer s p ≡ true → ((q : List ℕ) → Gains (changed s c) q (b && name_eq name q)) → Differ s (after s c) (Peer p) name b
+differ_at s c p name b own peer here gains = record {
   owners = λ o q. by_owner o q;
   held = λ q.
-      (λ i. own_has (own i) q || held_in (rows i) q)
-      ∙ ap (λ (x : Bool). own_has s.own q || x) (all_gain p f q (b && name_eq name q) s.rows peer (gains q))
+      (λ i. own_has (own i) q || held_more s c p q (b && name_eq name q) peer here (gains q) i)
       ∙ or_last (own_has s.own q) (held_in s.rows q) (b && name_eq name q);
 }
   where
-    by_owner : (o : Owner) (q : List ℕ) → owns t o q ≡ (owns s o q || ((b && name_eq name q) && owner_eq (Peer p) o))
+    by_owner : (o : Owner) (q : List ℕ) → owns (after s c) o q ≡ (owns s o q || ((b && name_eq name q) && owner_eq (Peer p) o))
     by_owner Own q = ap (λ own. own_has own q) own ∙ sym (ap (λ (x : Bool). own_has s.own q || x) (and_none (b && name_eq name q)) ∙ or_none (own_has s.own q))
-    by_owner (Peer r) q = ap (λ (l : List (ℕ × Row)). has in_key (row_in l r).ins (Chunk q)) rows ∙ one_gains p f q (b && name_eq name q) s.rows peer (gains q) r
+    by_owner (Peer r) q = one_gains s c p r q (b && name_eq name q) peer here (gains q)
 
-differ_kept : (s : State) (name : List ℕ) (len : ℕ) (new : Bool) (body : Option (List ℕ)) → IsPlain s → allowed s (Kept (record { name = name; len = len; new = new; body = body })) ≡ true → Differ s (after s (Kept (record { name = name; len = len; new = new; body = body }))) Own name true
-differ_kept s name len new body plain may = record {
+differ_kept : (s : State) (name : List ℕ) (len : ℕ) (new : Bool) (body : Option (List ℕ)) → IsSteady s → allowed s (Kept (record { name = name; len = len; new = new; body = body })) ≡ true → Differ s (after s (Kept (record { name = name; len = len; new = new; body = body }))) Own name true
+differ_kept s name len new body steady may = record {
   owners = λ o q. by_owner o q;
   held = λ q. ap (λ (x : Bool). x || held_in s.rows q) (own_now q) ∙ or_middle (own_has s.own q) (name_eq name q) (held_in s.rows q);
 }
   where
     own_now : (q : List ℕ) → own_has (after s (Kept (record { name = name; len = len; new = new; body = body }))).own q ≡ (own_has s.own q || name_eq name q)
-    own_now q = ap (λ own. own_has own q) (own_stays s (Kept (record { name = name; len = len; new = new; body = body })) plain.steady may refl) ∙ own_with_is (record { name = name; len = len; marked = false }) s.own q
+    own_now q = ap (λ own. own_has own q) (own_stays s (Kept (record { name = name; len = len; new = new; body = body })) steady may refl) ∙ own_with_is (record { name = name; len = len; marked = false }) s.own q
 
     by_owner : (o : Owner) (q : List ℕ) → owns (after s (Kept (record { name = name; len = len; new = new; body = body }))) o q ≡ (owns s o q || (name_eq name q && owner_eq Own o))
     by_owner Own q = own_now q ∙ ap (λ (x : Bool). own_has s.own q || x) (sym (and_true (name_eq name q)))
-      where
-        and_true : (a : Bool) → (a && true) ≡ a
-        and_true true = refl
-        and_true false = refl
     by_owner (Peer p) q = sym (ap (λ (x : Bool). has in_key (row s p).ins (Chunk q) || x) (and_none (name_eq name q)) ∙ or_none (has in_key (row s p).ins (Chunk q)))
 
 -- ---- the store after a change
@@ -132,9 +112,9 @@ abbrev pub IsPlaced : Store → Change → ℕ → List ℕ → ℕ → Type 0
 IsPlaced old c number q k = ((record_of old q ≡ Some k) × (brings_name q c ≡ false)) ⊎ ((number ≡ k) × (brings_name q c ≡ true))
 
 -- a change that adds an owner to a name brings its bytes where none are held under it
-added_placed : (old new : Store) (h : List Change) (c : Change) (owner : Owner) (name : List ℕ) (brings : Bool) (number : ℕ) → is_built c ≡ true → allowed (state h) c ≡ true → ((q : List ℕ) → brings_name q c ≡ (brings && name_eq name q)) → (is_held (state h) name ≡ false → brings ≡ true)
+added_placed : (old new : Store) (h : List Change) (c : Change) (owner : Owner) (name : List ℕ) (brings : Bool) (number : ℕ) → allowed (state h) c ≡ true → ((q : List ℕ) → brings_name q c ≡ (brings && name_eq name q)) → (is_held (state h) name ≡ false → brings ≡ true)
     → KnowsNames old h → Adds old new owner name number → (q : List ℕ) (k : ℕ) → record_of new q ≡ Some k → IsPlaced old c number q k
-added_placed old new h c owner name brings number built may names_it fresh knows adds q k is = by_old (record_of old q) refl
+added_placed old new h c owner name brings number may names_it fresh knows adds q k is = by_old (record_of old q) refl
   where
     now : (r : Option ℕ) → record_of old q ≡ r → or_else r (cond (name_eq name q) (Some number) None) ≡ Some k
     now r there = sym (ap (λ (o : Option ℕ). or_else o (cond (name_eq name q) (Some number) None)) there) ∙ sym (adds.records q) ∙ is
@@ -167,35 +147,26 @@ left_record : (old new : Store) (owner : Owner) (q : List ℕ) (k : ℕ) → IsL
 left_record old new owner q k (inl was) is = sym was.0 ∙ is
 left_record old new owner q k (inr none) is = absurd (let clash : None ≡ Some k = sym none.0 ∙ is in cc)
 
-pub placed : (old new : Store) (h : List Change) (c : Change) (number : ℕ) → is_lawful h ≡ true → list_all is_built h ≡ true → is_built c ≡ true → allowed (state h) c ≡ true → KnowsNames old h → Enters (state h) old new c number → (q : List ℕ) (k : ℕ) → record_of new q ≡ Some k → IsPlaced old c number q k
-placed old new h (Begun x) number lawful built is may knows enters q k here = inl (sym (enters.records q) ∙ here, refl)
-placed old new h (Kept x) number lawful built is may knows enters q k here =
+pub placed : (old new : Store) (h : List Change) (c : Change) (number : ℕ) → allowed (state h) c ≡ true → KnowsNames old h → Enters (state h) old new c number → (q : List ℕ) (k : ℕ) → record_of new q ≡ Some k → IsPlaced old c number q k
+placed old new h (Kept x) number may knows enters q k here =
     let c : Change = Kept x in
     let ts = parts (tests (state h) c) (allows (state h) c may).tests in
-    added_placed old new h c Own x.name x.new number refl may (kept_brings x.name x.len x.new x.body) (λ free. is_fresh (is_held (state h) x.name) x.new ts.1.0 free) knows enters q k here
-placed old new h (Snapped x) number lawful built is may knows enters q k here = inl (sym (enters.records q) ∙ here, refl)
-placed old new h (Forgot x) number lawful built is may knows enters q k here = inl (left_record old new Own q k (enters.drops.records q) here, refl)
-placed old new h (TookFresh x) number lawful built is may knows enters q k here =
+    added_placed old new h c Own x.name x.new number may (kept_brings x.name x.len x.new x.body) (λ free. is_fresh (is_held (state h) x.name) x.new ts.1.0 free) knows enters q k here
+placed old new h (Forgot x) number may knows enters q k here = inl (left_record old new Own q k (enters.drops.records q) here, refl)
+placed old new h (TookFresh x) number may knows enters q k here =
     let c : Change = TookFresh x in
     let ts = parts (tests (state h) c) (allows (state h) c may).tests in
-    added_placed old new h c (Peer x.peer) x.name x.new number refl may (fresh_brings x.peer x.deal x.name x.first x.len x.new x.body) (λ free. is_fresh (is_held (state h) x.name) x.new ts.1.1.0 free) knows enters q k here
-placed old new h (TookSwap x) number lawful built is may knows enters q k here =
+    added_placed old new h c (Peer x.peer) x.name x.new number may (fresh_brings x.peer x.deal x.name x.first x.len x.new x.body) (λ free. is_fresh (is_held (state h) x.name) x.new ts.1.1.0 free) knows enters q k here
+placed old new h (TookSwap x) number may knows enters q k here =
     let c : Change = TookSwap x in
     let ts = parts (tests (state h) c) (allows (state h) c may).tests in
-    added_placed old new h c (Peer x.peer) x.name x.new number refl may (swap_brings x.peer x.deal x.name x.slots x.len x.new x.body) (λ free. is_fresh (is_held (state h) x.name) x.new ts.1.1.0 free) knows enters q k here
-placed old new h (LetGo x) number lawful built is may knows enters q k here = inl (left_record old new (Peer x.peer) q k (enters.records q) here, refl)
-placed old new h (LetGoBack x) number lawful built is may knows enters q k here = inl (left_record old new (Peer x.peer) q k (enters.records q) here, refl)
-placed old new h (Refused x) number lawful built is may knows enters q k here = inl (sym (enters.records q) ∙ here, refl)
-placed old new h (Proposed x) number lawful built is may knows enters q k here = inl (sym (enters.records q) ∙ here, refl)
-placed old new h (Settled x) number lawful built is may knows enters q k here = inl (left_record old new Own q k (enters.drops.records q) here, refl)
-placed old new h (Turned x) number lawful built is may knows enters q k here = inl (left_record old new Own q k (enters.drops.records q) here, refl)
-placed old new h (Chose x) number lawful built is may knows enters q k here = inl (sym (enters.records q) ∙ here, refl)
-placed old new h (Asked x) number lawful built is may knows enters q k here = inl (sym (enters.records q) ∙ here, refl)
-placed old new h (Passed x) number lawful built is may knows enters q k here = inl (sym (enters.records q) ∙ here, refl)
-placed old new h (Failed x) number lawful built is may knows enters q k here = inl (sym (enters.records q) ∙ here, refl)
-placed old new h (Declined x) number lawful built is may knows enters q k here = inl (sym (enters.records q) ∙ here, refl)
-placed old new h (Discarded x) number lawful built is may knows enters q k here = inl (left_record old enters.0 (Peer x.peer) q k (enters.1.records q) (left_record enters.0 new Own q k (enters.2.drops.records q) here), refl)
-placed old new h _ number lawful built is may knows enters q k here = absurd (false≢true is)
+    added_placed old new h c (Peer x.peer) x.name x.new number may (swap_brings x.peer x.deal x.name x.slots x.len x.new x.body) (λ free. is_fresh (is_held (state h) x.name) x.new ts.1.1.0 free) knows enters q k here
+placed old new h (LetGo x) number may knows enters q k here = inl (left_record old new (Peer x.peer) q k (enters.records q) here, refl)
+placed old new h (LetGoBack x) number may knows enters q k here = inl (left_record old new (Peer x.peer) q k (enters.records q) here, refl)
+placed old new h (Settled x) number may knows enters q k here = inl (left_record old new Own q k (enters.drops.records q) here, refl)
+placed old new h (Turned x) number may knows enters q k here = inl (left_record old new Own q k (enters.drops.records q) here, refl)
+placed old new h (Discarded x) number may knows enters q k here = inl (left_record old enters.0 (Peer x.peer) q k (enters.1.records q) (left_record enters.0 new Own q k (enters.2.drops.records q) here), refl)
+placed old new h _ number may knows enters q k here = inl (sym (enters.records q) ∙ here, refl)
 
 placed_brought : (old : Store) (h : List Change) (c : Change) (q : List ℕ) (k : ℕ) → KnowsNames old h → IsPlaced old c (length h) q k → brought_from 0 q (h ++ c ∷ []) ≡ Some k
 placed_brought old h c q k knows (inl was) = brought_snoc 0 q h c ∙ ap (λ (b : Bool). cond b (Some (0 + length h)) (brought_from 0 q h)) was.1 ∙ knows.records q k was.0
@@ -220,10 +191,6 @@ added_names old new h c owner name differ knows adds places = record {
 or_parts : (a b : Bool) → (a || b) ≡ false → (a ≡ false) × (b ≡ false)
 or_parts true b h = absurd (false≢true (sym h))
 or_parts false b h = (refl, h)
-
-and_true : (a : Bool) → (a && true) ≡ a
-and_true true = refl
-and_true false = refl
 
 -- where the store has the owners of a state: who is not held has no owner, and who has none is not held
 nobody_has : (store : Store) (s : State) (q : List ℕ) → ((o : Owner) → is_owner store o q ≡ owns s o q) → is_held s q ≡ false → HasNoOwner store q
@@ -267,9 +234,9 @@ left_was old new q k (inl was) is = sym was.0 ∙ is
 left_was old new q k (inr none) is = absurd (let clash : None ≡ Some k = sym none.0 ∙ is in cc)
 
 -- Owners were taken from some names by a change that brings no bytes: a name is held where it has an owner left.
-left_names : (old new : Store) (h : List Change) (c : Change) → is_lawful h ≡ true → list_all is_built h ≡ true → is_built c ≡ true → is_begun c ≡ false → allowed (state h) c ≡ true → ((q : List ℕ) → brings_name q c ≡ false)
+left_names : (old new : Store) (h : List Change) (c : Change) → is_lawful h ≡ true → is_begun c ≡ false → allowed (state h) c ≡ true → ((q : List ℕ) → brings_name q c ≡ false)
     → KnowsNames old h → ((q : List ℕ) → IsLeftAs old new q) → ((o : Owner) (q : List ℕ) → is_owner new o q ≡ owns (after (state h) c) o q) → KnowsNames new (h ++ c ∷ [])
-left_names old new h c lawful built is later may none knows left owners_now = record {
+left_names old new h c lawful later may none knows left owners_now = record {
   owners = λ o q. owners_now o q ∙ ap (λ (x : State). owns x o q) (sym (state_snoc h c));
   held = λ q. held_now q (left q) ∙ ap (λ (x : State). is_held x q) (sym (state_snoc h c));
   records = λ q k there. brought_snoc 0 q h c ∙ ap (λ (b : Bool). cond b (Some (0 + length h)) (brought_from 0 q h)) (none q) ∙ knows.records q k (left_was old new q k (left q) there);
@@ -279,10 +246,10 @@ left_names old new h c lawful built is later may none knows left owners_now = re
     t = after (state h) c
 
     ordered : IsOrdered (state h)
-    ordered = ordered_state h lawful built
+    ordered = ordered_state h lawful
 
     ordered_now : IsOrdered t
-    ordered_now = ordered_after (state h) c (plain_state h lawful built) is may ordered
+    ordered_now = ordered_after (state h) c may ordered
 
     was : (q : List ℕ) → is_held t q ≡ true → is_held (state h) q ≡ true
     was q held = was_held (state h) c q (begun_before (state h) c later may) may held (none q)
@@ -305,10 +272,10 @@ gone_own true g true are less = ap (λ (b : Bool). not (b && true)) (are refl)
 gone_own true g false are less = ap (λ (b : Bool). not (b && true)) (are refl)
 
 -- own chunks were given up by a change that leaves what peers have here
-given_up_names : (old new : Store) (h : List Change) (c : Change) → is_lawful h ≡ true → list_all is_built h ≡ true → is_built c ≡ true → is_begun c ≡ false → allowed (state h) c ≡ true → ((q : List ℕ) → brings_name q c ≡ false)
+given_up_names : (old new : Store) (h : List Change) (c : Change) → is_lawful h ≡ true → is_begun c ≡ false → allowed (state h) c ≡ true → ((q : List ℕ) → brings_name q c ≡ false)
     → ((q : List ℕ) → own_has (state h).own q ≡ false → own_has (after (state h) c).own q ≡ false) → ((p : ℕ) (q : List ℕ) → owns (after (state h) c) (Peer p) q ≡ owns (state h) (Peer p) q)
     → KnowsNames old h → GivesUp (state h) c old new → KnowsNames new (h ++ c ∷ [])
-given_up_names old new h c lawful built is later may none fewer peers knows f = left_names old new h c lawful built is later may none knows (left_as old new Own f.gone f.drops) owners_now
+given_up_names old new h c lawful later may none fewer peers knows f = left_names old new h c lawful later may none knows (left_as old new Own f.gone f.drops) owners_now
   where
     owners_now : (o : Owner) (q : List ℕ) → is_owner new o q ≡ owns (after (state h) c) o q
     owners_now Own q =
@@ -318,21 +285,19 @@ given_up_names old new h c lawful built is later may none fewer peers knows f = 
     owners_now (Peer p) q = f.drops.owners (Peer p) q ∙ ap (λ (b : Bool). is_owner old (Peer p) q && not b) (and_none (f.gone q)) ∙ and_true (is_owner old (Peer p) q) ∙ knows.owners (Peer p) q ∙ sym (peers p q)
 
 -- what the peers have here stays, where a change of one brings no chunk and takes none
-peers_stay : (s : State) (c : Change) (p : ℕ) → IsPlain s → is_built c ≡ true → peer_of c ≡ Some p → is_peer s p ≡ true → ((q : List ℕ) → Gains (changed s c) q false) → (r : ℕ) (q : List ℕ) → owns (after s c) (Peer r) q ≡ owns s (Peer r) q
-peers_stay s c p plain is peer here gains r q = ap (λ (x : Row). has in_key x.ins (Chunk q)) (row_then s c p r plain.rows is peer here) ∙ by_cases (p == r)
-    (λ k. rw k (gains q (row s r) ∙ or_none (has in_key (row s r).ins (Chunk q))))
-    (λ k. rw k refl)
+peers_stay : (s : State) (c : Change) (p : ℕ) → peer_of c ≡ Some p → is_peer s p ≡ true → ((q : List ℕ) → Gains (changed s c) q false) → (r : ℕ) (q : List ℕ) → owns (after s c) (Peer r) q ≡ owns s (Peer r) q
+peers_stay s c p peer here gains r q = one_gains s c p r q false peer here (gains q) ∙ or_none (has in_key (row s r).ins (Chunk q))
 
 -- a peer let a chunk go
-let_go_names : (old new : Store) (h : List Change) (c : Change) (p : ℕ) (name : List ℕ) → is_lawful h ≡ true → list_all is_built h ≡ true → is_built c ≡ true → is_begun c ≡ false → peer_of c ≡ Some p → is_peer (state h) p ≡ true → (after (state h) c).own ≡ (state h).own → allowed (state h) c ≡ true → ((q : List ℕ) → brings_name q c ≡ false) → ((q : List ℕ) → Loses (changed (state h) c) name q)
+let_go_names : (old new : Store) (h : List Change) (c : Change) (p : ℕ) (name : List ℕ) → is_lawful h ≡ true → is_begun c ≡ false → peer_of c ≡ Some p → is_peer (state h) p ≡ true → (after (state h) c).own ≡ (state h).own → allowed (state h) c ≡ true → ((q : List ℕ) → brings_name q c ≡ false) → ((q : List ℕ) → Loses (changed (state h) c) name q)
     → KnowsNames old h → Drops old new (Peer p) (name_eq name) → KnowsNames new (h ++ c ∷ [])
-let_go_names old new h c p name lawful built is later peer here own may none loses knows drops = left_names old new h c lawful built is later may none knows (left_as old new (Peer p) (name_eq name) drops) owners_now
+let_go_names old new h c p name lawful later peer here own may none loses knows drops = left_names old new h c lawful later may none knows (left_as old new (Peer p) (name_eq name) drops) owners_now
   where
     s : State
     s = state h
 
     row_now : (r : ℕ) (q : List ℕ) → has in_key (row (after s c) r).ins (Chunk q) ≡ (has in_key (row s r).ins (Chunk q) && not (name_eq name q && (p == r)))
-    row_now r q = ap (λ (x : Row). has in_key x.ins (Chunk q)) (row_then s c p r (plain_state h lawful built).rows is peer here) ∙ by_cases (p == r)
+    row_now r q = ins_then s c p r q peer here ∙ by_cases (p == r)
         (λ k. rw k (loses q (row s r) ∙ ap (λ (b : Bool). has in_key (row s r).ins (Chunk q) && not b) (sym (and_true (name_eq name q)))))
         (λ k. rw k (sym (ap (λ (b : Bool). has in_key (row s r).ins (Chunk q) && not b) (and_none (name_eq name q)) ∙ and_true (has in_key (row s r).ins (Chunk q)))))
 
@@ -340,24 +305,11 @@ let_go_names old new h c p name lawful built is later peer here own may none los
     owners_now Own q = drops.owners Own q ∙ ap (λ (b : Bool). is_owner old Own q && not b) (and_none (name_eq name q)) ∙ and_true (is_owner old Own q) ∙ knows.owners Own q ∙ ap (λ l. own_has l q) (sym own)
     owners_now (Peer r) q = drops.owners (Peer r) q ∙ ap (λ (b : Bool). b && not (name_eq name q && (p == r))) (knows.owners (Peer r) q) ∙ sym (row_now r q)
 
--- what has a key is had without these objects where it is none of them
-has_without : (objects : List Object) (l : List InEntry) (o : Object) → has in_key (without in_key objects l) o ≡ (has in_key l o && not (listed objects o))
-has_without objects [] o = refl
-has_without objects (e ∷ es) o = by_cases (object_eq (in_key e) o)
-    (λ k.
-    let same : listed objects (in_key e) ≡ listed objects o = ap (listed objects) (object_eq-same (in_key e) o k) in
-    by_cases (listed objects o)
-    (λ j. rw (same ∙ j, k, j) (has_without objects es o ∙ rw j (and_none (has in_key es o))))
-    (λ j. rw (same ∙ j, k, j) refl))
-    (λ k. by_cases (listed objects (in_key e))
-    (λ j. rw (j, k) (has_without objects es o))
-    (λ j. rw (j, k) (has_without objects es o)))
-
 -- chunks of a peer were discarded, and own ones given up with what it owed
-discarded_names : (old mid new : Store) (h : List Change) (p : ℕ) (objects : List Object) → is_lawful h ≡ true → list_all is_built h ≡ true → is_built (Discarded (record { peer = p; objects = objects })) ≡ true → allowed (state h) (Discarded (record { peer = p; objects = objects })) ≡ true
+discarded_names : (old mid new : Store) (h : List Change) (p : ℕ) (objects : List Object) → is_lawful h ≡ true → allowed (state h) (Discarded (record { peer = p; objects = objects })) ≡ true
     → KnowsNames old h → Drops old mid (Peer p) (λ q. listed objects (Chunk q)) → GivesUp (state h) (Discarded (record { peer = p; objects = objects })) mid new → KnowsNames new (h ++ Discarded (record { peer = p; objects = objects }) ∷ [])
-discarded_names old mid new h p objects lawful built is may knows d f =
-    left_names old new h c lawful built is refl may (λ q. refl) knows (λ q. left_then old mid new q (less q) (left_as old mid (Peer p) gone d q) (left_as mid new Own f.gone f.drops q)) owners_now
+discarded_names old mid new h p objects lawful may knows d f =
+    left_names old new h c lawful refl may (λ q. refl) knows (λ q. left_then old mid new q (less q) (left_as old mid (Peer p) gone d q) (left_as mid new Own f.gone f.drops q)) owners_now
   where
     c : Change
     c = Discarded (record { peer = p; objects = objects })
@@ -372,8 +324,8 @@ discarded_names old mid new h p objects lawful built is may knows d f =
     less q o none = f.drops.owners o q ∙ ap (λ (b : Bool). b && not (f.gone q && owner_eq Own o)) none
 
     row_now : (r : ℕ) (q : List ℕ) → has in_key (row (after s c) r).ins (Chunk q) ≡ (has in_key (row s r).ins (Chunk q) && not (gone q && (p == r)))
-    row_now r q = ap (λ (x : Row). has in_key x.ins (Chunk q)) (row_then s c p r (plain_state h lawful built).rows is refl (allows s c may).peer) ∙ by_cases (p == r)
-        (λ k. rw k (has_without objects (row s r).ins (Chunk q) ∙ ap (λ (b : Bool). has in_key (row s r).ins (Chunk q) && not b) (sym (and_true (gone q)))))
+    row_now r q = ins_then s c p r q refl (allows s c may).peer ∙ by_cases (p == r)
+        (λ k. rw k (has_less in_key objects (row s r).ins (Chunk q) ∙ ap (λ (b : Bool). has in_key (row s r).ins (Chunk q) && not b) (sym (and_true (gone q)))))
         (λ k. rw k (sym (ap (λ (b : Bool). has in_key (row s r).ins (Chunk q) && not b) (and_none (gone q)) ∙ and_true (has in_key (row s r).ins (Chunk q)))))
 
     fewer : (q : List ℕ) → own_has s.own q ≡ false → own_has (after s c).own q ≡ false
@@ -412,80 +364,70 @@ snapped_owns s c own rows Own q = own q
 snapped_owns s c own rows (Peer p) q = ap (λ (l : List (ℕ × Row)). has in_key (row_in l p).ins (Chunk q)) rows
 
 -- a change of a peer that brings and takes no chunk leaves the names
-still_names : (old new : Store) (h : List Change) (c : Change) (p : ℕ) → is_lawful h ≡ true → list_all is_built h ≡ true → is_built c ≡ true → allowed (state h) c ≡ true → peer_of c ≡ Some p → gives_up_none c ≡ true → own_after (state h) c ≡ (state h).own → ((q : List ℕ) → Gains (changed (state h) c) q false) → ((q : List ℕ) → brings_name q c ≡ false) → KnowsNames old h → SameNames old new → KnowsNames new (h ++ c ∷ [])
-still_names old new h c p lawful built is may peer none_given own gains none knows same =
+still_names : (old new : Store) (h : List Change) (c : Change) (p : ℕ) → is_lawful h ≡ true → allowed (state h) c ≡ true → peer_of c ≡ Some p → gives_up_none c ≡ true → own_after (state h) c ≡ (state h).own → ((q : List ℕ) → Gains (changed (state h) c) q false) → ((q : List ℕ) → brings_name q c ≡ false) → KnowsNames old h → SameNames old new → KnowsNames new (h ++ c ∷ [])
+still_names old new h c p lawful may peer none_given own gains none knows same =
     let s = state h in
     let there = ap (of_a_peer s) (sym peer) ∙ (allows s c may).peer in
-    let differ : Differ s (after s c) (Peer p) [] false = differ_at s (after s c) p (changed s c) [] false (own_stays s c (steady_state h lawful) may none_given ∙ own) (rows_one s c p (plain_state h lawful built).rows is peer) there gains in
+    let differ : Differ s (after s c) (Peer p) [] false = differ_at s c p [] false (own_stays s c (steady_state h lawful) may none_given ∙ own) peer there gains in
     same_names old new h c none (λ o q. differ.owners o q ∙ or_none (owns s o q)) (λ q. differ.held q ∙ or_none (is_held s q)) knows same
 
 -- with one change more
-pub names_grown : (old new : Store) (h : List Change) (c : Change) → is_lawful h ≡ true → list_all is_built h ≡ true → is_built c ≡ true → allowed (state h) c ≡ true → KnowsNames old h → Enters (state h) old new c (length h) → KnowsNames new (h ++ c ∷ [])
-names_grown old new h (Begun x) lawful built is may knows enters =
+pub names_grown : (old new : Store) (h : List Change) (c : Change) → is_lawful h ≡ true → allowed (state h) c ≡ true → KnowsNames old h → Enters (state h) old new c (length h) → KnowsNames new (h ++ c ∷ [])
+names_grown old new h (Begun x) lawful may knows enters =
     let ts = parts (tests (state h) (Begun x)) (allows (state h) (Begun x) may).tests in
     begun_names old new h x.body (omega (arith, changes_counted h, eqb-true (state h).changes 0 ts.0)) knows enters
-names_grown old new h (Kept x) lawful built is may knows enters =
+names_grown old new h (Kept x) lawful may knows enters =
     let c : Change = Kept x in
-    added_names old new h c Own x.name (differ_kept (state h) x.name x.len x.new x.body (plain_state h lawful built) may) knows enters (placed old new h c (length h) lawful built is may knows enters)
-names_grown old new h (Snapped x) lawful built is may knows enters =
+    added_names old new h c Own x.name (differ_kept (state h) x.name x.len x.new x.body (steady_state h lawful) may) knows enters (placed old new h c (length h) may knows enters)
+names_grown old new h (Snapped x) lawful may knows enters =
     let c : Change = Snapped x in
     let own : (q : List ℕ) → own_has (after (state h) c).own q ≡ own_has (state h).own q = λ q. ap (λ l. own_has l q) (own_stays (state h) c (steady_state h lawful) may refl) ∙ marks_has (λ e. e.marked && not (name_listed x.names e.name)) (state h).own q in
     same_names old new h c (λ q. refl) (snapped_owns (state h) c own refl) (λ q. ap (λ b. b || held_in (state h).rows q) (own q)) knows enters
-names_grown old new h (Forgot x) lawful built is may knows enters =
+names_grown old new h (Forgot x) lawful may knows enters =
     let p = steady_state h lawful in
-    given_up_names old new h (Forgot x) lawful built refl refl may (λ q. refl)
+    given_up_names old new h (Forgot x) lawful refl may (λ q. refl)
     (λ q lacks. forgot_has (state h) x.number q p ∙ ap (λ (b : Bool). b && (kept_lists (kept_without x.number (state h).kept) q || is_named (state h).rows q)) lacks)
     (λ r q. refl) knows enters
-names_grown old new h (TookFresh x) lawful built is may knows enters =
+names_grown old new h (TookFresh x) lawful may knows enters =
     let c : Change = TookFresh x in
     let s = state h in
     added_names old new h c (Peer x.peer) x.name
-    (differ_at s (after s c) x.peer (changed s c) x.name true (own_stays s c (steady_state h lawful) may refl) (rows_one s c x.peer (plain_state h lawful built).rows refl refl) (allows s c may).peer (λ q. fresh_gains s x.peer x.deal x.name x.first x.len x.new x.body q))
-    knows enters (placed old new h c (length h) lawful built is may knows enters)
-names_grown old new h (TookSwap x) lawful built is may knows enters =
+    (differ_at s c x.peer x.name true (own_stays s c (steady_state h lawful) may refl) refl (allows s c may).peer (λ q. fresh_gains s x.peer x.deal x.name x.first x.len x.new x.body q))
+    knows enters (placed old new h c (length h) may knows enters)
+names_grown old new h (TookSwap x) lawful may knows enters =
     let c : Change = TookSwap x in
     let s = state h in
     added_names old new h c (Peer x.peer) x.name
-    (differ_at s (after s c) x.peer (changed s c) x.name true (own_stays s c (steady_state h lawful) may refl) (rows_one s c x.peer (plain_state h lawful built).rows refl refl) (allows s c may).peer (λ q. swap_gains s x.peer x.deal x.name x.slots x.len x.new x.body q))
-    knows enters (placed old new h c (length h) lawful built is may knows enters)
-names_grown old new h (LetGo x) lawful built is may knows enters =
+    (differ_at s c x.peer x.name true (own_stays s c (steady_state h lawful) may refl) refl (allows s c may).peer (λ q. swap_gains s x.peer x.deal x.name x.slots x.len x.new x.body q))
+    knows enters (placed old new h c (length h) may knows enters)
+names_grown old new h (LetGo x) lawful may knows enters =
     let c : Change = LetGo x in
-    let_go_names old new h c x.peer x.name lawful built refl refl refl (allows (state h) c may).peer (own_stays (state h) c (steady_state h lawful) may refl) may (λ q. refl) (λ q. let_go_loses (state h) x.peer x.deal x.name x.slots q) knows enters
-names_grown old new h (LetGoBack x) lawful built is may knows enters =
+    let_go_names old new h c x.peer x.name lawful refl refl (allows (state h) c may).peer (own_stays (state h) c (steady_state h lawful) may refl) may (λ q. refl) (λ q. let_go_loses (state h) x.peer x.deal x.name x.slots q) knows enters
+names_grown old new h (LetGoBack x) lawful may knows enters =
     let c : Change = LetGoBack x in
-    let_go_names old new h c x.peer x.name lawful built refl refl refl (allows (state h) c may).peer (own_stays (state h) c (steady_state h lawful) may refl) may (λ q. refl) (λ q. put_back_loses (state h) x.peer x.deal x.name x.slots x.body q) knows enters
-names_grown old new h (Refused x) lawful built is may knows enters =
-    let c : Change = Refused x in
-    let s = state h in
-    let differ : Differ s (after s c) (Peer x.peer) [] false = differ_at s (after s c) x.peer (changed s c) [] false (own_stays s c (steady_state h lawful) may refl) (rows_one s c x.peer (plain_state h lawful built).rows refl refl) (allows s c may).peer (λ q. refused_gains s x.peer x.deal x.why x.detail q) in
-    same_names old new h c (λ q. refl) (λ o q. differ.owners o q ∙ or_none (owns s o q)) (λ q. differ.held q ∙ or_none (is_held s q)) knows enters
-names_grown old new h (Proposed x) lawful built is may knows enters =
-    let c : Change = Proposed x in
-    let s = state h in
-    let differ : Differ s (after s c) (Peer x.peer) [] false = differ_at s (after s c) x.peer (changed s c) [] false (own_stays s c (steady_state h lawful) may refl) (rows_one s c x.peer (plain_state h lawful built).rows is refl) (allows s c may).peer (λ q. proposed_gains s x.peer x.deal x.what q) in
-    same_names old new h c (λ q. refl) (λ o q. differ.owners o q ∙ or_none (owns s o q)) (λ q. differ.held q ∙ or_none (is_held s q)) knows enters
-names_grown old new h (Settled x) lawful built is may knows enters =
+    let_go_names old new h c x.peer x.name lawful refl refl (allows (state h) c may).peer (own_stays (state h) c (steady_state h lawful) may refl) may (λ q. refl) (λ q. put_back_loses (state h) x.peer x.deal x.name x.slots x.body q) knows enters
+names_grown old new h (Settled x) lawful may knows enters =
     let c : Change = Settled x in
     let s = state h in
-    let plain = plain_state h lawful built in
-    given_up_names old new h c lawful built refl refl may (λ q. refl) (λ q lacks. ended_has s c q plain.steady refl ∙ ap (λ (b : Bool). b && (not (own_marked s.own q) || is_named (all_rows_after s c) q)) lacks)
-    (peers_stay s c x.peer plain refl refl (allows s c may).peer (λ q. settled_gains s x.peer x.deal x.slots x.body q)) knows enters
-names_grown old new h (Turned x) lawful built is may knows enters =
+    given_up_names old new h c lawful refl may (λ q. refl) (λ q lacks. ended_has s c q (steady_state h lawful) refl ∙ ap (λ (b : Bool). b && (not (own_marked s.own q) || is_named (all_rows_after s c) q)) lacks)
+    (peers_stay s c x.peer refl (allows s c may).peer (λ q. settled_gains s x.peer x.deal x.slots x.body q)) knows enters
+names_grown old new h (Turned x) lawful may knows enters =
     let c : Change = Turned x in
     let s = state h in
-    let plain = plain_state h lawful built in
-    given_up_names old new h c lawful built refl refl may (λ q. refl) (λ q lacks. ended_has s c q plain.steady refl ∙ ap (λ (b : Bool). b && (not (own_marked s.own q) || is_named (all_rows_after s c) q)) lacks)
-    (peers_stay s c x.peer plain refl refl (allows s c may).peer (λ q. turned_gains s x.peer x.deal x.why x.detail q)) knows enters
-names_grown old new h (Chose x) lawful built is may knows enters =
+    given_up_names old new h c lawful refl may (λ q. refl) (λ q lacks. ended_has s c q (steady_state h lawful) refl ∙ ap (λ (b : Bool). b && (not (own_marked s.own q) || is_named (all_rows_after s c) q)) lacks)
+    (peers_stay s c x.peer refl (allows s c may).peer (λ q. turned_gains s x.peer x.deal x.why x.detail q)) knows enters
+names_grown old new h (Chose x) lawful may knows enters =
     let c : Change = Chose x in
     let own : (q : List ℕ) → own_has (after (state h) c).own q ≡ own_has (state h).own q = λ q. ap (λ l. own_has l q) (own_stays (state h) c (steady_state h lawful) may refl) in
     same_names old new h c (λ q. refl) (snapped_owns (state h) c own refl) (λ q. ap (λ b. b || held_in (state h).rows q) (own q)) knows enters
-names_grown old new h (Asked x) lawful built is may knows enters = still_names old new h (Asked x) x.peer lawful built refl may refl refl refl (λ q. still_gains (state h) (Asked x) q refl refl) (λ q. refl) knows enters
-names_grown old new h (Passed x) lawful built is may knows enters = still_names old new h (Passed x) x.peer lawful built refl may refl refl refl (λ q. still_gains (state h) (Passed x) q refl refl) (λ q. refl) knows enters
-names_grown old new h (Failed x) lawful built is may knows enters = still_names old new h (Failed x) x.peer lawful built refl may refl refl refl (λ q. still_gains (state h) (Failed x) q refl refl) (λ q. refl) knows enters
-names_grown old new h (Declined x) lawful built is may knows enters = still_names old new h (Declined x) x.peer lawful built refl may refl refl refl (λ q. still_gains (state h) (Declined x) q refl refl) (λ q. refl) knows enters
-names_grown old new h (Discarded x) lawful built is may knows enters = discarded_names old enters.0 new h x.peer x.objects lawful built is may knows enters.1 enters.2
-names_grown old new h _ lawful built is may knows enters = absurd (false≢true is)
+names_grown old new h (Replaced x) lawful may knows enters = still_names old new h (Replaced x) x.peer lawful may refl refl refl (λ q. still_gains (state h) (Replaced x) q refl refl) (λ q. refl) knows enters
+names_grown old new h (Refused x) lawful may knows enters = still_names old new h (Refused x) x.peer lawful may refl refl refl (λ q. still_gains (state h) (Refused x) q refl refl) (λ q. refl) knows enters
+names_grown old new h (Proposed x) lawful may knows enters = still_names old new h (Proposed x) x.peer lawful may refl refl refl (λ q. still_gains (state h) (Proposed x) q refl refl) (λ q. refl) knows enters
+names_grown old new h (Asked x) lawful may knows enters = still_names old new h (Asked x) x.peer lawful may refl refl refl (λ q. still_gains (state h) (Asked x) q refl refl) (λ q. refl) knows enters
+names_grown old new h (Passed x) lawful may knows enters = still_names old new h (Passed x) x.peer lawful may refl refl refl (λ q. still_gains (state h) (Passed x) q refl refl) (λ q. refl) knows enters
+names_grown old new h (Failed x) lawful may knows enters = still_names old new h (Failed x) x.peer lawful may refl refl refl (λ q. still_gains (state h) (Failed x) q refl refl) (λ q. refl) knows enters
+names_grown old new h (Declined x) lawful may knows enters = still_names old new h (Declined x) x.peer lawful may refl refl refl (λ q. still_gains (state h) (Declined x) q refl refl) (λ q. refl) knows enters
+names_grown old new h (Discarded x) lawful may knows enters = discarded_names old enters.0 new h x.peer x.objects lawful may knows enters.1 enters.2
 
 -- a store without names knows the empty history
 pub names_start : (store : Store) → ((q : List ℕ) → record_of store q ≡ None) → ((o : Owner) (q : List ℕ) → is_owner store o q ≡ false) → KnowsNames store []
@@ -504,35 +446,22 @@ pub names_begun : (store : Store) (text : List ℕ) → ((q : List ℕ) → reco
 names_begun store text none nobody = begun_names store store [] (Some text) refl (names_start store none nobody) (record { owners = λ o q. refl; records = λ q. refl })
 
 -- a name that a change may give to an owner is not the owner's yet
-pub is_new : (store : Store) (h : List Change) (s : State) (c : Change) (e : Entering) → KnowsNames store h → s ≡ state h → is_built c ≡ true → allowed s c ≡ true → IsEntering s c e → IsNew store e
-is_new store h s (Begun x) e knows here is may it = subst (IsNew store) (sym it) tt
-is_new store h s (Kept x) e knows here is may it =
+pub is_new : (store : Store) (h : List Change) (s : State) (c : Change) (e : Entering) → KnowsNames store h → s ≡ state h → allowed s c ≡ true → IsEntering s c e → IsNew store e
+is_new store h s (Kept x) e knows here may it =
     let c : Change = Kept x in
     let ts = parts (tests s c) (allows s c may).tests in
     subst (IsNew store) (sym it) (knows.owners Own x.name ∙ ap (λ (t : State). owns t Own x.name) (sym here) ∙ not_true (own_has s.own x.name) ts.0)
-is_new store h s (Snapped x) e knows here is may it = subst (IsNew store) (sym it) tt
-is_new store h s (Forgot x) e knows here is may it = subst (IsNew store) (sym it.1) tt
-is_new store h s (TookFresh x) e knows here is may it =
+is_new store h s (Forgot x) e knows here may it = subst (IsNew store) (sym it.1) tt
+is_new store h s (TookFresh x) e knows here may it =
     let c : Change = TookFresh x in
     let ts = parts (tests s c) (allows s c may).tests in
     subst (IsNew store) (sym it) (knows.owners (Peer x.peer) x.name ∙ ap (λ (t : State). owns t (Peer x.peer) x.name) (sym here) ∙ not_true (has in_key (row s x.peer).ins (Chunk x.name)) ts.1.0)
-is_new store h s (TookSwap x) e knows here is may it =
+is_new store h s (TookSwap x) e knows here may it =
     let c : Change = TookSwap x in
     let ts = parts (tests s c) (allows s c may).tests in
     subst (IsNew store) (sym it) (knows.owners (Peer x.peer) x.name ∙ ap (λ (t : State). owns t (Peer x.peer) x.name) (sym here) ∙ not_true (has in_key (row s x.peer).ins (Chunk x.name)) ts.1.0)
-is_new store h s (LetGo x) e knows here is may it = subst (IsNew store) (sym it) tt
-is_new store h s (LetGoBack x) e knows here is may it = subst (IsNew store) (sym it) tt
-is_new store h s (Refused x) e knows here is may it = subst (IsNew store) (sym it) tt
-is_new store h s (Proposed x) e knows here is may it = subst (IsNew store) (sym it) tt
-is_new store h s (Settled x) e knows here is may it = subst (IsNew store) (sym it) tt
-is_new store h s (Turned x) e knows here is may it = subst (IsNew store) (sym it) tt
-is_new store h s (Chose x) e knows here is may it = subst (IsNew store) (sym it) tt
-is_new store h s (Asked x) e knows here is may it = subst (IsNew store) (sym it) tt
-is_new store h s (Passed x) e knows here is may it = subst (IsNew store) (sym it) tt
-is_new store h s (Failed x) e knows here is may it = subst (IsNew store) (sym it) tt
-is_new store h s (Declined x) e knows here is may it = subst (IsNew store) (sym it) tt
-is_new store h s (Discarded x) e knows here is may it = subst (IsNew store) (sym it.2) tt
-is_new store h s _ e knows here is may it = absurd (false≢true is)
+is_new store h s (Discarded x) e knows here may it = subst (IsNew store) (sym it.2) tt
+is_new store h s _ e knows here may it = subst (IsNew store) (sym it) tt
 
 -- names that may go, and of which those went that own has no longer
 given_up_of : (s : State) (c : Change) (old new : Store) (names : List (List ℕ)) → ((q : List ℕ) → own_has s.own q ≡ true → name_listed names q ≡ false → own_has (after s c).own q ≡ true) → Drops old new Own (λ q. name_listed names q && not (own_has (after s c).own q)) → GivesUp s c old new
@@ -543,45 +472,31 @@ given_up_of s c old new names stay drops = record {
 }
 
 -- what was worked out of a change is what the change does
-enters_of : (s : State) (old new : Store) (c : Change) (e : Entering) (number : ℕ) → IsPlain s → is_built c ≡ true → IsEntering s c e → Enter (after s c).own old new e number → Enters s old new c number
-enters_of s old new (Forgot y) e number p is it enter =
-    given_up_of s (Forgot y) old new it.0 (λ q has other. forgot_has s y.number q p.steady ∙ rw (has, listed q has other) refl) (subst (λ (x : Entering). Enter (after s (Forgot y)).own old new x number) it.1 enter)
+enters_of : (s : State) (old new : Store) (c : Change) (e : Entering) (number : ℕ) → IsSteady s → IsEntering s c e → Enter (after s c).own old new e number → Enters s old new c number
+enters_of s old new (Forgot y) e number p it enter =
+    given_up_of s (Forgot y) old new it.0 (λ q has other. forgot_has s y.number q p ∙ rw (has, listed q has other) refl) (subst (λ (x : Entering). Enter (after s (Forgot y)).own old new x number) it.1 enter)
   where
     listed : (q : List ℕ) → own_has s.own q ≡ true → name_listed it.0 q ≡ false → kept_lists (kept_without y.number s.kept) q ≡ true
     listed q has other = by_cases (kept_lists (kept_without y.number s.kept) q) (λ k. k) (λ k. absurd (false≢true (sym other ∙ it.2 q has k)))
-enters_of s old new (Settled y) e number p is it enter =
+enters_of s old new (Settled y) e number p it enter =
     let c : Change = Settled y in
-    given_up_of s c old new (deal_names s y.peer) (λ n has other. settled_beside s y.peer y.deal y.slots y.body n p.steady other ∙ has) (subst (λ (x : Entering). Enter (after s c).own old new x number) it enter)
-enters_of s old new (Turned y) e number p is it enter =
+    given_up_of s c old new (deal_names s y.peer) (λ n has other. settled_beside s y.peer y.deal y.slots y.body n p other ∙ has) (subst (λ (x : Entering). Enter (after s c).own old new x number) it enter)
+enters_of s old new (Turned y) e number p it enter =
     let c : Change = Turned y in
-    given_up_of s c old new (deal_names s y.peer) (λ n has other. turned_beside s y.peer y.deal y.why y.detail n p.steady other ∙ has) (subst (λ (x : Entering). Enter (after s c).own old new x number) it enter)
-enters_of s old new (Begun y) e number p is it enter = subst (λ (x : Entering). Enter (after s (Begun y)).own old new x number) it enter
-enters_of s old new (Kept y) e number p is it enter = subst (λ (x : Entering). Enter (after s (Kept y)).own old new x number) it enter
-enters_of s old new (Snapped y) e number p is it enter = subst (λ (x : Entering). Enter (after s (Snapped y)).own old new x number) it enter
-enters_of s old new (TookFresh y) e number p is it enter = subst (λ (x : Entering). Enter (after s (TookFresh y)).own old new x number) it enter
-enters_of s old new (TookSwap y) e number p is it enter = subst (λ (x : Entering). Enter (after s (TookSwap y)).own old new x number) it enter
-enters_of s old new (LetGo y) e number p is it enter = subst (λ (x : Entering). Enter (after s (LetGo y)).own old new x number) it enter
-enters_of s old new (LetGoBack y) e number p is it enter = subst (λ (x : Entering). Enter (after s (LetGoBack y)).own old new x number) it enter
-enters_of s old new (Refused y) e number p is it enter = subst (λ (x : Entering). Enter (after s (Refused y)).own old new x number) it enter
-enters_of s old new (Proposed y) e number p is it enter = subst (λ (x : Entering). Enter (after s (Proposed y)).own old new x number) it enter
-enters_of s old new (Chose y) e number p is it enter = subst (λ (x : Entering). Enter (after s (Chose y)).own old new x number) it enter
-enters_of s old new (Asked y) e number p is it enter = subst (λ (x : Entering). Enter (after s (Asked y)).own old new x number) it enter
-enters_of s old new (Passed y) e number p is it enter = subst (λ (x : Entering). Enter (after s (Passed y)).own old new x number) it enter
-enters_of s old new (Failed y) e number p is it enter = subst (λ (x : Entering). Enter (after s (Failed y)).own old new x number) it enter
-enters_of s old new (Declined y) e number p is it enter = subst (λ (x : Entering). Enter (after s (Declined y)).own old new x number) it enter
-enters_of s old new (Discarded y) e number p is it enter =
+    given_up_of s c old new (deal_names s y.peer) (λ n has other. turned_beside s y.peer y.deal y.why y.detail n p other ∙ has) (subst (λ (x : Entering). Enter (after s c).own old new x number) it enter)
+enters_of s old new (Discarded y) e number p it enter =
     let c : Change = Discarded y in
     let done : Enter (after s c).own old new (Discards y.peer it.0 it.1) number = subst (λ (x : Entering). Enter (after s c).own old new x number) it.2 enter in (
       done.0,
       gone_as old done.0 (Peer y.peer) (name_listed it.0) (λ q. listed y.objects (Chunk q)) (λ q. sym (it.3 q)) done.1,
-      given_up_of s c done.0 new it.1 (λ q has other. discard_beside s y.peer y.objects q p.steady (sym (it.4 q) ∙ other) ∙ has) done.2,
+      given_up_of s c done.0 new it.1 (λ q has other. discard_beside s y.peer y.objects q p (sym (it.4 q) ∙ other) ∙ has) done.2,
     )
-enters_of s old new _ e number p is it enter = absurd (false≢true is)
+enters_of s old new c e number p it enter = subst (λ (x : Entering). Enter (after s c).own old new x number) it enter
 
 -- so it is after the change was made of a history
-pub enters_after : (s t : State) (h : List Change) (old new : Store) (c : Change) (e : Entering) (number : ℕ) → s ≡ state h → is_lawful h ≡ true → list_all is_built h ≡ true → is_built c ≡ true → t ≡ after s c → IsEntering s c e → Enter t.own old new e number → Enters s old new c number
-enters_after s t h old new c e number here lawful built is grown it enter =
-    enters_of s old new c e number (subst IsPlain (sym here) (plain_state h lawful built)) is it (subst (λ (x : State). Enter x.own old new e number) grown enter)
+pub enters_after : (s t : State) (h : List Change) (old new : Store) (c : Change) (e : Entering) (number : ℕ) → s ≡ state h → is_lawful h ≡ true → t ≡ after s c → IsEntering s c e → Enter t.own old new e number → Enters s old new c number
+enters_after s t h old new c e number here lawful grown it enter =
+    enters_of s old new c e number (subst IsSteady (sym here) (steady_state h lawful)) it (subst (λ (x : State). Enter x.own old new e number) grown enter)
 
 pub names_same : (old new : Store) (h : List Change) → SameNames old new → KnowsNames old h → KnowsNames new h
 names_same old new h same knows = record {
@@ -617,23 +532,14 @@ added_there old new owner name size more keeps keeps' longer there adds = λ q k
         (omega (arith, longer.0, k_is), subst (λ (i : ℕ). keeps' i ≡ true) k_is longer.2)
 
 -- a log with the record of the change has the bodies of the names after it
-pub there_grown : (s : State) (old new : Store) (c : Change) (size more : ℕ) (keeps keeps' : ℕ → Bool) → is_built c ≡ true → more ≡ size + 1 → ((n : ℕ) → n < size → keeps' n ≡ keeps n) → keeps' size ≡ true → AreThere old size keeps → Enters s old new c size → AreThere new more keeps'
-there_grown s old new (Begun x) size more keeps keeps' is longer same last there enters = λ q k here. still_there size more keeps keeps' k (longer, same, last) (there q k (sym (enters.records q) ∙ here))
-there_grown s old new (Kept x) size more keeps keeps' is longer same last there enters = added_there old new Own x.name size more keeps keeps' (longer, same, last) there enters
-there_grown s old new (Snapped x) size more keeps keeps' is longer same last there enters = λ q k here. still_there size more keeps keeps' k (longer, same, last) (there q k (sym (enters.records q) ∙ here))
-there_grown s old new (Forgot x) size more keeps keeps' is longer same last there enters = λ q k here. still_there size more keeps keeps' k (longer, same, last) (there q k (left_record old new Own q k (enters.drops.records q) here))
-there_grown s old new (TookFresh x) size more keeps keeps' is longer same last there enters = added_there old new (Peer x.peer) x.name size more keeps keeps' (longer, same, last) there enters
-there_grown s old new (TookSwap x) size more keeps keeps' is longer same last there enters = added_there old new (Peer x.peer) x.name size more keeps keeps' (longer, same, last) there enters
-there_grown s old new (LetGo x) size more keeps keeps' is longer same last there enters = λ q k here. still_there size more keeps keeps' k (longer, same, last) (there q k (left_record old new (Peer x.peer) q k (enters.records q) here))
-there_grown s old new (LetGoBack x) size more keeps keeps' is longer same last there enters = λ q k here. still_there size more keeps keeps' k (longer, same, last) (there q k (left_record old new (Peer x.peer) q k (enters.records q) here))
-there_grown s old new (Proposed x) size more keeps keeps' is longer same last there enters = λ q k here. still_there size more keeps keeps' k (longer, same, last) (there q k (sym (enters.records q) ∙ here))
-there_grown s old new (Settled x) size more keeps keeps' is longer same last there enters = λ q k here. still_there size more keeps keeps' k (longer, same, last) (there q k (left_record old new Own q k (enters.drops.records q) here))
-there_grown s old new (Turned x) size more keeps keeps' is longer same last there enters = λ q k here. still_there size more keeps keeps' k (longer, same, last) (there q k (left_record old new Own q k (enters.drops.records q) here))
-there_grown s old new (Chose x) size more keeps keeps' is longer same last there enters = λ q k here. still_there size more keeps keeps' k (longer, same, last) (there q k (sym (enters.records q) ∙ here))
-there_grown s old new (Refused x) size more keeps keeps' is longer same last there enters = λ q k here. still_there size more keeps keeps' k (longer, same, last) (there q k (sym (enters.records q) ∙ here))
-there_grown s old new (Asked x) size more keeps keeps' is longer same last there enters = λ q k here. still_there size more keeps keeps' k (longer, same, last) (there q k (sym (enters.records q) ∙ here))
-there_grown s old new (Passed x) size more keeps keeps' is longer same last there enters = λ q k here. still_there size more keeps keeps' k (longer, same, last) (there q k (sym (enters.records q) ∙ here))
-there_grown s old new (Failed x) size more keeps keeps' is longer same last there enters = λ q k here. still_there size more keeps keeps' k (longer, same, last) (there q k (sym (enters.records q) ∙ here))
-there_grown s old new (Declined x) size more keeps keeps' is longer same last there enters = λ q k here. still_there size more keeps keeps' k (longer, same, last) (there q k (sym (enters.records q) ∙ here))
-there_grown s old new (Discarded x) size more keeps keeps' is longer same last there enters = λ q k here. still_there size more keeps keeps' k (longer, same, last) (there q k (left_record old enters.0 (Peer x.peer) q k (enters.1.records q) (left_record enters.0 new Own q k (enters.2.drops.records q) here)))
-there_grown s old new _ size more keeps keeps' is longer same last there enters = absurd (false≢true is)
+pub there_grown : (s : State) (old new : Store) (c : Change) (size more : ℕ) (keeps keeps' : ℕ → Bool) → more ≡ size + 1 → ((n : ℕ) → n < size → keeps' n ≡ keeps n) → keeps' size ≡ true → AreThere old size keeps → Enters s old new c size → AreThere new more keeps'
+there_grown s old new (Kept x) size more keeps keeps' longer same last there enters = added_there old new Own x.name size more keeps keeps' (longer, same, last) there enters
+there_grown s old new (Forgot x) size more keeps keeps' longer same last there enters = λ q k here. still_there size more keeps keeps' k (longer, same, last) (there q k (left_record old new Own q k (enters.drops.records q) here))
+there_grown s old new (TookFresh x) size more keeps keeps' longer same last there enters = added_there old new (Peer x.peer) x.name size more keeps keeps' (longer, same, last) there enters
+there_grown s old new (TookSwap x) size more keeps keeps' longer same last there enters = added_there old new (Peer x.peer) x.name size more keeps keeps' (longer, same, last) there enters
+there_grown s old new (LetGo x) size more keeps keeps' longer same last there enters = λ q k here. still_there size more keeps keeps' k (longer, same, last) (there q k (left_record old new (Peer x.peer) q k (enters.records q) here))
+there_grown s old new (LetGoBack x) size more keeps keeps' longer same last there enters = λ q k here. still_there size more keeps keeps' k (longer, same, last) (there q k (left_record old new (Peer x.peer) q k (enters.records q) here))
+there_grown s old new (Settled x) size more keeps keeps' longer same last there enters = λ q k here. still_there size more keeps keeps' k (longer, same, last) (there q k (left_record old new Own q k (enters.drops.records q) here))
+there_grown s old new (Turned x) size more keeps keeps' longer same last there enters = λ q k here. still_there size more keeps keeps' k (longer, same, last) (there q k (left_record old new Own q k (enters.drops.records q) here))
+there_grown s old new (Discarded x) size more keeps keeps' longer same last there enters = λ q k here. still_there size more keeps keeps' k (longer, same, last) (there q k (left_record old enters.0 (Peer x.peer) q k (enters.1.records q) (left_record enters.0 new Own q k (enters.2.drops.records q) here)))
+there_grown s old new _ size more keeps keeps' longer same last there enters = λ q k here. still_there size more keeps keeps' k (longer, same, last) (there q k (sym (enters.records q) ∙ here))

@@ -1,6 +1,6 @@
 -- Which names lack their bytes, and the histories that have those that they need.
 use Rattle.std.proofs.Common.{◌≡◌, ℕ, Bool, true, false, not, ◌||◌, ◌&&◌, ◌==◌, cond, List, [], ◌∷◌, ◌++◌, Option, Some, None, is_some, refl, sym, ◌∙◌, ap, subst}
-use Rattle.std.specs.List.{list_any, list_all}
+use Rattle.std.specs.List.{list_any}
 use Rattle.std.specs.declared.cmp.Ordering.{Ordering}
 use Rattle.std.specs.Ordering.{nat_cmp, is_eq}
 use Rattle.std.specs.Cmp.Lexicographic.{slice_cmp}
@@ -11,10 +11,10 @@ use Rattle.psb_model.specs.Words.{name_eq}
 use Rattle.psb_model.specs.Heads.{body_of}
 use Rattle.psb_model.specs.Conditions.{allowed, tests, is_begun, peer_of}
 use Rattle.psb_model.specs.Effects.{after}
-use Rattle.psb_model.specs.History.{state, lawful_from, is_built}
+use Rattle.psb_model.specs.History.{state, lawful_from}
 use Rattle.psb_model.specs.Needed.{brings, brings_name, gives_slot, slots_given, needs_name, needs_slot, is_needed_by, is_body, body_is_right, bodies_right, last_that, last_bringing}
 use Rattle.psb_model.specs.declared.change.Change.{Change}
-use Rattle.psb_model.specs.declared.change.Change.TheVariants.{Begun, Kept, Snapped, Forgot, TookFresh, TookSwap, LetGo, LetGoBack, Refused, Proposed, Settled, Turned, Asked, Passed, Failed, Declined, Discarded, Chose}
+use Rattle.psb_model.specs.declared.change.Change.TheVariants.{Begun, Kept, TookFresh, TookSwap, LetGoBack, Replaced, Settled}
 use Rattle.psb_model.proofs.ByObject.{by_cases}
 use Rattle.psb_model.proofs.Own.{name_same, name_refl}
 use Rattle.psb_model.proofs.Steps.{parts}
@@ -256,47 +256,35 @@ slots_right s c p cs later no_name of_peer none = by_cases (body_is_right c)
         absurd (false≢true (sym wrong ∙ right))))
         (λ away. rw away refl)
 
-one_right : (s t : State) (c : Change) (cs : List Change) → allowed t c ≡ true → is_built c ≡ true → LacksNone s (c ∷ cs) → (not (is_needed_by s c cs) || body_is_right c) ≡ true
-one_right s t (Begun x) cs may built none =
+one_right : (s t : State) (c : Change) (cs : List Change) → allowed t c ≡ true → LacksNone s (c ∷ cs) → (not (is_needed_by s c cs) || body_is_right c) ≡ true
+one_right s t (Begun x) cs may none =
     let right : is_body None x.body ≡ true = begun_body x.body (begun_there t x.body may) in
     ap (λ (b : Bool). not (is_needed_by s (Begun x) cs) || b) right ∙ or_true (not (is_needed_by s (Begun x) cs))
-one_right s t (Kept x) cs may built none = by_new x.new none
+one_right s t (Kept x) cs may none = by_new x.new none
   where
     by_new : (new : Bool) → LacksNone s (Kept (record x { new = new }) ∷ cs) → (not (is_needed_by s (Kept (record x { new = new })) cs) || body_is_right (Kept (record x { new = new }))) ≡ true
     by_new true k = name_right s (Kept (record x { new = true })) x.name cs refl refl refl k
     by_new false k = refl
-one_right s t (Snapped x) cs may built none = refl
-one_right s t (Forgot x) cs may built none = refl
-one_right s t (TookFresh x) cs may built none = by_new x.new none
+one_right s t (TookFresh x) cs may none = by_new x.new none
   where
     by_new : (new : Bool) → LacksNone s (TookFresh (record x { new = new }) ∷ cs) → (not (is_needed_by s (TookFresh (record x { new = new })) cs) || body_is_right (TookFresh (record x { new = new }))) ≡ true
     by_new true k = name_right s (TookFresh (record x { new = true })) x.name cs refl refl refl k
     by_new false k = refl
-one_right s t (TookSwap x) cs may built none = by_new x.new none
+one_right s t (TookSwap x) cs may none = by_new x.new none
   where
     by_new : (new : Bool) → LacksNone s (TookSwap (record x { new = new }) ∷ cs) → (not (is_needed_by s (TookSwap (record x { new = new })) cs) || body_is_right (TookSwap (record x { new = new }))) ≡ true
     by_new true k = name_right s (TookSwap (record x { new = true })) x.name cs refl refl refl k
     by_new false k = refl
-one_right s t (LetGo x) cs may built none = refl
-one_right s t (LetGoBack x) cs may built none = slots_right s (LetGoBack x) x.peer cs refl refl refl none
-one_right s t (Refused x) cs may built none = refl
-one_right s t (Proposed x) cs may built none = refl
-one_right s t (Settled x) cs may built none = slots_right s (Settled x) x.peer cs refl refl refl none
-one_right s t (Turned x) cs may built none = refl
-one_right s t (Chose x) cs may built none = refl
-one_right s t (Asked x) cs may built none = refl
-one_right s t (Passed x) cs may built none = refl
-one_right s t (Failed x) cs may built none = refl
-one_right s t (Declined x) cs may built none = refl
-one_right s t (Discarded x) cs may built none = refl
-one_right s t _ cs may built none = absurd (false≢true built)
+one_right s t (LetGoBack x) cs may none = slots_right s (LetGoBack x) x.peer cs refl refl refl none
+one_right s t (Replaced x) cs may none = slots_right s (Replaced x) x.peer cs refl refl refl none
+one_right s t (Settled x) cs may none = slots_right s (Settled x) x.peer cs refl refl refl none
+one_right s t _ cs may none = refl
 
-pub sound_of : (s t : State) (cs : List Change) → lawful_from t cs ≡ true → list_all is_built cs ≡ true → LacksNone s cs → bodies_right s cs ≡ true
-sound_of s t [] lawful built none = refl
-sound_of s t (c ∷ cs) lawful built none =
+pub sound_of : (s t : State) (cs : List Change) → lawful_from t cs ≡ true → LacksNone s cs → bodies_right s cs ≡ true
+sound_of s t [] lawful none = refl
+sound_of s t (c ∷ cs) lawful none =
     let l = lawful_cons t c cs lawful in
-    let two = and_parts (is_built c) (list_all is_built cs) built in
-    rw (one_right s t c cs l.allows two.0 none, sound_of s (after t c) cs l.rest two.1 (none_later s c cs none)) refl
+    rw (one_right s t c cs l.allows none, sound_of s (after t c) cs l.rest (none_later s c cs none)) refl
 
 -- as a table that knows the history has it, and a store that has the names that are held
 pub none_lacks : (w : Lacking) (names : Store) (h : List Change) → KnowsNames names h → KnowsLacking w h → ((name : List ℕ) → is_lacking w name ≡ true → is_some (record_of names name) ≡ false) → ((p n : ℕ) → is_slot_lacking w p n ≡ true → has_direct (row (state h) p).ins n ≡ false) → LacksNone (state h) h

@@ -1,6 +1,6 @@
 -- What a history and the same less bodies that were given up have in common.
 use Rattle.std.proofs.Common.{◌≡◌, ◌⊎◌, inl, inr, ⊎_elim, ℕ, zero, suc, ◌+◌, Bool, true, false, not, ◌||◌, ◌&&◌, ◌==◌, cond, List, [], ◌∷◌, ◌++◌, slice_get, is_some, Option, Some, None, refl, sym, ◌∙◌, ap, subst}
-use Rattle.std.specs.List.{list_any, list_all}
+use Rattle.std.specs.List.{list_any}
 use Rattle.std.proofs.lemmas.Bool.{and_parts, false≢true}
 use Rattle.psb_bytes.specs.declared.ids.Object.TheVariants.{Slot}
 use Rattle.psb_station.proofs.Spans.{same_some}
@@ -10,8 +10,8 @@ use Rattle.psb_model.specs.Heads.{head_of, body_of}
 use Rattle.psb_model.specs.Conditions.{peer_of, is_begun, is_direct, allowed}
 use Rattle.psb_model.specs.Effects.{after}
 use Rattle.psb_model.specs.Grammar.{in_grammar}
-use Rattle.psb_model.specs.History.{state, state_from, is_lawful, is_built}
-use Rattle.psb_model.proofs.Prefixes.{lawful_snoc, all_snoc}
+use Rattle.psb_model.specs.History.{state, state_from, is_lawful}
+use Rattle.psb_model.proofs.Prefixes.{lawful_snoc}
 use Rattle.psb_model.specs.Needed.{brings, slots_given, brings_name, gives_slot, needs_name, needs_slot, is_needed_by, body_is_right, is_body, bodies_right, IsValid, last_bringing, last_brought}
 use Rattle.psb_model.specs.declared.change.Change.{Change}
 use Rattle.psb_model.specs.declared.change.Change.TheVariants.{Kept, TookFresh, TookSwap, LetGoBack, Replaced, Settled}
@@ -274,5 +274,4 @@ pub valid_less : (h less : List Change) (c : Change) → IsLess h less → IsVal
 valid_less h less c is v valid =
     let next = next_of h c [] valid in
     let lawful = (and_parts (is_lawful h) (in_grammar c && allowed (state h) c) (sym (lawful_snoc h c) ∙ valid.lawful)).0 in
-    let built = (and_parts (list_all is_built h) (is_built c) (sym (all_snoc is_built h c) ∙ valid.built)).0 in
-    valid_snoc less c v next.readable.grammar (ap (λ (s : State). allowed s c) (state_less h less is) ∙ next.may) next.readable.fit next.built (last_brings h c lawful next.may valid.sound)
+    valid_snoc less c v next.readable.grammar (ap (λ (s : State). allowed s c) (state_less h less is) ∙ next.may) next.readable.fit (last_brings h c lawful next.may valid.sound)

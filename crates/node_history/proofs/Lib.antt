@@ -1,4 +1,3 @@
-pub mod OwnWalks
 pub mod Walking
 pub mod Dropping
 pub mod Ordering

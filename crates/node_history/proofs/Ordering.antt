@@ -1,6 +1,6 @@
 -- The order that a state keeps: own chunks in the order of their names, the names of each kept snapshot too, and a row
 -- for each peer.
-use Rattle.std.proofs.Common.{◌≡◌, ℕ, Bool, true, false, not, ◌||◌, ◌&&◌, ◌==◌, List, [], ◌∷◌, ◌++◌, Option, Some, None, refl, sym, ◌∙◌, ap, subst, arith}
+use Rattle.std.proofs.Common.{◌≡◌, ℕ, Bool, true, false, not, ◌||◌, ◌&&◌, ◌==◌, List, [], ◌∷◌, ◌++◌, Option, Some, None, refl, sym, ◌∙◌, ap, arith}
 use Rattle.std.specs.List.{list_all}
 use Rattle.std.proofs.lemmas.Bool.{false≢true, and_parts, eqb-true}
 use Rattle.psb_bytes.specs.declared.ids.Object.TheVariants.{Chunk}
@@ -10,7 +10,7 @@ use Rattle.psb_settings.specs.Settings.{have_distinct_ids, has_id}
 use Rattle.psb_settings.proofs.Ranges.{settings_of-are}
 use Rattle.psb_model.specs.declared.snapshots.Snapshot.{Snapshot}
 use Rattle.psb_model.specs.declared.change.Change.{Change}
-use Rattle.psb_model.specs.declared.change.Change.TheVariants.{Begun, Kept, Snapped, Forgot, TookFresh, TookSwap, LetGo, LetGoBack, Refused, Proposed, Settled, Turned, Asked, Passed, Failed, Declined, Discarded, Chose}
+use Rattle.psb_model.specs.declared.change.Change.TheVariants.{Begun, Kept, Snapped, Forgot}
 use Rattle.psb_model.specs.Words.{all_of, name_listed, has}
 use Rattle.psb_model.specs.declared.entries.OwnEntry.{OwnEntry}
 use Rattle.psb_bytes.specs.declared.ids.Object.{Object}
@@ -18,15 +18,14 @@ use Rattle.psb_bytes.specs.Objects.{object_cmp}
 use Rattle.std.specs.Ordering.{is_lt}
 use Rattle.psb_model.specs.State.{Row, State, nothing_yet, row_in, has_row, at_row, in_key, own_has}
 use Rattle.psb_model.specs.Conditions.{allowed, tests, names_ascend, settings_of_body, peer_of}
-use Rattle.psb_model.specs.Effects.{after, all_rows_after, own_after, set_marks, blank_rows, first_rows, kept_lists, kept_without}
-use Rattle.psb_model.specs.History.{state, state_from, lawful_from, is_lawful, is_built}
+use Rattle.psb_model.specs.Effects.{after, rows_after, all_rows_after, own_after, set_marks, blank_rows, first_rows, kept_lists, kept_without}
+use Rattle.psb_model.specs.History.{state, state_from, lawful_from, is_lawful}
 use Rattle.psb_model.proofs.ByObject.{by_cases}
 use Rattle.psb_model.proofs.Steps.{parts}
 use Rattle.psb_model.proofs.Rows.{has_row-at_row}
 use Rattle.psb_model.proofs.Prefixes.{lawful_cons}
-use Rattle.psb_model.proofs.Built.{IsPlain, plain_nothing, plain_after, rows_one}
 use Rattle.psb_model.proofs.Steady.{is_kept, allows}
-use Rattle.psb_model.proofs.Bare.{changed}
+use Rattle.psb_model.proofs.Bare.{bare_rows, changed, rows_bare}
 use Rattle.psb_model.proofs.Held.{held_in}
 use Rattle.peer_lists.specs.Entries.{in_order}
 use Rattle.own_chunks.specs.OwnList.{own_key}
@@ -49,6 +48,20 @@ distinct_at_row p f (x ∷ xs) h =
     by_cases (x.0 == p)
     (λ k. rw k h)
     (λ k. rw k (rw (ap not (has_row-at_row p x.0 f xs) ∙ a.0) (distinct_at_row p f xs a.1)))
+
+-- the states of entries do not matter
+bare_has : (rows : List (ℕ × Row)) (q : ℕ) → has_row (bare_rows rows) q ≡ has_row rows q
+bare_has [] q = refl
+bare_has (x ∷ xs) q = ap (λ b. (x.0 == q) || b) (bare_has xs q)
+
+distinct_bare : (rows : List (ℕ × Row)) → are_distinct (bare_rows rows) ≡ are_distinct rows
+distinct_bare [] = refl
+distinct_bare (x ∷ xs) = ap (λ b. not b && are_distinct (bare_rows xs)) (bare_has xs x.0) ∙ ap (λ b. not (has_row xs x.0) && b) (distinct_bare xs)
+
+-- a change leaves each peer its one row
+distinct_after : (s : State) (c : Change) (o : Option ℕ) → are_distinct s.rows ≡ true → are_distinct (elim o [ None ↦ s.rows | Some p ↦ rows_after s c p ]) ≡ true
+distinct_after s c None d = d
+distinct_after s c (Some p) d = sym (distinct_bare (rows_after s c p)) ∙ ap are_distinct (rows_bare s c p) ∙ distinct_bare (at_row p (changed s c) s.rows) ∙ distinct_at_row p (changed s c) s.rows d
 
 blank_has : (ps : List PeerRow) (q : ℕ) → has_row (blank_rows ps) q ≡ has_id q ps
 blank_has [] q = refl
@@ -144,18 +157,9 @@ own_after_ordered s _ h o = o
 ordered_own : (s : State) (c : Change) → allowed s c ≡ true → in_order own_key s.own ≡ true → in_order own_key (after s c).own ≡ true
 ordered_own s c h o = ordered_kept (is_kept (all_rows_after s c)) (own_after s c) (own_after_ordered s c (allows s c h).tests o)
 
--- a change of a peer leaves the snapshots, and each peer its one row
-ordered_peer : (s : State) (c : Change) (q : ℕ) → IsPlain s → is_built c ≡ true → allowed s c ≡ true → peer_of c ≡ Some q → (after s c).kept ≡ s.kept → IsOrdered s → IsOrdered (after s c)
-ordered_peer s c q p b h peer kept o = record {
-  own = ordered_own s c h o.own;
-  kept = subst (λ ks. list_all ascends ks ≡ true) (sym kept) o.kept;
-  rows = subst (λ (l : List (ℕ × Row)). are_distinct l ≡ true) (sym (rows_one s c q p.rows b peer)) (distinct_at_row q (changed s c) s.rows o.rows);
-}
-
-pub ordered_after : (s : State) (c : Change) → IsPlain s → is_built c ≡ true → allowed s c ≡ true → IsOrdered s → IsOrdered (after s c)
-ordered_after s (Begun x) p b h o = record { own = ordered_own s (Begun x) h o.own; kept = o.kept; rows = distinct_first x.body }
-ordered_after s (Kept x) p b h o = record { own = ordered_own s (Kept x) h o.own; kept = o.kept; rows = o.rows }
-ordered_after s (Snapped x) p b h o =
+pub ordered_after : (s : State) (c : Change) → allowed s c ≡ true → IsOrdered s → IsOrdered (after s c)
+ordered_after s (Begun x) h o = record { own = ordered_own s (Begun x) h o.own; kept = o.kept; rows = distinct_first x.body }
+ordered_after s (Snapped x) h o =
     let c : Change = Snapped x in
     let ts = parts (tests s c) (allows s c h).tests in
     record {
@@ -163,30 +167,15 @@ ordered_after s (Snapped x) p b h o =
       kept = all_end s.kept (record { number = x.number; ticket = x.ticket; files = x.files; folders = x.folders; bytes = x.bytes; left = x.left; names = x.names }) o.kept ts.1.0;
       rows = o.rows;
     }
-ordered_after s (Forgot x) p b h o = record { own = ordered_own s (Forgot x) h o.own; kept = all_less x.number s.kept o.kept; rows = o.rows }
-ordered_after s (Chose x) p b h o = record { own = ordered_own s (Chose x) h o.own; kept = o.kept; rows = o.rows }
-ordered_after s (TookFresh x) p b h o = ordered_peer s (TookFresh x) x.peer p refl h refl refl o
-ordered_after s (TookSwap x) p b h o = ordered_peer s (TookSwap x) x.peer p refl h refl refl o
-ordered_after s (LetGo x) p b h o = ordered_peer s (LetGo x) x.peer p refl h refl refl o
-ordered_after s (LetGoBack x) p b h o = ordered_peer s (LetGoBack x) x.peer p refl h refl refl o
-ordered_after s (Refused x) p b h o = ordered_peer s (Refused x) x.peer p refl h refl refl o
-ordered_after s (Proposed x) p b h o = ordered_peer s (Proposed x) x.peer p b h refl refl o
-ordered_after s (Settled x) p b h o = ordered_peer s (Settled x) x.peer p refl h refl refl o
-ordered_after s (Turned x) p b h o = ordered_peer s (Turned x) x.peer p refl h refl refl o
-ordered_after s (Asked x) p b h o = ordered_peer s (Asked x) x.peer p refl h refl refl o
-ordered_after s (Passed x) p b h o = ordered_peer s (Passed x) x.peer p refl h refl refl o
-ordered_after s (Failed x) p b h o = ordered_peer s (Failed x) x.peer p refl h refl refl o
-ordered_after s (Declined x) p b h o = ordered_peer s (Declined x) x.peer p refl h refl refl o
-ordered_after s (Discarded x) p b h o = ordered_peer s (Discarded x) x.peer p b h refl refl o
-ordered_after s _ p b h o = absurd (false≢true b)
+ordered_after s (Forgot x) h o = record { own = ordered_own s (Forgot x) h o.own; kept = all_less x.number s.kept o.kept; rows = o.rows }
+ordered_after s c h o = record { own = ordered_own s c h o.own; kept = o.kept; rows = distinct_after s c (peer_of c) o.rows }
 
-ordered_from : (s : State) (h : List Change) → IsPlain s → lawful_from s h ≡ true → list_all is_built h ≡ true → IsOrdered s → IsOrdered (state_from s h)
-ordered_from s [] p v b o = o
-ordered_from s (c ∷ cs) p v b o =
+ordered_from : (s : State) (h : List Change) → lawful_from s h ≡ true → IsOrdered s → IsOrdered (state_from s h)
+ordered_from s [] v o = o
+ordered_from s (c ∷ cs) v o =
     let l = lawful_cons s c cs v in
-    let two = and_parts (is_built c) (list_all is_built cs) b in
-    ordered_from (after s c) cs (plain_after s c p two.0 l.grammar l.allows) l.rest two.1 (ordered_after s c p two.0 l.allows o)
+    ordered_from (after s c) cs l.rest (ordered_after s c l.allows o)
 
 -- the state of a lawful history is in order
-pub ordered_state : (h : List Change) → is_lawful h ≡ true → list_all is_built h ≡ true → IsOrdered (state h)
-ordered_state h v b = ordered_from nothing_yet h plain_nothing v b (record { own = refl; kept = refl; rows = refl })
+pub ordered_state : (h : List Change) → is_lawful h ≡ true → IsOrdered (state h)
+ordered_state h v = ordered_from nothing_yet h v (record { own = refl; kept = refl; rows = refl })

@@ -1,5 +1,5 @@
 -- What is known of a node's history while its records are read.
-use Rattle.std.proofs.Common.{◌≡◌, ℕ, ◌+◌, ◌<◌, ◌≤◌, Bool, true, false, not, ◌&&◌, cond, inl, inr, List, [], ◌∷◌, ◌++◌, length, take, drop, get_or, slice_get, is_some, Option, Some, None, IfSome, refl, sym, ◌∙◌, ap, subst, arith, append_assoc, length-append}
+use Rattle.std.proofs.Common.{◌≡◌, ℕ, ◌+◌, ◌<◌, ◌≤◌, Bool, true, false, not, cond, inl, inr, List, [], ◌∷◌, ◌++◌, length, take, drop, get_or, slice_get, is_some, Option, Some, None, IfSome, refl, sym, ◌∙◌, ap, subst, arith, append_assoc, length-append}
 use Rattle.std.specs.List.{list_all}
 use Rattle.std.proofs.lemmas.Bool.{false≢true, and_parts}
 use Rattle.std.proofs.lemmas.List.{take_more, drop_more, take_all, append-nil}
@@ -13,7 +13,7 @@ use Rattle.psb_model.specs.State.{State, nothing_yet, row, is_held}
 use Rattle.psb_model.specs.Grammar.{fits_widths}
 use Rattle.psb_model.specs.Conditions.{allowed}
 use Rattle.psb_model.specs.Effects.{after}
-use Rattle.psb_model.specs.History.{state, state_from, is_lawful, lawful_from, is_built}
+use Rattle.psb_model.specs.History.{state, state_from, lawful_from}
 use Rattle.psb_model.specs.Needed.{brings_name, body_is_right, IsValid}
 use Rattle.psb_model.specs.declared.change.Change.{Change}
 use Rattle.psb_model.proofs.Prefixes.{state_snoc, lawful_app, lawful_cons, lawful_snoc, all_snoc, changes_counted}
@@ -41,7 +41,6 @@ list_all-at test (x ∷ xs) y ys h = list_all-at test xs y ys (and_parts (test x
 -- a change of a valid history
 pub record IsNextOf (h : List Change) (c : Change) : Type 0 where
   pub readable : IsReadable c
-  pub built : is_built c ≡ true
   pub may : allowed (state h) c ≡ true
 
 pub next_of : (h : List Change) (c : Change) (more : List Change) → IsValid (h ++ c ∷ more) → IsNextOf h c
@@ -53,7 +52,6 @@ next_of h c more v =
         fit = list_all-at fits_widths h c more v.fit;
         grammar = n.grammar;
       };
-      built = list_all-at is_built h c more v.built;
       may = n.allows;
     }
 
@@ -114,7 +112,6 @@ reading_start holds keeps r first fresh = record {
   history = [];
   lawful = refl;
   fit = refl;
-  built = refl;
   state_is = fresh.ledger;
   counted = refl;
   names = names_start r.tables.names fresh.records fresh.owners;
@@ -127,7 +124,6 @@ pub reading_known : (holds : List Entry → List ℕ → Type 0) (keeps : ℕ �
 reading_known holds keeps number t w first now r = record {
   history = r.history;
   lawful = r.lawful;
-  built = r.built;
   state_is = r.state_is;
   names = r.names;
 }
@@ -139,9 +135,9 @@ nothing : Entry
 nothing = entry [] []
 
 -- each name is still of a record that was read, and its body kept if it does not lack it
-placed_more : (b m d : Store) (w x : Lacking) (h : List Change) (c : Change) (number : ℕ) (keeps : ℕ → Bool) → is_lawful h ≡ true → list_all is_built h ≡ true → is_built c ≡ true → allowed (state h) c ≡ true → KnowsNames b h → SameNames b m → Enters (state h) m d c number → NotesLacking w x c
+placed_more : (b m d : Store) (w x : Lacking) (h : List Change) (c : Change) (number : ℕ) (keeps : ℕ → Bool) → allowed (state h) c ≡ true → KnowsNames b h → SameNames b m → Enters (state h) m d c number → NotesLacking w x c
     → ((name : List ℕ) → brings_name name c ≡ true → body_is_right c ≡ true → keeps number ≡ true) → ArePlaced b w number keeps → ArePlaced d x (number + 1) keeps
-placed_more b m d w x h c number keeps lawful built is may knows same enters lacks kept was = λ q k here. at q k (placed m d h c number lawful built is may (names_same b m h same knows) enters q k here)
+placed_more b m d w x h c number keeps may knows same enters lacks kept was = λ q k here. at q k (placed m d h c number may (names_same b m h same knows) enters q k here)
   where
     right : (r : Bool) → not r ≡ false → r ≡ true
     right true h = refl
@@ -166,18 +162,16 @@ pub reading_more : (one : OneChangeEach) (holds : List Entry → List ℕ → Ty
     → TakesUp t u w x c number → Reading holds keeps number t w first now → Reading holds keeps (number + 1) u x first later
 reading_more one holds size keeps number t u w x first now later c counts lt kept looked readable records bodies takes before =
     let h = before.history in
-    let two = and_parts (is_built c) (allowed t.ledger.state c) takes.may in
-    let allows : allowed (state h) c ≡ true = subst (λ (y : State). allowed y c ≡ true) before.state_is two.1 in
+    let allows : allowed (state h) c ≡ true = subst (λ (y : State). allowed y c ≡ true) before.state_is takes.may in
     let entered : Enters (state h) takes.between u.names c number = subst (λ (y : State). Enters y takes.between u.names c number) before.state_is takes.enters in
     record {
       history = h ++ c ∷ [];
       lawful = lawful_snoc h c ∙ rw (before.lawful, readable.grammar, allows) refl;
       fit = all_snoc fits_widths h c ∙ rw (before.fit, readable.fit) refl;
-      built = all_snoc is_built h c ∙ rw (before.built, two.0) refl;
       state_is = takes.grown ∙ ap (λ (x : State). after x c) before.state_is ∙ sym (state_snoc h c);
       counted = omega (arith, before.counted, length-append h (c ∷ []));
-      names = names_grown takes.between u.names h c before.lawful before.built two.0 allows (names_same t.names takes.between h takes.same before.names) (subst (λ (k : ℕ). Enters (state h) takes.between u.names c k) (sym before.counted) entered);
-      there = placed_more t.names takes.between u.names w x h c number keeps before.lawful before.built two.0 allows before.names takes.same entered takes.lacks bodies before.there;
+      names = names_grown takes.between u.names h c before.lawful allows (names_same t.names takes.between h takes.same before.names) (subst (λ (k : ℕ). Enters (state h) takes.between u.names c k) (sym before.counted) entered);
+      there = placed_more t.names takes.between u.names w x h c number keeps allows before.names takes.same entered takes.lacks bodies before.there;
       lacking = lacking_grown w x h c before.lacking takes.lacks;
       reads = λ tells es shows.
           let told = looked.works.tells tells in
@@ -196,9 +190,8 @@ reading_done holds size keeps t w first now counts some none r =
       record {
         lawful = r.lawful;
         fit = r.fit;
-        built = r.built;
         some = omega (arith, some, r.counted);
-        sound = sound_of (state h) nothing_yet h r.lawful r.built (none_lacks w t.names h r.names r.lacking none.names (subst (λ (x : State). (p n : ℕ) → is_slot_lacking w p n ≡ true → has_direct (row x p).ins n ≡ false) r.state_is none.slots));
+        sound = sound_of (state h) nothing_yet h r.lawful (none_lacks w t.names h r.names r.lacking none.names (subst (λ (x : State). (p n : ℕ) → is_slot_lacking w p n ≡ true → has_direct (row x p).ins n ≡ false) r.state_is none.slots));
       },
       r.state_is,
       r.names,
@@ -240,29 +233,28 @@ one_lacks holds size keeps t w first now counts (inr one) r tells es shows all v
 -- a record that is no change which may come next
 pub no_change : (holds : List Entry → List ℕ → Type 0) (size : ℕ) (keeps : ℕ → Bool) (number : ℕ) (t : Tables) (w : Lacking) (first now later : View)
     → ((es : List Entry) (i : List ℕ) → holds es i → size ≡ length es) → number < size → Keeps first now → Keeps now later
-    → (Tells_bytes later → (es : List Entry) → Shows (holds es) now → IfSome (slice_get es number) (λ e. (c : Change) → IsReadable c → is_built c && allowed t.ledger.state c ≡ true → ¬ IsRecord c e.head e.body))
+    → (Tells_bytes later → (es : List Entry) → Shows (holds es) now → IfSome (slice_get es number) (λ e. (c : Change) → IsReadable c → allowed t.ledger.state c ≡ true → ¬ IsRecord c e.head e.body))
     → Reading holds keeps number t w first now → Tells_bytes later → (es : List Entry) → Shows (holds es) first → (all : List Change) → IsValid all → ¬ AreDecoded all es
 no_change holds size keeps number t w first now later counts lt kept looked none r tells es shows all v are =
     let before = looked.works.tells tells in
     let inside : number < length es = omega (arith, lt, counts es shows.bytes shows.reads) in
-    let not_one = at_some (slice_get es number) (λ e. (c : Change) → IsReadable c → is_built c && allowed t.ledger.state c ≡ true → ¬ IsRecord c e.head e.body) (get_or es number nothing) (none tells es (shows_keeps (holds es) first now kept before shows)) (slice_get-get_or es number nothing inside) in
+    let not_one = at_some (slice_get es number) (λ e. (c : Change) → IsReadable c → allowed t.ledger.state c ≡ true → ¬ IsRecord c e.head e.body) (get_or es number nothing) (none tells es (shows_keeps (holds es) first now kept before shows)) (slice_get-get_or es number nothing inside) in
     let n = next_change es number r.history nothing inside (r.reads before es shows) all v are in
     let allows : allowed t.ledger.state n.0 ≡ true = ap (λ (x : State). allowed x n.0) r.state_is ∙ n.3.may in
-    let both : is_built n.0 && allowed t.ledger.state n.0 ≡ true = rw (n.3.built, allows) refl in
-    not_one n.0 n.3.readable both n.4
+    not_one n.0 n.3.readable allows n.4
 
 -- ---- one record
 
 -- a record of a change that may not come next is of no change that may
-pub not_next : (one : OneChangeEach) (o : Option Entry) (s : State) (c : Change) → IsReadable c → is_built c && allowed s c ≡ false → IfSome o (λ e. IsRecord c e.head e.body)
-    → IfSome o (λ e. (d : Change) → IsReadable d → is_built d && allowed s d ≡ true → ¬ IsRecord d e.head e.body)
+pub not_next : (one : OneChangeEach) (o : Option Entry) (s : State) (c : Change) → IsReadable c → allowed s c ≡ false → IfSome o (λ e. IsRecord c e.head e.body)
+    → IfSome o (λ e. (d : Change) → IsReadable d → allowed s d ≡ true → ¬ IsRecord d e.head e.body)
 not_next one None s c readable may is = tt
 not_next one (Some e) s c readable may is = λ d fine allows of_d.
     let same : d ≡ c = one d c e.head e.body fine.grammar readable.grammar fine.fit readable.fit of_d is in
-    absurd (false≢true (sym may ∙ ap (λ (x : Change). is_built x && allowed s x) (sym same) ∙ allows))
+    absurd (false≢true (sym may ∙ ap (allowed s) (sym same) ∙ allows))
 
 -- nor is a record that is of no change at all
-pub not_any : (o : Option Entry) (s : State) → IfSome o (λ e. (d : Change) → IsReadable d → is_built d ≡ true → ¬ IsRecord d e.head e.body)
-    → IfSome o (λ e. (d : Change) → IsReadable d → is_built d && allowed s d ≡ true → ¬ IsRecord d e.head e.body)
+pub not_any : (o : Option Entry) (s : State) → IfSome o (λ e. (d : Change) → IsReadable d → ¬ IsRecord d e.head e.body)
+    → IfSome o (λ e. (d : Change) → IsReadable d → allowed s d ≡ true → ¬ IsRecord d e.head e.body)
 not_any None s none = tt
-not_any (Some e) s none = λ d fine allows of_d. none d fine (and_parts (is_built d) (allowed s d) allows).0 of_d
+not_any (Some e) s none = λ d fine allows of_d. none d fine of_d

@@ -11,7 +11,7 @@ use Rattle.psb_model.proofs.ByObject.{by_cases}
 use Rattle.psb_model.proofs.Own.{name_same}
 use Rattle.peer_lists.specs.Entries.{in_order}
 use Rattle.own_chunks.specs.OwnList.{own_key, next_own}
-use Rattle.node_history.proofs.OwnWalks.{own_left, first_behind, first_none, first_some, left_falls}
+use Rattle.own_chunks.proofs.Walks.{own_left, first_behind, first_none, first_some, left_falls}
 
 -- ---- one of two, and both
 

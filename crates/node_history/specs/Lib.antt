@@ -1,6 +1,5 @@
 pub mod Faults
 pub mod Readable
-pub mod Reads
 pub mod Less
 pub mod Stands
 pub mod Names

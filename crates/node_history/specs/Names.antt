@@ -74,7 +74,7 @@ pub record GivesUp (s : State) (c : Change) (old new : Store) : Type 0 where
   pub are : (q : List ℕ) → own_has s.own q ≡ true → gone q ≡ not (own_has (after s c).own q)
   pub drops : Drops old new Own gone
 
--- what a change with this number, of a kind that is built, does to the names, after this state
+-- what a change with this number does to the names, after this state
 abbrev pub Enters : State → Store → Store → Change → ℕ → Type 0
 Enters s old new (Kept x) number = Adds old new Own x.name number
 Enters s old new (Forgot x) number = GivesUp s (Forgot x) old new

@@ -1,5 +1,5 @@
 -- What is known of a node's history while its records are read up.
-use Rattle.std.specs.Prelude.{◌≡◌, ◌⊎◌, ℕ, ◌<◌, Bool, true, false, ◌&&◌, List, ◌++◌, length, take, drop, Some, None, is_some}
+use Rattle.std.specs.Prelude.{◌≡◌, ◌⊎◌, ℕ, ◌<◌, Bool, true, false, List, ◌++◌, length, take, drop, Some, None, is_some}
 use Rattle.std.specs.List.{list_all}
 use Rattle.psb_station.specs.View.{View}
 use Rattle.psb_station.specs.Span.{Shows, Tells_bytes}
@@ -10,7 +10,7 @@ use Rattle.psb_model.specs.State.{nothing_yet, row, in_key}
 use Rattle.psb_model.specs.Grammar.{fits_widths}
 use Rattle.psb_model.specs.Conditions.{allowed, is_direct}
 use Rattle.psb_model.specs.Effects.{after}
-use Rattle.psb_model.specs.History.{state, is_lawful, is_built}
+use Rattle.psb_model.specs.History.{state, is_lawful}
 use Rattle.psb_model.specs.Needed.{IsValid}
 use Rattle.psb_model.specs.declared.change.Change.{Change}
 use Rattle.chunk_store.specs.declared.owner.Owner.{Owner}
@@ -35,13 +35,12 @@ pub record IsFresh (r : Reader) : Type 0 where
 pub record AreOfSome (t : Tables) : Type 0 where
   pub history : List Change
   pub lawful : is_lawful history ≡ true
-  pub built : list_all is_built history ≡ true
   pub state_is : t.ledger.state ≡ state history
   pub names : KnowsNames t.names history
 
 -- a change that may come next was taken up; its record has this number
 pub record TakesUp (old new : Tables) (w x : Lacking) (c : Change) (number : ℕ) : Type 0 where
-  pub may : is_built c && allowed old.ledger.state c ≡ true
+  pub may : allowed old.ledger.state c ≡ true
   pub grown : new.ledger.state ≡ after old.ledger.state c
   pub between : Store
   pub same : SameNames old.names between
@@ -62,7 +61,6 @@ pub record Reading (holds : List Entry → List ℕ → Type 0) (keeps : ℕ →
   pub history : List Change
   pub lawful : is_lawful history ≡ true
   pub fit : list_all fits_widths history ≡ true
-  pub built : list_all is_built history ≡ true
   pub state_is : t.ledger.state ≡ state history
   pub counted : length history ≡ number
   pub names : KnowsNames t.names history

@@ -1,13 +1,13 @@
 //! The records of a log as the changes of a history.
 
-ghost use Rattle.std.specs.Prelude.{◌≡◌, ◌⊎◌, ◌<◌, ◌^◌, ◌&&◌, List, [], ℕ, Some, None, true, false, IfSome, IfOk, OnOk, OnErr, slice_get};
+ghost use Rattle.std.specs.Prelude.{◌≡◌, ◌⊎◌, ◌<◌, ◌^◌, List, [], ℕ, Some, None, true, false, IfSome, IfOk, OnOk, OnErr, slice_get};
 ghost use Rattle.std.specs.Option.{option_map};
 ghost use Rattle.psb_station.specs.Calls.{Rose};
 ghost use Rattle.psb_station.specs.Span.{Shows, Tells_bytes, Keeps};
 ghost use Rattle.node_journal.specs.Entry.{Entry};
 ghost use Rattle.psb_model.specs.Grammar.{in_grammar};
 ghost use Rattle.psb_model.specs.Conditions.{allowed, peer_of};
-ghost use Rattle.psb_model.specs.History.{state, is_built};
+ghost use Rattle.psb_model.specs.History.{state};
 ghost use Rattle.psb_model.specs.Needed.{brings, brings_name, slots_given, is_body, body_is_right, IsValid};
 ghost use Rattle.psb_model.specs.declared.change.Change.{Change};
 ghost use Rattle.psb_ledger.specs.View.{HasRoom};
@@ -22,8 +22,7 @@ ghost use Rattle.psb_model.specs.Heads.{body_of};
 use crate::ReadFault;
 use crate::entering::Entering;
 use crate::lacking::Lacking;
-use crate::records::read_record;
-use change_codec::ChangeError;
+use change_codec::{ChangeError, decode_change};
 use chunk_store::Store;
 use node_journal::Log;
 use psb_bytes::{Digest, Memory, PeerId};
@@ -59,10 +58,10 @@ fn has_bytes(change: &Change, name: &Digest) -> bool
 fn change_of(alloc: Global, head: &[u8], body: Option<&[u8]>) -> Result<Change, ReadFault>
     ensures readable { IfOk result IsReadable }
     ensures record_is { IfOk result (λ c. IsRecord c head.now (option_map (λ b. b.now) body.entry)) }
-    ensures not_node { result ≡ Err ReadFault.NotNode → (c : Change) → IsReadable c → is_built c ≡ true → ¬ IsRecord c head.now (option_map (λ b. b.now) body.entry) }
+    ensures not_node { result ≡ Err ReadFault.NotNode → (c : Change) → IsReadable c → ¬ IsRecord c head.now (option_map (λ b. b.now) body.entry) }
     ensures only { OnErr result ((result ≡ Err ReadFault.NotNode) ⊎ (result ≡ Err ReadFault.Memory)) }
 {
-    match read_record(alloc, head, body) {
+    match decode_change(alloc, head, body) {
         Ok(change) => Ok(change),
         Err(ChangeError::BadHead) => Err(ReadFault::NotNode),
         Err(ChangeError::Memory) => Err(ReadFault::Memory),
@@ -86,7 +85,7 @@ fn read_change<L: Log, D: Disk>(
     // Where it has the bytes of a name that it brings, the log keeps them.
     ensures there { IfOk result (λ c. (name : List ℕ) → brings_name name c ≡ true → body_is_right c ≡ true → L.keeps_body log.old number ≡ true) }
     ensures not_node { result ≡ Err ReadFault.NotNode → Tells_bytes (D.view disk.new) → (es : List Entry) → Shows (L.holds log.old es) (D.view disk.old)
-        → IfSome (slice_get es number) (λ e. (c : Change) → IsReadable c → is_built c ≡ true → ¬ IsRecord c e.head e.body) }
+        → IfSome (slice_get es number) (λ e. (c : Change) → IsReadable c → ¬ IsRecord c e.head e.body) }
     ensures log { log.new ≡ log.old }
     ensures keeps { Keeps (D.view disk.old) (D.view disk.new) }
     ensures disk_cause { result ≡ Err ReadFault.DiskFault → Rose (D.view disk.old).disk_faults (D.view disk.new).disk_faults }
@@ -199,8 +198,8 @@ impl Reader {
         ensures ledger_room { OnOk result (HasRoom self.new.tables.ledger change.now) }
         ensures names_room { OnOk result (has_room self.new.tables.names ≡ true) }
         ensures entering { IfOk result (IsEntering self.old.tables.ledger.state change.now) }
-        ensures allowed { OnOk result (is_built change.now && allowed self.old.tables.ledger.state change.now ≡ true) }
-        ensures not_node { result ≡ Err ReadFault.NotNode → is_built change.now && allowed self.old.tables.ledger.state change.now ≡ false }
+        ensures allowed { OnOk result (allowed self.old.tables.ledger.state change.now ≡ true) }
+        ensures not_node { result ≡ Err ReadFault.NotNode → allowed self.old.tables.ledger.state change.now ≡ false }
         ensures only { OnErr result ((result ≡ Err ReadFault.NotNode) ⊎ (result ≡ Err ReadFault.Memory)) }
     {
         note_lacking(&mut self.lacking, change)?;
@@ -218,7 +217,7 @@ impl Reader {
         requires few { self.old.tables.ledger.state.changes < 2 ^ 62 }
         requires known { AreOfSome self.old.tables }
         ensures taken { OnOk result (TakesUp self.old.tables self.new.tables self.old.lacking self.new.lacking change number) }
-        ensures not_node { result ≡ Err ReadFault.NotNode → is_built change && allowed self.old.tables.ledger.state change ≡ false }
+        ensures not_node { result ≡ Err ReadFault.NotNode → allowed self.old.tables.ledger.state change ≡ false }
         ensures only { OnErr result ((result ≡ Err ReadFault.NotNode) ⊎ (result ≡ Err ReadFault.Memory)) }
     {
         let entering = self.prepare(alloc, &change)?;
@@ -243,7 +242,7 @@ impl Reader {
             × (Tells_bytes (D.view disk.new) → (es : List Entry) → Shows (L.holds log.old es) (D.view disk.old) → IfSome (slice_get es number) (λ e. IsRecord c e.head e.body))
             × ((name : List ℕ) → brings_name name c ≡ true → body_is_right c ≡ true → L.keeps_body log.old number ≡ true)) }
         ensures not_node { result ≡ Err ReadFault.NotNode → Tells_bytes (D.view disk.new) → (es : List Entry) → Shows (L.holds log.old es) (D.view disk.old)
-            → IfSome (slice_get es number) (λ e. (c : Change) → IsReadable c → is_built c && allowed self.old.tables.ledger.state c ≡ true → ¬ IsRecord c e.head e.body) }
+            → IfSome (slice_get es number) (λ e. (c : Change) → IsReadable c → allowed self.old.tables.ledger.state c ≡ true → ¬ IsRecord c e.head e.body) }
         ensures log { log.new ≡ log.old }
         ensures keeps { Keeps (D.view disk.old) (D.view disk.new) }
         ensures disk_cause { result ≡ Err ReadFault.DiskFault → Rose (D.view disk.old).disk_faults (D.view disk.new).disk_faults }

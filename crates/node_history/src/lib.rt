@@ -7,10 +7,8 @@ mod fault;
 mod history;
 mod lacking;
 mod laws;
-mod records;
 
 pub use entering::Entering;
 pub use fault::ReadFault;
 pub use history::{Tables, read_history};
 pub use laws::less_gives_the_same;
-pub use records::read_record;

@@ -83,5 +83,5 @@ module _ {L : Type 0} (holds : L → List Entry → List ℕ → Type 0) (stands
 pub few_gets : {L : Type 0} (node : Node L) (n : Situation) (letters : List Letter) (name : List ℕ) → (k : Knows node n) → letters_of letters ≡ gets k.settings.settings name → length letters ≤ most_peers
 few_gets node n letters name k are =
     let st = k.settings.settings in
-    let read = settings_read n.history st k.valid.built k.settings.present in
+    let read = settings_read n.history st k.settings.present in
     omega (arith, read.few_peers, ap (λ (l : List (ℕ × List ℕ)). length l) are, length_map {B = ℕ × List ℕ} (λ (l : Letter). (l.to, l.frame)) letters, length_map (get_by st.id name) st.peers)

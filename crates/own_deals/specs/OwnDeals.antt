@@ -3,7 +3,7 @@ use Rattle.std.specs.Prelude.{◌≡◌, ℕ, ◌+◌, ◌*◌, Bool, true, ◌&
 use Rattle.std.specs.Option.{option_or}
 use Rattle.psb_model.specs.declared.deals.Deal.{Deal}
 use Rattle.psb_model.specs.declared.deals.DealWhat.{DealWhat}
-use Rattle.psb_model.specs.declared.deals.DealWhat.TheVariants.{Fresh, Swap, Cancel, PutBack}
+use Rattle.psb_model.specs.declared.deals.DealWhat.TheVariants.{Fresh, Swap, Cancel, PutBack, Forward, Return}
 use Rattle.psb_model.specs.Words.{name_eq}
 use Rattle.psb_model.specs.Effects.{deal_name, pending_name}
 use Rattle.psb_model.specs.Grammar.{what_in_grammar}
@@ -56,7 +56,7 @@ pub record OwnDealsView : Type 0 where
   pub cancel_room : ℕ
 
 -- what comes to the two lists when the pending deal is settled, but for the slots of the reply: a chunk, or a run;
--- and each slot that goes leaves two runs at most
+-- and each slot that goes, or gets another state, leaves two runs at most
 abbrev pub ins_of : DealWhat → ℕ
 ins_of (Cancel name numbers) = 2 * length numbers
 ins_of _ = 0
@@ -65,4 +65,6 @@ abbrev pub outs_of : DealWhat → ℕ
 outs_of (Fresh name) = 1
 outs_of (Swap name numbers) = 1 + 2 * length numbers
 outs_of (PutBack name first) = 1
-outs_of _ = 0
+outs_of (Forward slot entry) = 2
+outs_of (Return slot) = 2
+outs_of (Cancel name numbers) = 0

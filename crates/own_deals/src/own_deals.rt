@@ -71,7 +71,7 @@ pub fn room_of(what: &DealWhat) -> Room
             ins: 2 * slots.as_slice().len(),
             outs: 0,
         },
-        _ => Room { ins: 0, outs: 0 },
+        DealWhat::Forward { .. } | DealWhat::Return { .. } => Room { ins: 0, outs: 2 },
     }
 }
 

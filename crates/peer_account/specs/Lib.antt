@@ -4,3 +4,4 @@ pub mod Taking
 pub mod View
 pub mod Probing
 pub mod Discarding
+pub mod States

@@ -19,6 +19,7 @@ mod discarding;
 mod moves;
 mod own_moves;
 mod probing;
+mod states;
 
 use crate::probes::Probes;
 pub use conditions::Measure;

@@ -13,7 +13,7 @@ use Rattle.psb_model.specs.declared.entries.DebtEntry.{DebtEntry}
 use Rattle.psb_model.specs.declared.change.Change.TheVariants as change
 use Rattle.psb_model.specs.declared.kinds.Discarded.{Discarded}
 use Rattle.psb_model.specs.Words.{name_listed, has, only, without}
-use Rattle.psb_model.specs.State.{Row, State, row, tied_in, in_key, in_size, out_key, debt_key, debt_units, coming}
+use Rattle.psb_model.specs.State.{Row, State, row, tied_in, in_key, in_size, out_key, debt_key, held_units, debt_units, coming}
 use Rattle.psb_model.specs.Discards.{is_picked, picks, one_in, discards, seed}
 use Rattle.psb_model.specs.Conditions.{same_objects, capacity}
 use Rattle.psb_model.specs.Move.{Move, still, use_up, after_move}
@@ -34,11 +34,12 @@ use Rattle.peer_account.specs.OwnDeals.{row_names}
 use Rattle.own_chunks.specs.OwnList.{own_key}
 use Rattle.psb_ledger.specs.declared.ledger.Ledger.TheInside.{Inside}
 use Rattle.psb_ledger.specs.View.{HasListRoom, IsReached}
-use Rattle.psb_ledger.specs.Moves.{CanDiscard}
+use Rattle.psb_ledger.specs.Moves.{StandsIn, CanDiscard}
 use Rattle.psb_ledger.specs.Discarding.{untied}
-use Rattle.psb_ledger.proofs.Places.{found_here, found_peer, found_account}
+use Rattle.accounts.specs.Freeing.{Freed}
 use Rattle.psb_ledger.proofs.Sound.{state_of, view_of, good_of}
-use Rattle.psb_ledger.proofs.Peers.{IsAt, makes_own, released_at, row_at, within_used, kept_all}
+use Rattle.psb_ledger.proofs.Peers.{IsAt, makes_own, released_at, row_of_peer, within_used, kept_all}
+use Rattle.psb_ledger.proofs.Leaving.{leaves_as, freed_alike, room_in}
 use Rattle.psb_ledger.proofs.Weights.{weighs, weigh_row, few_ins}
 
 -- THE OBJECTS OF A LIST, ONE AFTER ANOTHER
@@ -185,32 +186,30 @@ used_keeps (suc n) (d ∷ ds) o le = by_cases (nat_le d.left (suc n))
     (λ k. absurd (omega (arith, used_fewer (suc n - d.left) ds, rw k at le)))
     (λ k. rw k refl)
 
-pub can_discard : (l : Inside) (x : Discarded) (i : ℕ) (r : AccountView) → IsAt l (change.Discarded x) x.peer i r → in_order own_key l.own.items ≡ true → HasListRoom (view_of l) x.peer (2 * length x.objects) 0 → CanDiscard (view_of l) x i r
-can_discard l x i r f ordered room =
+pub can_discard : (l : Inside) (x : Discarded) (i : ℕ) (r q : AccountView) (vs : List AccountView) → IsAt l (change.Discarded x) x.peer i r → Freed l.accounts.items i x.objects vs → StandsIn vs i q → in_order own_key l.own.items ≡ true → HasListRoom (view_of l) x.peer (2 * length x.objects) 0 → CanDiscard (view_of l) vs x i q
+can_discard l x i r q vs f loose here ordered room =
     let s = state_of l in
     let c = change.Discarded x in
-    let vs = l.accounts.items in
-    let at = found_here vs x.peer i r f.place f.here in
-    let q = row_at l c x.peer i r f in
+    let now = leaves_as l c x.peer i r q vs x.objects f loose here refl in
+    let alike = freed_alike l c x.peer i r q vs f now.freed in
     let step : Step s c x.peer = steps s c (good_of s f.sound.reached) f.grammar (allows s c f.may).tests in
-    let units = sum_by in_size (only in_key x.objects (row s x.peer).ins) in
-    let moved : changed s c r.row ≡ discarded_row x.objects r.row =
-    subst (λ (y : Row). (let m = after_move (discard_move x.objects units) y in let z : Row = record m { due = false } in z) ≡ discarded_row x.objects y) q (row_discarded x.objects (row s x.peer))
+    let moved : changed s c q.row ≡ discarded_row x.objects q.row =
+    ap (λ es. let m = after_move (discard_move x.objects (sum_by in_size (only in_key x.objects es))) q.row in let z : Row = record m { due = false } in z) (sym now.ins) ∙ row_discarded x.objects q.row
     in
     record {
       needs = record {
-        in_room = subst (λ (y : AccountView). 2 * length x.objects ≤ y.in_room) (found_account vs x.peer i r at) (room.in_room (found_peer vs x.peer i r at));
-        owed = omega (arith, step.weighs.debt, ap debt_units q, ap (λ (y : Row). sum_by in_size (only in_key x.objects y.ins)) q);
+        in_room = subst (λ n. 2 * length x.objects ≤ n) (sym now.in_room) (room_in l c x.peer i (2 * length x.objects) 0 r f room);
+        owed = omega (arith, step.weighs.debt, alike.debt, ap (λ es. sum_by in_size (only in_key x.objects es)) now.ins);
       };
-      before = within_used l c x.peer i r f;
+      before = omega (arith, within_used l c x.peer i r f, alike.held, ap held_units (row_of_peer l c x.peer i r f));
       stays = λ w a b le.
-          let same : (n : List ℕ) → row_names (changed s c r.row) n ≡ row_names r.row n = λ n.
+          let same : (n : List ℕ) → row_names (changed s c q.row) n ≡ row_names q.row n = λ n.
           ap (λ (y : Row). row_names y n) moved
-          ∙ ap (λ t. has out_key r.row.outs (Chunk n) || t || name_listed (pending_name deal_name r.row.pending) n)
-          (used_keeps (sum_by in_size (only in_key x.objects r.row.ins)) r.row.debts (Chunk n) (omega (arith, le, ap (λ (y : Row). length y.debts) b)))
+          ∙ ap (λ t. has out_key q.row.outs (Chunk n) || t || name_listed (pending_name deal_name q.row.pending) n)
+          (used_keeps (sum_by in_size (only in_key x.objects q.row.ins)) q.row.debts (Chunk n) (omega (arith, le, ap (λ (y : Row). length y.debts) b)))
           in
-          sym (released_at l c x.peer i r w None f a (b ∙ sym moved) ordered (λ n _ h. same n ∙ h));
-      made = λ w n own sums own_is a b. makes_own l c x.peer i l.issued n r w own refl refl (record { settings = refl; own = refl; kept = refl; snapped = refl; chosen = refl }) f a (b ∙ sym moved) refl
+          sym (released_at l c x.peer i r q w vs None f now.freed a (b ∙ sym moved) ordered (λ n _ h. same n ∙ h));
+      made = λ w n own sums own_is a b. makes_own l c x.peer i l.issued n r q w vs own refl (record { settings = refl; own = refl; kept = refl; snapped = refl; chosen = refl }) f now.freed a (b ∙ sym moved) refl
           (omega (arith, sums, ap (λ (y : Row). coming s y.pending) b)) own_is;
     }
 

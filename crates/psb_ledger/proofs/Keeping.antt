@@ -16,7 +16,6 @@ use Rattle.psb_model.specs.State.{Row, State, own_has, used}
 use Rattle.psb_model.specs.Grammar.{in_grammar}
 use Rattle.psb_model.specs.Conditions.{allowed, tests, names_ascend}
 use Rattle.psb_model.specs.Effects.{after, chosen_after, all_rows_after, own_after, given_up, is_named, set_marks, own_with, kept_without}
-use Rattle.psb_model.specs.History.{is_built}
 use Rattle.psb_model.proofs.Steps.{parts}
 use Rattle.psb_model.proofs.Own.{own_after_keeps, keeps_then, named_keeps}
 use Rattle.psb_model.proofs.Steady.{allows, KeepsNamed, rows_use, uses_kept, is_kept}
@@ -53,10 +52,10 @@ keeps_named s c h n named own_n =
     keeps_then s.own (own_after s c) (after s c).own n k (named_keeps (all_rows_after s c) (own_after s c) n named k.has)
 
 -- no row changes, so as much is used as before
-pub makes : (l : Inside) (v : LedgerView) (c : Change) (m : Mine) → view_of l ≡ v → IsSound l.used (state_of l) → is_built c ≡ true → in_grammar c ≡ true → allowed (state_of l) c ≡ true → all_rows_after (state_of l) c ≡ (state_of l).rows → state_with l m ≡ after (state_of l) c → IsMine m → Makes l v c m
-makes l v c m view sound built grammar may rows is part =
+pub makes : (l : Inside) (v : LedgerView) (c : Change) (m : Mine) → view_of l ≡ v → IsSound l.used (state_of l) → in_grammar c ≡ true → allowed (state_of l) c ≡ true → all_rows_after (state_of l) c ≡ (state_of l).rows → state_with l m ≡ after (state_of l) c → IsMine m → Makes l v c m
+makes l v c m view sound grammar may rows is part =
     let s = state_of l in
-    let reached : IsReached (state_with l m) = subst IsReached (sym is) (reached_after s c sound.reached built grammar may) in
+    let reached : IsReached (state_with l m) = subst IsReached (sym is) (reached_after s c sound.reached grammar may) in
     let keeps : KeepsNamed s.own (after s c).own s.rows = subst (KeepsNamed s.own (after s c).own) rows (keeps_named s c (allows s c may).tests) in
     let same : rows_use (after s c) s.rows ≡ rows_use s s.rows = uses_kept s (after s c) s.rows keeps (steady_of s sound.reached).coming in
     record {
@@ -86,7 +85,7 @@ kept_one l v x own view sound part grammar may is =
     let absent : own_has l.own.items x.name ≡ false = is_false (own_has l.own.items x.name) ts.0 in
     let more = own_with (new_entry x) l.own.items in
     let next : own ≡ given_up s.rows more = is ∙ sym (all_stay s.rows more (kept_with_one s.rows (new_entry x) l.own.items refl (steady_of s sound.reached).named)) in
-    makes l v c (record { own = own; kept = l.kept.items; snapped = l.snapped; chosen = l.chosen.items }) view sound refl grammar may' refl
+    makes l v c (record { own = own; kept = l.kept.items; snapped = l.snapped; chosen = l.chosen.items }) view sound grammar may' refl
     (λ i. record { changes = l.changes + 1; settings = l.settings; rows = s.rows; issued = l.issued; own = next i; kept = l.kept.items; snapped = l.snapped; chosen = l.chosen.items })
     (record { own_ordered = subst (λ (o : List OwnEntry). in_order own_key o ≡ true) (sym is) (ordered_with (new_entry x) l.own.items part.own_ordered absent); names_ordered = part.names_ordered })
 
@@ -117,7 +116,7 @@ snapped_one l v k kept own view sound part grammar may is own_is =
     let ts = parts (tests s c) (allows s c may').tests in
     let lifted = set_marks (lifts k.names) l.own.items in
     let next : own ≡ given_up s.rows lifted = own_is ∙ sym (all_stay s.rows lifted (kept_lifted s.rows k.names l.own.items (steady_of s sound.reached).named)) in
-    makes l v c (record { own = own; kept = kept; snapped = Some (record { number = k.number; change = l.changes }); chosen = l.chosen.items }) view sound refl grammar may' refl
+    makes l v c (record { own = own; kept = kept; snapped = Some (record { number = k.number; change = l.changes }); chosen = l.chosen.items }) view sound grammar may' refl
     (λ i. record { changes = l.changes + 1; settings = l.settings; rows = s.rows; issued = l.issued; own = next i; kept = is i; snapped = Some (record { number = k.number; change = l.changes }); chosen = l.chosen.items })
     (record { own_ordered = ap (in_order own_key) own_is ∙ ordered_marks (lifts k.names) l.own.items ∙ part.own_ordered; names_ordered = ap (list_all ascends) is ∙ all_end ascends l.kept.items k part.names_ordered ts.1.0 })
 
@@ -136,7 +135,7 @@ chosen_one l v cs chosen view sound part grammar may is =
     let may' : allowed s c ≡ true = ap (λ (w : LedgerView). allowed w.state c) view ∙ may in
     let is' : chosen ≡ chosen_after s c = is ∙ ap (λ (w : LedgerView). chosen_after w.state c) (sym view) in
     let next : l.own.items ≡ given_up s.rows l.own.items = sym (all_stay s.rows l.own.items (steady_of s sound.reached).named) in
-    makes l v c (record { own = l.own.items; kept = l.kept.items; snapped = l.snapped; chosen = chosen }) view sound refl grammar may' refl
+    makes l v c (record { own = l.own.items; kept = l.kept.items; snapped = l.snapped; chosen = chosen }) view sound grammar may' refl
     (λ i. record { changes = l.changes + 1; settings = l.settings; rows = s.rows; issued = l.issued; own = next i; kept = l.kept.items; snapped = l.snapped; chosen = is' i })
     (record { own_ordered = part.own_ordered; names_ordered = part.names_ordered })
 
@@ -157,7 +156,7 @@ forgot_one l v n kept own view sound part may less is =
     let c = Forgot (record { number = n }) in
     let may' : allowed s c ≡ true = ap (λ (w : LedgerView). allowed w.state c) view ∙ may in
     let next : own ≡ given_up s.rows (own_after s c) = is ∙ ap (λ (ks : List Snapshot). given_up s.rows (set_marks (marks ks) l.own.items)) less in
-    makes l v c (record { own = own; kept = kept; snapped = l.snapped; chosen = l.chosen.items }) view sound refl refl may' refl
+    makes l v c (record { own = own; kept = kept; snapped = l.snapped; chosen = l.chosen.items }) view sound refl may' refl
     (λ i. record { changes = l.changes + 1; settings = l.settings; rows = s.rows; issued = l.issued; own = next i; kept = less i; snapped = l.snapped; chosen = l.chosen.items })
     (record { own_ordered = subst (λ (o : List OwnEntry). in_order own_key o ≡ true) (sym is) (ordered_kept (is_kept s.rows) (set_marks (marks kept) l.own.items) (ordered_marks (marks kept) l.own.items ∙ part.own_ordered)); names_ordered = less_ordered l n kept part less })
 

@@ -23,11 +23,11 @@ use Rattle.peer_account.specs.View.{AccountView, let_go_row, put_back_row}
 use Rattle.psb_ledger.specs.View.{HasListRoom}
 use Rattle.peer_lists.specs.Entries.{lacks_all}
 use Rattle.peer_lists.proofs.Trees.{without_none}
-use Rattle.psb_ledger.proofs.Places.{found_here, found_peer, found_account}
+use Rattle.accounts.proofs.Places.{found_here, found_peer, found_account}
 use Rattle.psb_ledger.proofs.OwnStays.{names_more}
-use Rattle.psb_ledger.proofs.Sound.{state_of, view_of, good_of}
+use Rattle.psb_ledger.proofs.Sound.{state_of, view_of, good_of, chunk_unfreed}
 use Rattle.psb_ledger.specs.Moves.{CanLetGo, CanPutBack}
-use Rattle.psb_ledger.proofs.Peers.{IsAt, makes, row_at, within_used, debts_stay}
+use Rattle.psb_ledger.proofs.Peers.{IsAt, makes_in, row_of_peer, within_used, debts_stay}
 
 -- the slots that a record lists can be counted
 pub listed_count : (ns : List ℕ) → numbers_listed ns ≡ true → length ns < 2 ^ 32
@@ -47,7 +47,7 @@ can_let_go l x i u r f room count =
     let vs = l.accounts.items in
     let at = found_here vs x.peer i r f.place f.here in
     let c = change.LetGo x in
-    let q = row_at l c x.peer i r f in
+    let q = row_of_peer l c x.peer i r f in
     let tests_hold = (allows s c f.may).tests in
     let ts = parts (tests s c) tests_hold in
     let good = good_of s f.sound.reached in
@@ -62,7 +62,7 @@ can_let_go l x i u r f room count =
         back = omega (arith, held, count, ap held_units moved, ap back_units moved, ap held_units q, ap back_units q, step.tidy.balanced, (good.rows x.peer).tidy.balanced, step.weighs.debt, none_returned debt_size (row s x.peer).debts);
       };
       enough = omega (arith, held, count, within_used l c x.peer i r f);
-      made = λ w total sums a b. makes l c x.peer i l.issued total r w refl refl (record { settings = refl; own = refl; kept = refl; snapped = refl; chosen = refl }) f a
+      made = λ w total sums a b. makes_in l c x.peer i l.issued total r r w l.accounts.items refl (record { settings = refl; own = refl; kept = refl; snapped = refl; chosen = refl }) f (record { rows = sym (chunk_unfreed s x.peer x.name s.rows f.sound.reached); here = f.here }) a
           (b ∙ sym (row_let_go x.name x.slots x.deal l.changes r.row))
           refl
           (λ y n. names_more y (changed s c y) n (λ k. chunk_stays out_key x.slots y.outs n ∙ k) (debts_stay y.debts) (λ k. k))
@@ -90,7 +90,7 @@ can_put_back l x i r f room =
     let c = change.LetGoBack x in
     let vs = l.accounts.items in
     let at = found_here vs x.peer i r f.place f.here in
-    let q = row_at l c x.peer i r f in
+    let q = row_of_peer l c x.peer i r f in
     let tests_hold = (allows s c f.may).tests in
     let ts = parts (tests s c) tests_hold in
     let good = good_of s f.sound.reached in
@@ -104,7 +104,7 @@ can_put_back l x i r f room =
         absent = ap (λ (y : Row). lacks_all in_key (direct_slots x.slots) y.ins) (sym q) ∙ lacks_direct x.slots (row s x.peer).ins ts.1.1.0;
         same = held;
       };
-      made = λ w n sums a b. makes l c x.peer i l.issued n r w refl refl (record { settings = refl; own = refl; kept = refl; snapped = refl; chosen = refl }) f a
+      made = λ w n sums a b. makes_in l c x.peer i l.issued n r r w l.accounts.items refl (record { settings = refl; own = refl; kept = refl; snapped = refl; chosen = refl }) f (record { rows = sym (chunk_unfreed s x.peer x.name s.rows f.sound.reached); here = f.here }) a
           (b ∙ sym (row_put_back x.name x.slots x.deal l.changes r.row))
           refl
           (λ y n. names_more y (changed s c y) n (λ k. chunk_stays out_key [] y.outs n ∙ k) (debts_stay y.debts) (λ k. k))

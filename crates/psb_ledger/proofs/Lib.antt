@@ -1,10 +1,11 @@
-pub mod Places
 pub mod OwnStays
 pub mod Sound
 pub mod Peers
 pub mod Rooms
+pub mod Leaving
 pub mod Taking
 pub mod Swapping
+pub mod Replacing
 pub mod LettingGo
 pub mod Probing
 pub mod Keeping

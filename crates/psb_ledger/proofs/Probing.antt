@@ -21,7 +21,7 @@ use Rattle.psb_model.proofs.Balance.{declined_distinct}
 use Rattle.psb_model.proofs.Lent.{lent}
 use Rattle.psb_model.proofs.Passing.{releases, noted_lent, row_lends}
 use Rattle.psb_model.proofs.Bare.{changed}
-use Rattle.psb_model.specs.History.{is_built}
+use Rattle.psb_model.proofs.Freed.{frees_none}
 use Rattle.psb_ledger.specs.declared.ledger.Ledger.TheInside.{Inside}
 use Rattle.peer_account.specs.OwnDeals.{row_names}
 use Rattle.peer_account.specs.View.{AccountView, asked_row, passed_row, lost_row, failed_row, declined_row, out_anew}
@@ -31,9 +31,9 @@ use Rattle.peer_lists.specs.Entries.{in_order}
 use Rattle.peer_lists.proofs.Trees.{without_none}
 use Rattle.own_chunks.specs.OwnList.{own_key}
 use Rattle.psb_ledger.specs.Moves.{Makes, CanPass, CanFail, CanDecline}
-use Rattle.psb_ledger.proofs.Places.{found_here, found_peer, found_account}
+use Rattle.accounts.proofs.Places.{found_here, found_peer, found_account}
 use Rattle.psb_ledger.proofs.Sound.{state_of, view_of, good_of}
-use Rattle.psb_ledger.proofs.Peers.{IsAt, IsOfRows, makes_own, released_at, row_at, within_used, sound_small, debts_stay, kept_all}
+use Rattle.psb_ledger.proofs.Peers.{IsAt, IsOfRows, unfreed, makes_own, released_at, row_of_peer, within_used, sound_small, debts_stay, kept_all}
 
 -- ---- what such a change leaves
 
@@ -47,10 +47,10 @@ or_less false false c a' b' f h = rw h (last (a' || b'))
     last false = refl
 
 -- a change of a peer that moves nothing of what is answered for, and whose row still names what it named
-pub makes_lent : (l : Inside) (c : Change) (p i total : ℕ) (r w : AccountView) → is_built c ≡ true → peer_of c ≡ Some p → IsOfRows (state_of l) c → IsAt l c p i r → in_order own_key l.own.items ≡ true → releases (state_of l) c ≡ false → (changed (state_of l) c r.row).pending ≡ r.row.pending → held_units w.row ≡ held_units r.row → l.issued ≡ issued_after (state_of l) c → total ≡ used (state_of l) → w.id ≡ r.id → w.row ≡ changed (state_of l) c r.row → Makes (view_of l) c i l.issued total w
-makes_lent l c p i total r w built peer beside f ordered stays pending held drawn sums same row_is =
+pub makes_lent : (l : Inside) (c : Change) (p i total : ℕ) (r w : AccountView) → frees_none c ≡ true → peer_of c ≡ Some p → IsOfRows (state_of l) c → IsAt l c p i r → in_order own_key l.own.items ≡ true → releases (state_of l) c ≡ false → (changed (state_of l) c r.row).pending ≡ r.row.pending → held_units w.row ≡ held_units r.row → l.issued ≡ issued_after (state_of l) c → total ≡ used (state_of l) → w.id ≡ r.id → w.row ≡ changed (state_of l) c r.row → Makes (view_of l) l.accounts.items c i l.issued total w
+makes_lent l c p i total r w none peer beside f ordered stays pending held drawn sums same row_is =
     let s = state_of l in
-    let q = row_at l c p i r f in
+    let q = row_of_peer l c p i r f in
     let deals : w.row.pending ≡ r.row.pending = ap (λ (y : Row). y.pending) row_is ∙ pending in
     let names : (n : List ℕ) → row_names r.row n ≡ true → row_names (changed s c r.row) n ≡ true = λ n h.
     let lends : lent r.row (Chunk n) ≡ true → lent (changed s c r.row) (Chunk n) ≡ true =
@@ -59,16 +59,16 @@ makes_lent l c p i total r w built peer beside f ordered stays pending held draw
     ap (λ o. has out_key (changed s c r.row).outs (Chunk n) || has debt_key (changed s c r.row).debts (Chunk n) || name_listed (pending_name deal_name o) n) pending
     ∙ or_less (has out_key r.row.outs (Chunk n)) (has debt_key r.row.debts (Chunk n)) (name_listed (pending_name deal_name r.row.pending) n) (has out_key (changed s c r.row).outs (Chunk n)) (has debt_key (changed s c r.row).debts (Chunk n)) lends h
     in
-    makes_own l c p i l.issued total r w l.own.items built peer beside f same row_is drawn
+    makes_own l c p i l.issued total r r w l.accounts.items l.own.items peer beside f (unfreed l c i p r none f) same row_is drawn
     (omega (arith, sums, held, ap (λ o. coming s o) deals))
-    (released_at l c p i r w None f same row_is ordered (λ n k h. names n h))
+    (released_at l c p i r r w l.accounts.items None f (unfreed l c i p r none f) same row_is ordered (λ n k h. names n h))
 
 -- ---- asking
 
 row_asked : (change : ℕ) (objects : List Object) (r : Row) → record (after_move still r) { asked = Some (change, objects) } ≡ asked_row change objects r
 row_asked change objects r = λ i. asked_row change objects (record r { ins = without_none in_key r.ins i; outs = without_none out_key r.outs i; debts = debts_stay r.debts i })
 
-pub may_ask : (l : Inside) (x : Asked) (i : ℕ) (r : AccountView) → IsAt l (change.Asked x) x.peer i r → in_order own_key l.own.items ≡ true → (w : AccountView) (n : ℕ) → n ≡ used (state_of l) → w.id ≡ r.id → w.row ≡ asked_row l.changes x.objects r.row → Makes (view_of l) (change.Asked x) i l.issued n w
+pub may_ask : (l : Inside) (x : Asked) (i : ℕ) (r : AccountView) → IsAt l (change.Asked x) x.peer i r → in_order own_key l.own.items ≡ true → (w : AccountView) (n : ℕ) → n ≡ used (state_of l) → w.id ≡ r.id → w.row ≡ asked_row l.changes x.objects r.row → Makes (view_of l) l.accounts.items (change.Asked x) i l.issued n w
 may_ask l x i r f ordered w n sums a b =
     makes_lent l (change.Asked x) x.peer i n r w refl refl (record { settings = refl; own = refl; kept = refl; snapped = refl; chosen = refl }) f ordered refl refl (ap held_units b) refl sums a (b ∙ sym (row_asked l.changes x.objects r.row))
 
@@ -86,7 +86,7 @@ passed_pending asked objects r y = by_cases (asked == 0) (λ k. rw k refl) (λ k
 -- what stands there and what is owed is less than four bytes count
 small_row : (l : Inside) (c : Change) (p i : ℕ) (r : AccountView) → IsAt l c p i r → back_units r.row + debt_units r.row < 2 ^ 32
 small_row l c p i r f =
-    let q = row_at l c p i r f in
+    let q = row_of_peer l c p i r f in
     let tidy = ((good_of (state_of l) f.sound.reached).rows p).tidy in
     omega (arith, ap held_units q, ap back_units q, ap debt_units q, tidy.balanced, within_used l c p i r f, sound_small l.used (state_of l) f.sound, f.sound.used_is)
 
@@ -96,7 +96,7 @@ can_pass l x i r f ordered room =
     let c = change.Passed x in
     let vs = l.accounts.items in
     let at = found_here vs x.peer i r f.place f.here in
-    let q = row_at l c x.peer i r f in
+    let q = row_of_peer l c x.peer i r f in
     let good = good_of s f.sound.reached in
     let moved : changed s c r.row ≡ passed_row x.asked x.objects r.row =
     subst (λ (y : Row). was_passed x.asked (after_move (regains x.objects (row s x.peer)) y) ≡ passed_row x.asked x.objects y) q (row_passed x.asked x.objects (row s x.peer))
@@ -123,7 +123,7 @@ can_fail l x i r f ordered room =
     let c = change.Failed x in
     let vs = l.accounts.items in
     let at = found_here vs x.peer i r f.place f.here in
-    let q = row_at l c x.peer i r f in
+    let q = row_of_peer l c x.peer i r f in
     let moved : changed s c r.row ≡ failed_row l.changes x.asked x.objects r.row =
     subst (λ (y : Row). was_failed x.asked (after_move (loses l.changes false x.objects (row s x.peer)) y) ≡ failed_row l.changes x.asked x.objects y) q (ap (was_failed x.asked) (row_lost l.changes false x.objects (row s x.peer)))
     in
@@ -160,7 +160,7 @@ can_decline l x i r f ordered room =
     let c = change.Declined x in
     let vs = l.accounts.items in
     let at = found_here vs x.peer i r f.place f.here in
-    let q = row_at l c x.peer i r f in
+    let q = row_of_peer l c x.peer i r f in
     let good = good_of s f.sound.reached in
     let moved : changed s c r.row ≡ declined_row l.changes x.asked x.places r.row =
     subst (λ (y : Row). failed_again (after_move (loses l.changes true (objects_at (row s x.peer) x.asked x.places) (row s x.peer)) y) ≡ declined_row l.changes x.asked x.places y) q (ap failed_again (row_lost l.changes true (objects_at (row s x.peer) x.asked x.places) (row s x.peer)))

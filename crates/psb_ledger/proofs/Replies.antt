@@ -1,5 +1,5 @@
 -- An own deal that is proposed, and its reply: what the account needs, and what is left.
-use Rattle.std.proofs.Common.{◌≡◌, ℕ, zero, suc, ◌+◌, ◌*◌, ◌≤◌, ◌<◌, ◌^◌, Bool, true, false, not, ◌&&◌, List, [], ◌∷◌, length, Option, Some, None, refl, sym, ap, ◌∙◌, subst, arith}
+use Rattle.std.proofs.Common.{◌≡◌, ℕ, zero, suc, ◌+◌, ◌*◌, ◌≤◌, ◌<◌, ◌^◌, Bool, true, false, not, ◌&&◌, List, [], ◌∷◌, map, length, get_or, Option, Some, None, refl, sym, ap, ◌∙◌, subst, arith}
 use Rattle.std.specs.Prelude.{◌==◌, option_to_list, is_none}
 use Rattle.std.proofs.lemmas.Bool.{and_parts, eqb-true, leb-true, false≢true}
 use Rattle.psb_bytes.specs.declared.ids.Object.TheVariants.{Chunk, Slot}
@@ -9,20 +9,21 @@ use Rattle.psb_model.specs.declared.deals.Deal.{Deal}
 use Rattle.psb_model.specs.declared.deals.DealWhat.{DealWhat}
 use Rattle.psb_model.specs.declared.deals.DealWhat.TheVariants.{Fresh, Swap, Cancel, PutBack, Forward, Return}
 use Rattle.psb_model.specs.declared.change.Change.TheVariants.{Proposed}
-use Rattle.psb_model.specs.Words.{units, name_eq, name_listed, listed, slots, has, without, occurs, all_of, units_at}
+use Rattle.psb_model.specs.Words.{units, name_eq, name_listed, listed, slots, has, only, without, occurs, all_of, units_at}
 use Rattle.psb_model.specs.State.{Row, State, row, in_key, in_size, out_key, out_size, own_len, own_marked, coming, held_units, used}
 use Rattle.psb_model.specs.Grammar.{ascend, body_fits, numbers_listed, is_count}
 use Rattle.psb_model.specs.Conditions.{tests, capacity, propose_tests, each_slot, most_claims, may_settle_row}
 use Rattle.psb_model.specs.Move.{still, after_move}
-use Rattle.psb_model.specs.Effects.{is_named, chunk_out, settle_move, own_slots, deal_name, pending_name, was_turned, issued_after}
-use Rattle.psb_model.specs.History.{is_built_deal}
+use Rattle.psb_model.specs.Effects.{is_named, chunk_out, loosen, settle_states, settle_move, own_slots, deal_name, pending_name, was_turned, issued_after}
 use Rattle.psb_model.proofs.ByObject.{has-occurs, by_cases}
 use Rattle.psb_model.proofs.Held.{chunk_stays, has_less}
 use Rattle.psb_model.proofs.Own.{name_same, name_refl}
 use Rattle.psb_model.proofs.Parts.{ascend-distinct, sum-own_slots}
 use Rattle.psb_model.proofs.Steps.{parts, Before}
 use Rattle.psb_model.proofs.Tidy.{IsTidy, weighs, total}
-use Rattle.psb_model.proofs.Standing.{StandsFor, settle_swap_move, settle_cancel_move, settle_put_back_move, units_of_ones}
+use Rattle.psb_model.proofs.Rows.{Alike, tidy_alike, stands_alike}
+use Rattle.psb_model.proofs.Freed.{only_none}
+use Rattle.psb_model.proofs.Standing.{StandsFor, CancelStands, settle_swap_move, settle_cancel_move, settle_put_back_move, units_of_ones}
 use Rattle.psb_model.proofs.Steady.{allows, row_use}
 use Rattle.psb_model.proofs.Bare.{changed}
 use Rattle.psb_model.specs.declared.change.Change.TheVariants as change
@@ -30,19 +31,23 @@ use Rattle.psb_model.specs.declared.kinds.Settled.{Settled}
 use Rattle.psb_model.specs.declared.kinds.Turned.{Turned}
 use Rattle.psb_ledger.specs.declared.ledger.Ledger.TheInside.{Inside}
 use Rattle.own_deals.specs.OwnDeals.{ins_of, outs_of}
-use Rattle.peer_account.specs.View.{AccountView, settled_deal, settled_by, settled_row, ins_settled, outs_settled}
-use Rattle.psb_ledger.specs.View.{account_in, HasListRoom, HasTurnRoom}
+use Rattle.accounts.specs.Freeing.{row_at, StatesSet}
+use Rattle.peer_account.specs.View.{AccountView, named_row, settled_deal, settled_by, settled_row, ins_settled, outs_settled}
+use Rattle.psb_ledger.specs.View.{HasListRoom, HasTurnRoom}
+use Rattle.accounts.specs.Table.{account_in}
 use Rattle.peer_lists.specs.Entries.{in_order, lacks_all}
 use Rattle.own_chunks.specs.OwnList.{own_key, released, own_units}
 use Rattle.peer_account.specs.OwnDeals.{row_names, placed_name, coming_name, drawn}
-use Rattle.peer_account.specs.Settling.{SettlesDeal, Settles}
+use Rattle.peer_account.specs.Settling.{SettlesFresh, SettlesSwap, SettlesPutBack, SettlesDeal, Settles}
 use Rattle.peer_lists.proofs.Trees.{without_none}
 use Rattle.own_chunks.proofs.OwnTrees.{ordered_kept}
 use Rattle.psb_ledger.proofs.OwnStays.{is_but, names_more, has_with_all}
-use Rattle.psb_ledger.proofs.Places.{found_here, found_peer, found_account}
+use Rattle.accounts.proofs.Places.{Found, found_here, found_peer, found_account}
+use Rattle.accounts.proofs.Loosened.{found_row_at}
 use Rattle.psb_ledger.proofs.Sound.{state_of, view_of, good_of}
-use Rattle.psb_ledger.specs.Moves.{proposing, CanPropose, CanSettle, CanTurn}
-use Rattle.psb_ledger.proofs.Peers.{IsAt, makes_own, released_at, sound_small, row_at, use_of, debts_stay}
+use Rattle.psb_ledger.specs.Moves.{StandsIn, proposing, CanPropose, CanSettle, CanTurn}
+use Rattle.psb_ledger.proofs.Peers.{IsAt, IsFreed, unfreed, makes_own, released_at, sound_small, row_of_peer, use_of, debts_stay}
+use Rattle.psb_ledger.proofs.Leaving.{freed_alike, room_here}
 use Rattle.psb_ledger.proofs.LettingGo.{lacks_direct}
 
 -- WHAT A DEAL NAMES
@@ -100,9 +105,9 @@ can_turn l x i r f ordered room =
       made = λ w o total own is sums own_is a b.
           let b' : w.row ≡ changed s c r.row = b ∙ sym (row_turned l.changes x.why r.row) in
           let names : (n : List ℕ) → is_but o n ≡ false → row_names r.row n ≡ true → row_names (changed s c r.row) n ≡ true = λ n other h. names_more r.row (changed s c r.row) n (λ k. chunk_stays out_key [] r.row.outs n ∙ k) (debts_stay r.row.debts) (λ k. absurd (other_deal o (pending_name deal_name r.row.pending) n is other k)) h in
-          makes_own l c x.peer i l.issued total r w own refl refl (record { settings = refl; own = refl; kept = refl; snapped = refl; chosen = refl }) f a b' refl
+          makes_own l c x.peer i l.issued total r r w l.accounts.items own refl (record { settings = refl; own = refl; kept = refl; snapped = refl; chosen = refl }) f (unfreed l c i x.peer r refl f) a b' refl
           (omega (arith, sums, coming_is s r.row.pending, ap (row_use s) b))
-          (own_is ∙ released_at l c x.peer i r w o f a b' ordered names);
+          (own_is ∙ released_at l c x.peer i r r w l.accounts.items o f (unfreed l c i x.peer r refl f) a b' ordered names);
     }
 
 -- A DEAL THAT IS SETTLED
@@ -208,62 +213,112 @@ settled_names r r' o (Some d) u ns e is named n other h = ap (λ y. row_names y 
     by_what (Forward slot entry) named e = names_more r (record r { pending = None }) n (λ k. k) refl (λ k. absurd (not_named (Forward slot entry) named e k)) h
     by_what (Return slot) named e = names_more r (record r { pending = None }) n (λ k. k) refl (λ k. absurd (not_named (Return slot) named e k)) h
 
-pub can_settle : (l : Inside) (x : Settled) (i u : ℕ) (r : AccountView) → IsAt l (change.Settled x) x.peer i r → in_order own_key l.own.items ≡ true → HasListRoom (view_of l) x.peer (length x.slots + ins_settled (row (state_of l) x.peer).pending) (outs_settled (row (state_of l) x.peer).pending) → l.issued < 2 ^ 32 → u ≡ own_units l.own.items (placed_name r.row.pending) → CanSettle (view_of l) x i u r
-can_settle l x i u r f ordered room small uis =
+-- the move looks at what is there by objects and units alone
+move_alike : (s : State) (r r' : Row) (o : Option Deal) (ns : List ℕ) → Alike r r' → settle_move s r o ns ≡ settle_move s r' o ns
+move_alike s r r' None ns a = refl
+move_alike s r r' (Some d) ns a = by_what d.what
+  where
+    by_what : (w : DealWhat) → settle_move s r (Some (record { number = d.number; what = w })) ns ≡ settle_move s r' (Some (record { number = d.number; what = w })) ns
+    by_what (Fresh name) = refl
+    by_what (Swap name mine) = refl
+    by_what (Cancel name theirs) = refl
+    by_what (PutBack name first) = ap (λ n. settle_put_back_move name first n) (sym (a.sizes (Chunk name)))
+    by_what (Forward slot entry) = refl
+    by_what (Return slot) = refl
+
+-- the accounts in which the deal has set its states are those of the definition
+states_are : (s : State) (vs ws : List AccountView) (p i : ℕ) (r : Row) (o : Option Deal) (ns : List ℕ) → (row_at vs i).ins ≡ r.ins → s.rows ≡ map named_row vs → StatesSet vs p i o ws → map named_row ws ≡ loosen (only in_key (settle_move s r o ns).in_gone r.ins) (settle_states p o s.rows)
+states_are s vs ws p i r None ns ins rows set = ap (map named_row) set ∙ sym rows ∙ sym (ap (λ es. loosen es s.rows) (only_none in_key r.ins))
+states_are s vs ws p i r (Some d) ns ins rows set = by_what d.what set
+  where
+    by_what : (w : DealWhat) → StatesSet vs p i (Some (record { number = d.number; what = w })) ws → map named_row ws ≡ loosen (only in_key (settle_move s r (Some (record { number = d.number; what = w })) ns).in_gone r.ins) (settle_states p (Some (record { number = d.number; what = w })) s.rows)
+    by_what (Fresh name) k = ap (map named_row) k ∙ sym rows ∙ sym (ap (λ es. loosen es s.rows) (only_none in_key r.ins))
+    by_what (Swap name mine) k = ap (map named_row) k ∙ sym rows ∙ sym (ap (λ es. loosen es s.rows) (only_none in_key r.ins))
+    by_what (Cancel name theirs) k = k.rows ∙ ap (λ es. loosen (only in_key (slots theirs) es) (map named_row vs)) ins ∙ ap (loosen (only in_key (slots theirs) r.ins)) (sym rows)
+    by_what (PutBack name first) k = ap (map named_row) k ∙ sym rows ∙ sym (ap (λ es. loosen es s.rows) (only_none in_key r.ins))
+    by_what (Forward slot entry) k = k ∙ ap (settle_states p (Some (record { number = d.number; what = Forward slot entry }))) (sym rows) ∙ sym (ap (λ es. loosen es (settle_states p (Some (record { number = d.number; what = Forward slot entry })) s.rows)) (only_none in_key r.ins))
+    by_what (Return slot) k = k ∙ ap (settle_states p (Some (record { number = d.number; what = Return slot }))) (sym rows) ∙ sym (ap (λ es. loosen es (settle_states p (Some (record { number = d.number; what = Return slot })) s.rows)) (only_none in_key r.ins))
+
+-- the account is the one that stood there, but for a deal that sets states; and for a Cancel it has its room
+same_account : (vs : List AccountView) (p i : ℕ) (r q : AccountView) → Found vs p i r → StandsIn vs i q → r ≡ q
+same_account [] p i r q f at = absurd f
+same_account (v ∷ vs) p zero r q f at = sym f.1 ∙ sym at
+same_account (v ∷ vs) p (suc i) r q f at = same_account vs p i r q f.1 at
+
+-- what the account needs, once the deal has set its states
+settles_now : (issued : ℕ) (own : List OwnEntry) (vs ws : List AccountView) (p i : ℕ) (r q : AccountView) (o : Option Deal) (u : ℕ) (ns : List ℕ) → StatesSet vs p i o ws → Found vs p i r → StandsIn ws i q → Alike r.row q.row
+    → Settles r u ns o → (length ns + ins_settled o ≤ r.in_room) → IsTidy issued r.row → ((d : Deal) → o ≡ Some d → StandsFor issued own r.row d.what) → Settles q u ns o
+settles_now issued own vs ws p i r q None u ns set f at alike was room tidy stands = tt
+settles_now issued own vs ws p i r q (Some d) u ns set f at alike was room tidy stands = by_what d.what set was room (stands d refl)
+  where
+    by_what : (w : DealWhat) → StatesSet vs p i (Some (record { number = d.number; what = w })) ws → SettlesDeal r u ns w → length ns + ins_of w ≤ r.in_room → StandsFor issued own r.row w → SettlesDeal q u ns w
+    by_what (Fresh name) k needs le st = subst (λ (v : AccountView). SettlesFresh v u ns name) (same_account vs p i r q f (at ∙ ap (λ l. get_or l i q) k)) needs
+    by_what (Swap name mine) k needs le st = subst (λ (v : AccountView). SettlesSwap v u name mine) (same_account vs p i r q f (at ∙ ap (λ l. get_or l i q) k)) needs
+    by_what (Cancel name theirs) k needs le st =
+        let stands_now : CancelStands q.row name theirs = stands_alike issued own r.row q.row (Cancel name theirs) alike st in
+        let tidy_now : IsTidy issued q.row = tidy_alike issued r.row q.row alike tidy in
+        let w = weighs q.row (settle_cancel_move name theirs) (ascend-distinct theirs stands_now.ascends) refl (omega arith) in
+        record {
+          in_room = omega (arith, le, room_here vs ws p i r q f at k.rooms);
+          held = omega (arith, w.held, units_of_ones in_key in_size q.row.ins theirs tidy_now.ins_ones stands_now.here);
+          back = omega (arith, w.back, stands_now.long);
+        }
+    by_what (PutBack name first) k needs le st = subst (λ (v : AccountView). SettlesPutBack v name first (units_at out_key out_size v.row.outs (Chunk name))) (same_account vs p i r q f (at ∙ ap (λ l. get_or l i q) k)) needs
+    by_what (Forward slot entry) k needs le st = tt
+    by_what (Return slot) k needs le st = tt
+
+pub can_settle : (l : Inside) (x : Settled) (i u : ℕ) (r q : AccountView) (vs : List AccountView) → IsAt l (change.Settled x) x.peer i r → StatesSet l.accounts.items x.peer i (row_at l.accounts.items i).pending vs → StandsIn vs i q → in_order own_key l.own.items ≡ true → HasListRoom (view_of l) x.peer (length x.slots + ins_settled (row (state_of l) x.peer).pending) (outs_settled (row (state_of l) x.peer).pending) → l.issued < 2 ^ 32 → u ≡ own_units l.own.items (placed_name q.row.pending) → CanSettle (view_of l) vs x i u q
+can_settle l x i u r q vs f set here ordered room small uis' =
     let s = state_of l in
     let c = change.Settled x in
-    let vs = l.accounts.items in
-    let at = found_here vs x.peer i r f.place f.here in
-    let peer = found_peer vs x.peer i r at in
-    let account = found_account vs x.peer i r at in
-    let q : row s x.peer ≡ r.row = row_at l c x.peer i r f in
+    let us = l.accounts.items in
+    let at = found_here us x.peer i r f.place f.here in
+    let peer = found_peer us x.peer i r at in
+    let account = found_account us x.peer i r at in
+    let was : row s x.peer ≡ r.row = row_of_peer l c x.peer i r f in
+    let row_there : row_at us i ≡ row s x.peer = sym (found_row_at us x.peer i r at) ∙ sym was in
+    let set' : StatesSet us x.peer i (row s x.peer).pending vs = subst (λ (y : Row). StatesSet us x.peer i y.pending vs) row_there set in
+    let fr : IsFreed l c vs i q = record { rows = states_are s us vs x.peer i (row s x.peer) (row s x.peer).pending x.slots (ap (λ (y : Row). y.ins) row_there) refl set'; here = here } in
+    let alike : Alike (row s x.peer) q.row = freed_alike l c x.peer i r q vs f fr in
+    let uis : u ≡ own_units l.own.items (placed_name r.row.pending) = uis' ∙ ap (λ o. own_units l.own.items (placed_name o)) (alike.pending ∙ ap (λ (y : Row). y.pending) was) in
     let ts = parts (tests s c) (allows s c f.may).tests in
     let asc : ascend x.slots ≡ true = (and_parts (ascend x.slots) (is_count (length x.slots)) (and_parts (body_fits (512 * length x.slots) x.body) (numbers_listed x.slots) f.grammar).1).0 in
     let before : held_units r.row + own_units l.own.items (coming_name r.row.pending) ≤ used s = omega (arith, use_of l c x.peer i r f, coming_is s r.row.pending) in
     let used_small : used s < 2 ^ 32 = omega (arith, f.sound.used_is, sound_small l.used s f.sound) in
-    let ins : length x.slots + ins_settled r.row.pending ≤ r.in_room = subst (λ (y : AccountView). length x.slots + ins_settled r.row.pending ≤ y.in_room) account (subst (λ (y : Row). length x.slots + ins_settled y.pending ≤ (account_in vs x.peer).in_room) q (room.in_room peer)) in
-    let outs : outs_settled r.row.pending ≤ r.out_room = subst (λ (y : AccountView). outs_settled r.row.pending ≤ y.out_room) account (subst (λ (y : Row). outs_settled y.pending ≤ (account_in vs x.peer).out_room) q (room.out_room peer)) in
+    let ins : length x.slots + ins_settled r.row.pending ≤ r.in_room = subst (λ (y : AccountView). length x.slots + ins_settled r.row.pending ≤ y.in_room) account (subst (λ (y : Row). length x.slots + ins_settled y.pending ≤ (account_in us x.peer).in_room) was (room.in_room peer)) in
+    let outs : outs_settled r.row.pending ≤ r.out_room = subst (λ (y : AccountView). outs_settled r.row.pending ≤ y.out_room) account (subst (λ (y : Row). outs_settled y.pending ≤ (account_in us x.peer).out_room) was (room.out_room peer)) in
     let b : Before s x.peer = (good_of s f.sound.reached).rows x.peer in
-    let tidy : IsTidy l.issued r.row = subst (IsTidy l.issued) q b.tidy in
-    let may : may_settle_row (own_units s.own (coming_name r.row.pending)) r.row r.row.pending x.slots ≡ true = ap (λ n. may_settle_row n r.row r.row.pending x.slots) (sym (coming_is s r.row.pending)) ∙ ap (λ (y : Row). may_settle_row (coming s y.pending) y y.pending x.slots) (sym q) ∙ ts.1.0 in
+    let tidy : IsTidy l.issued r.row = subst (IsTidy l.issued) was b.tidy in
+    let may : may_settle_row (own_units s.own (coming_name r.row.pending)) r.row r.row.pending x.slots ≡ true = ap (λ n. may_settle_row n r.row r.row.pending x.slots) (sym (coming_is s r.row.pending)) ∙ ap (λ (y : Row). may_settle_row (coming s y.pending) y y.pending x.slots) (sym was) ∙ ts.1.0 in
+    let was_settling : Settles r u x.slots r.row.pending = needs_of s r u x.slots r.row.pending refl was b tidy may asc ins outs uis (omega (arith, before, used_small)) small in
+    let pending_now : r.row.pending ≡ q.row.pending = ap (λ (y : Row). y.pending) (sym was) ∙ sym alike.pending in
     record {
-      needs = needs_of s r u x.slots r.row.pending refl q b tidy may asc ins outs uis (omega (arith, before, used_small)) small;
-      before = before;
+      needs = subst (Settles q u x.slots) pending_now
+          (settles_now l.issued l.own.items us vs x.peer i r q r.row.pending u x.slots (subst (λ (y : Row). StatesSet us x.peer i y.pending vs) was set') at here (subst (λ (y : Row). Alike y q.row) was alike)
+          was_settling ins tidy (λ d e. subst (λ (y : Row). StandsFor l.issued l.own.items y d.what) was (b.stands d (ap (λ (y : Row). y.pending) was ∙ e))));
+      before = omega (arith, before, alike.held, ap held_units was, ap (λ o. own_units l.own.items (coming_name o)) pending_now);
       small = used_small;
       made = λ w o total own is sums own_is a e.
-          let row_is : changed s c r.row ≡ settled_row u x.slots r.row = ap (λ (y : Row). record (after_move (settle_move s y y.pending x.slots) r.row) { pending = None }) q ∙ row_settled s r.row r.row.pending u x.slots uis in
-          let e' : w.row ≡ changed s c r.row = e ∙ sym row_is in
-          makes_own l c x.peer i l.issued total r w own refl refl (record { settings = refl; own = refl; kept = refl; snapped = refl; chosen = refl }) f a e' refl
-          (omega (arith, sums, coming_is s r.row.pending, settled_use s w.row (ap (λ (y : Row). y.pending) e')))
-          (own_is ∙ released_at l c x.peer i r w o f a e' ordered (settled_names r.row (changed s c r.row) o r.row.pending u x.slots refl row_is is));
+          let row_is : changed s c q.row ≡ settled_row u x.slots q.row =
+          ap (λ m. record (after_move m q.row) { pending = None }) (move_alike s (row s x.peer) q.row (row s x.peer).pending x.slots alike)
+          ∙ ap (λ d. record (after_move (settle_move s q.row d x.slots) q.row) { pending = None }) (sym alike.pending)
+          ∙ row_settled s q.row q.row.pending u x.slots uis' in
+          let e' : w.row ≡ changed s c q.row = e ∙ sym row_is in
+          makes_own l c x.peer i l.issued total r q w vs own refl (record { settings = refl; own = refl; kept = refl; snapped = refl; chosen = refl }) f fr a e' refl
+          (omega (arith, sums, coming_is s q.row.pending, settled_use s w.row (ap (λ (y : Row). y.pending) e')))
+          (own_is ∙ released_at l c x.peer i r q w vs o f fr a e' ordered (settled_names q.row (changed s c q.row) o q.row.pending u x.slots refl row_is is));
     }
   where
     settled_use : (s : State) (y : Row) → y.pending ≡ None → row_use s y ≡ held_units y
     settled_use s y h = omega (arith, ap (coming s) h)
 
     needs_of : (s : State) (r : AccountView) (u : ℕ) (ns : List ℕ) (o : Option Deal) → r.row.pending ≡ o → row s x.peer ≡ r.row → Before s x.peer → IsTidy s.issued r.row → may_settle_row (own_units s.own (coming_name o)) r.row o ns ≡ true → ascend ns ≡ true → length ns + ins_settled o ≤ r.in_room → outs_settled o ≤ r.out_room → u ≡ own_units s.own (placed_name o) → held_units r.row + own_units s.own (coming_name o) < 2 ^ 32 → s.issued < 2 ^ 32 → Settles r u ns o
-    needs_of s r u ns None e q b tidy may asc ins outs uis fits small = tt
-    needs_of s r u ns (Some d) e q b tidy may asc ins outs uis fits small =
-        let stands : StandsFor s.issued s.own r.row d.what = subst (λ (y : Row). StandsFor s.issued s.own y d.what) q (b.stands d (ap (λ (y : Row). y.pending) q ∙ e)) in
+    needs_of s r u ns None e was b tidy may asc ins outs uis fits small = tt
+    needs_of s r u ns (Some d) e was b tidy may asc ins outs uis fits small =
+        let stands : StandsFor s.issued s.own r.row d.what = subst (λ (y : Row). StandsFor s.issued s.own y d.what) was (b.stands d (ap (λ (y : Row). y.pending) was ∙ e)) in
         settles_deal s.issued s.own r d u ns tidy stands may asc ins outs uis fits small
 
 -- A DEAL THAT IS PROPOSED
-
-pub and_false : (b : Bool) → (b && false) ≡ false
-and_false true = refl
-and_false false = refl
-
--- the condition, with what is asked of the row in front
-pub proposal_tests : (s : State) (p : ℕ) (d : Deal) (r : Row) → row s p ≡ r → (is_built_deal d.what && all_of (tests s (proposing p d))) ≡ (((d.number == r.mine + 1) && is_none r.pending) && (is_built_deal d.what && all_of (propose_tests s p d.what)))
-proposal_tests s p d r q =
-    group (is_built_deal d.what) (d.number == (row s p).mine + 1) (is_none (row s p).pending) (all_of (propose_tests s p d.what))
-    ∙ (λ i. ((d.number == (q i).mine + 1) && is_none (q i).pending) && (is_built_deal d.what && all_of (propose_tests s p d.what)))
-  where
-    group : (t a b c : Bool) → (t && (a && (b && (c && true)))) ≡ ((a && b) && (t && c))
-    group true true true c = and_true c
-    group true true false c = refl
-    group true false b c = refl
-    group false a b c = sym (and_false (a && b))
 
 row_proposed : (d : Deal) (r : Row) → record (after_move still r) { pending = Some d; mine = d.number } ≡ record r { pending = Some d; mine = d.number }
 row_proposed d r = λ i. record r { ins = without_none in_key r.ins i; outs = without_none out_key r.outs i; debts = debts_stay r.debts i; pending = Some d; mine = d.number }
@@ -304,11 +359,11 @@ no_deal : (o : Option Deal) → is_none o ≡ true → o ≡ None
 no_deal None h = refl
 no_deal (Some d) h = absurd (false≢true h)
 
-pub can_propose : (l : Inside) (p : ℕ) (d : Deal) (i : ℕ) (r : AccountView) → IsAt l (proposing p d) p i r → is_built_deal d.what ≡ true → in_order own_key l.own.items ≡ true → l.issued < 2 ^ 32 → CanPropose (view_of l) p d i r
-can_propose l p d i r f built ordered small =
+pub can_propose : (l : Inside) (p : ℕ) (d : Deal) (i : ℕ) (r : AccountView) → IsAt l (proposing p d) p i r → in_order own_key l.own.items ≡ true → l.issued < 2 ^ 32 → CanPropose (view_of l) p d i r
+can_propose l p d i r f ordered small =
     let s = state_of l in
     let c = proposing p d in
-    let q : row s p ≡ r.row = row_at l c p i r f in
+    let q : row s p ≡ r.row = row_of_peer l c p i r f in
     let ts = parts (tests s c) (allows s c f.may).tests in
     let none : r.row.pending ≡ None = ap (λ (y : Row). y.pending) (sym q) ∙ no_deal (row s p).pending ts.1.0 in
     record {
@@ -317,8 +372,8 @@ can_propose l p d i r f built ordered small =
       made = λ w n m sums issued a b.
           let b' : w.row ≡ changed s c r.row = b ∙ sym (row_proposed d r.row) in
           let names : (n : List ℕ) → is_but None n ≡ false → row_names r.row n ≡ true → row_names (changed s c r.row) n ≡ true = λ n other h. names_more r.row (changed s c r.row) n (λ k. chunk_stays out_key [] r.row.outs n ∙ k) (debts_stay r.row.debts) (λ k. absurd (false≢true (ap (λ o. name_listed (pending_name deal_name o) n) (sym none) ∙ k))) h in
-          makes_own l c p i m n r w l.own.items built refl (record { settings = refl; own = refl; kept = refl; snapped = refl; chosen = refl }) f a b'
+          makes_own l c p i m n r r w l.accounts.items l.own.items refl (record { settings = refl; own = refl; kept = refl; snapped = refl; chosen = refl }) f (unfreed l c i p r refl f) a b'
           (omega (arith, issued, drawn_is s p d, ap (λ (y : Row). drawn y d.what) q))
           (omega (arith, sums, coming_is s (Some d), ap (coming s) none, ap (row_use s) b))
-          (released_at l c p i r w None f a b' ordered names);
+          (released_at l c p i r r w l.accounts.items None f (unfreed l c i p r refl f) a b' ordered names);
     }

@@ -8,21 +8,23 @@ use Rattle.psb_settings.specs.Settings.{settings_of}
 use Rattle.psb_settings.proofs.Ranges.{settings_of-are}
 use Rattle.psb_model.specs.declared.change.Change.{Change}
 use Rattle.psb_model.specs.declared.change.Change.TheVariants.{Begun}
-use Rattle.psb_model.specs.State.{Row, State, at_row, held_units, coming}
+use Rattle.psb_bytes.specs.declared.ids.Object.TheVariants.{Chunk}
+use Rattle.psb_model.specs.Words.{only}
+use Rattle.psb_model.specs.State.{Row, State, row, at_row, in_key, held_units, coming}
 use Rattle.psb_model.specs.Grammar.{in_grammar}
 use Rattle.psb_model.specs.Conditions.{capacity, allowed, tests, settings_of_body}
-use Rattle.psb_model.specs.Effects.{after, blank_rows, first_rows, given_up}
+use Rattle.psb_model.specs.Effects.{after, loosen, blank_rows, first_rows, given_up}
 use Rattle.psb_model.proofs.Balance.{Good, good_state}
-use Rattle.psb_model.proofs.Prefixes.{state_snoc, lawful_snoc, all_snoc, changes_counted}
+use Rattle.psb_model.proofs.Prefixes.{state_snoc, lawful_snoc, changes_counted}
 use Rattle.psb_model.proofs.Steps.{parts}
 use Rattle.psb_model.proofs.Steady.{IsSteady, steady_state, allows}
-use Rattle.psb_model.proofs.Built.{IsPlain, plain_state as plain_history}
-use Rattle.psb_model.specs.History.{state, is_built}
+use Rattle.psb_model.proofs.Freed.{chunk_frees_none}
+use Rattle.psb_model.specs.History.{state}
 use Rattle.psb_model.proofs.ByObject.{by_cases}
 use Rattle.psb_ledger.specs.declared.ledger.Ledger.TheInside.{Inside}
 use Rattle.psb_ledger.specs.View.{mine_of, LedgerView, Mine, plain_state, IsReached, IsSound}
 use Rattle.peer_account.specs.View.{AccountView, named_row}
-use Rattle.psb_ledger.proofs.Places.{Found, found_set}
+use Rattle.accounts.proofs.Places.{Found, found_set}
 
 -- what the parts of a book are for its view
 abbrev pub mine : Inside → Mine
@@ -42,9 +44,9 @@ good_of s r = subst Good r.gives (good_state r.history r.lawful)
 pub steady_of : (s : State) → IsReached s → IsSteady s
 steady_of s r = subst IsSteady r.gives (steady_state r.history r.lawful)
 
--- and no claim was moved
-pub plain_of : (s : State) → IsReached s → IsPlain s
-plain_of s r = subst IsPlain r.gives (plain_history r.history r.lawful r.built)
+-- a chunk is forwarded nowhere, so nothing comes loose where one goes
+pub chunk_unfreed : (s : State) (p : ℕ) (name : List ℕ) (rows : List (ℕ × Row)) → IsReached s → loosen (only in_key (Chunk name ∷ []) (row s p).ins) rows ≡ rows
+chunk_unfreed s p name rows r = subst (λ (t : State). loosen (only in_key (Chunk name ∷ []) (row t p).ins) rows ≡ rows) r.gives (chunk_frees_none r.history p name rows r.lawful)
 
 -- before the first change there are no own chunks
 pub own_none : (s : State) → IsReached s → s.changes ≡ 0 → s.own ≡ []
@@ -54,11 +56,10 @@ own_none s r none = of_history r.history r.gives
     of_history [] e = ap (λ (t : State). t.own) (sym e)
     of_history (c ∷ cs) e = absurd (omega (arith, changes_counted (c ∷ cs), ap (λ (t : State). t.changes) e, none))
 
-pub reached_after : (s : State) (c : Change) → IsReached s → is_built c ≡ true → in_grammar c ≡ true → allowed s c ≡ true → IsReached (after s c)
-reached_after s c r built grammar may = record {
+pub reached_after : (s : State) (c : Change) → IsReached s → in_grammar c ≡ true → allowed s c ≡ true → IsReached (after s c)
+reached_after s c r grammar may = record {
   history = r.history ++ c ∷ [];
   lawful = lawful_snoc r.history c ∙ rw (r.lawful, grammar) (ap (λ t. allowed t c) r.gives ∙ may);
-  built = all_snoc is_built r.history c ∙ rw (r.built, built) refl;
   gives = state_snoc r.history c ∙ ap (λ t. after t c) r.gives;
 }
 
@@ -88,7 +89,7 @@ begun_sound m ch st vs is total body nst nvs may sound same rows small =
       is_after,
       record {
         used_is = sym (no_units n (settings_of_body body)) ∙ ap (sum_by (λ (y : ℕ × Row). held_units y.1 + coming n y.1.pending)) (sym rows);
-        reached = subst IsReached (sym is_after) (reached_after s (Begun (record { body = body })) sound.reached refl (text_there body ts.1.0) may);
+        reached = subst IsReached (sym is_after) (reached_after s (Begun (record { body = body })) sound.reached (text_there body ts.1.0) may);
         small = small;
       },
     )

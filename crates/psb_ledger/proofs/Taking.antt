@@ -24,11 +24,11 @@ use Rattle.psb_ledger.specs.View.{HasListRoom}
 use Rattle.peer_lists.specs.Entries.{lacks_all}
 use Rattle.peer_lists.proofs.Ordered.{is_false}
 use Rattle.peer_lists.proofs.Trees.{without_none}
-use Rattle.psb_ledger.proofs.Places.{found_here, found_peer, found_account}
+use Rattle.accounts.proofs.Places.{found_here, found_peer, found_account}
 use Rattle.psb_ledger.proofs.OwnStays.{names_more, has_with_all}
 use Rattle.psb_ledger.proofs.Sound.{state_of, view_of, good_of}
 use Rattle.psb_ledger.specs.Moves.{Makes, CanTake}
-use Rattle.psb_ledger.proofs.Peers.{IsAt, makes, row_at, within_used, debts_stay}
+use Rattle.psb_ledger.proofs.Peers.{IsAt, makes, row_of_peer, within_used, debts_stay}
 
 -- ROWS
 
@@ -58,7 +58,7 @@ can_take l x i u r f room same =
     let at = found_here vs x.peer i r f.place f.here in
     let peer = found_peer vs x.peer i r at in
     let account = found_account vs x.peer i r at in
-    let q = row_at l c x.peer i r f in
+    let q = row_of_peer l c x.peer i r f in
     let ts = parts (tests s c) (allows s c f.may).tests in
     let tidy = ((good_of s f.sound.reached).rows x.peer).tidy in
     let first : x.first ≡ l.issued = eqb-true x.first l.issued ts.1.1.1.1.1.0 in
@@ -89,5 +89,5 @@ can_take l x i u r f room same =
 
 -- A REFUSAL
 
-pub refused_one : (l : Inside) (x : Refused) (i n : ℕ) (r w : AccountView) → IsAt l (change.Refused x) x.peer i r → n ≡ used (state_of l) → w.id ≡ r.id → w.row ≡ took_deal x.deal l.changes r.row → Makes (view_of l) (change.Refused x) i l.issued n w
+pub refused_one : (l : Inside) (x : Refused) (i n : ℕ) (r w : AccountView) → IsAt l (change.Refused x) x.peer i r → n ≡ used (state_of l) → w.id ≡ r.id → w.row ≡ took_deal x.deal l.changes r.row → Makes (view_of l) l.accounts.items (change.Refused x) i l.issued n w
 refused_one l x i n r w f sums a b = makes l (change.Refused x) x.peer i l.issued n r w refl refl (record { settings = refl; own = refl; kept = refl; snapped = refl; chosen = refl }) f a (b ∙ sym (row_still x.deal l.changes r.row)) refl (λ y n. names_more y (changed (state_of l) (change.Refused x) y) n (λ k. chunk_stays out_key [] y.outs n ∙ k) (debts_stay y.debts) (λ k. k)) (omega (arith, sums, ap (row_use (state_of l)) b))

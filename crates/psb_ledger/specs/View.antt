@@ -1,17 +1,24 @@
 -- What contracts see of a ledger: the state, and the memory that was taken for a change.
-use Rattle.std.specs.Prelude.{◌≡◌, ℕ, ◌+◌, ◌*◌, ◌==◌, if◌then◌else◌, ◌^◌, ◌<◌, ◌≤◌, true, List, [], ◌∷◌, length, map, filter, Option}
+use Rattle.std.specs.Prelude.{◌≡◌, ℕ, ◌+◌, ◌*◌, ◌^◌, ◌<◌, ◌≤◌, true, List, [], ◌∷◌, length, map, filter, Option, Some, None}
 use Rattle.std.specs.List.{list_all}
 use Rattle.psb_settings.specs.declared.settings.Settings.{Settings}
 use Rattle.psb_model.specs.declared.entries.OwnEntry.{OwnEntry}
 use Rattle.psb_model.specs.declared.snapshots.Snapshot.{Snapshot}
 use Rattle.psb_model.specs.declared.entries.SnapMark.{SnapMark}
 use Rattle.psb_model.specs.declared.change.Change.{Change}
-use Rattle.psb_model.specs.declared.change.Change.TheVariants.{Begun, Kept, Snapped, TookFresh, TookSwap, LetGo, LetGoBack, Settled, Turned, Passed, Failed, Declined, Discarded, Chose}
+use Rattle.psb_model.specs.declared.change.Change.TheVariants.{Begun, Kept, Snapped, TookFresh, TookSwap, LetGo, LetGoBack, Replaced, Settled, Turned, Passed, Failed, Declined, Discarded, Chose}
 use Rattle.psb_model.specs.State.{Row, State, blank, row, is_peer, used}
 use Rattle.psb_model.specs.Conditions.{settings_of_body, capacity, names_ascend}
 use Rattle.psb_model.specs.Effects.{first_rows, chosen_after, is_whole_listed}
-use Rattle.psb_model.specs.History.{is_lawful, is_built, state}
+use Rattle.psb_model.specs.Words.{slots}
+use Rattle.psb_model.specs.History.{is_lawful, state}
 use Rattle.peer_lists.specs.Entries.{in_order}
+use Rattle.psb_bytes.specs.declared.ids.Object.{Object}
+use Rattle.psb_bytes.specs.declared.ids.Object.TheVariants.{Slot}
+use Rattle.accounts.specs.Table.{account_in}
+use Rattle.accounts.specs.Freeing.{have_out_room, free_room}
+use Rattle.psb_model.specs.declared.deals.Deal.{Deal}
+use Rattle.psb_model.specs.declared.deals.DealWhat.TheVariants.{Cancel, Forward}
 use Rattle.peer_account.specs.View.{AccountView, named_row, ins_settled, outs_settled}
 use Rattle.own_chunks.specs.OwnList.{own_key}
 
@@ -43,11 +50,6 @@ plain_state changes settings accounts issued mine = record { changes = changes; 
 
 -- ROOM: what `make_room` took for a change
 
--- the account of a peer; a stranger has no room
-abbrev pub account_in : List AccountView → ℕ → AccountView
-account_in [] p = record { id = p; row = blank; in_room = 0; out_room = 0; barred_room = 0; cancel_room = 0; debt_room = 0 }
-account_in (v ∷ vs) p = if v.id == p then v else account_in vs p
-
 -- room for so many chunks, and runs of slots, in the two lists, if p is a peer
 pub record HasListRoom (v : LedgerView) (p ins outs : ℕ) : Type 0 where
   pub in_room : is_peer v.state p ≡ true → ins ≤ (account_in v.accounts p).in_room
@@ -63,6 +65,26 @@ pub record HasDebtRoom (v : LedgerView) (p count : ℕ) : Type 0 where
   pub out_room : is_peer v.state p ≡ true → 2 * count ≤ (account_in v.accounts p).out_room
   pub debt_room : is_peer v.state p ≡ true → count ≤ (account_in v.accounts p).debt_room
 
+-- room where these objects leave what the node answers for to p: for so many chunks and runs there, and in each
+-- account for slots that come loose
+pub record HasLeavingRoom (v : LedgerView) (p ins : ℕ) (objects : List Object) : Type 0 where
+  pub lists : HasListRoom v p ins 0
+  pub loose : have_out_room (free_room (row v.state p).ins objects) v.accounts ≡ true
+
+-- room for the states that a deal with p sets in other accounts: where slots come loose, and where an entry is forwarded
+abbrev pub HasStatesRoom : LedgerView → ℕ → Option Deal → Type 0
+HasStatesRoom v p None = Unit {0}
+HasStatesRoom v p (Some d) = elim d.what [
+  | Cancel name theirs ↦ have_out_room (free_room (row v.state p).ins (slots theirs)) v.accounts ≡ true
+  | Forward slot entry ↦ HasListRoom v entry.peer 2 0
+  | _ ↦ Unit {0}
+]
+
+-- room for what comes when the pending deal of p is settled with so many slots, and for the states that it sets
+pub record HasSettleRoom (v : LedgerView) (p count : ℕ) : Type 0 where
+  pub lists : HasListRoom v p (count + ins_settled (row v.state p).pending) (outs_settled (row v.state p).pending)
+  pub states : HasStatesRoom v p (row v.state p).pending
+
 -- the settings of the text, if it has some, and an empty account for each peer
 pub record HasBegunRoom (v : LedgerView) (body : Option (List ℕ)) : Type 0 where
   pub settings : v.next ≡ settings_of_body body
@@ -73,25 +95,25 @@ HasRoom v (Begun x) = HasBegunRoom v x.body
 HasRoom v (Kept x) = 1 ≤ v.own_room
 HasRoom v (Snapped x) = 1 ≤ v.kept_room
 HasRoom v (TookFresh x) = HasListRoom v x.peer 1 1
-HasRoom v (TookSwap x) = HasListRoom v x.peer (1 + 2 * length x.slots) 0
+HasRoom v (TookSwap x) = HasLeavingRoom v x.peer (1 + 2 * length x.slots) (slots x.slots)
 HasRoom v (LetGo x) = HasListRoom v x.peer 0 (2 * length x.slots)
 HasRoom v (LetGoBack x) = HasListRoom v x.peer (length x.slots) 0
-HasRoom v (Settled x) = HasListRoom v x.peer (length x.slots + ins_settled (row v.state x.peer).pending) (outs_settled (row v.state x.peer).pending)
+HasRoom v (Replaced x) = HasLeavingRoom v x.peer 2 (Slot x.slot ∷ [])
+HasRoom v (Settled x) = HasSettleRoom v x.peer (length x.slots)
 HasRoom v (Turned x) = HasTurnRoom v x.peer
 HasRoom v (Passed x) = HasListRoom v x.peer 0 (length (filter (is_whole_listed x.objects) (row v.state x.peer).debts))
 HasRoom v (Failed x) = HasDebtRoom v x.peer (length x.objects)
 HasRoom v (Declined x) = HasDebtRoom v x.peer (length x.places)
-HasRoom v (Discarded x) = HasListRoom v x.peer (2 * length x.objects) 0
+HasRoom v (Discarded x) = HasLeavingRoom v x.peer (2 * length x.objects) x.objects
 HasRoom v (Chose x) = v.next_chosen ≡ chosen_after v.state (Chose x)
 HasRoom v _ = Unit {0}
 
 -- WHAT EACH LEDGER KEEPS
 
--- some lawful history of built kinds gives the state
+-- some lawful history gives the state
 pub record IsReached (s : State) : Type 0 where
   pub history : List Change
   pub lawful : is_lawful history ≡ true
-  pub built : list_all is_built history ≡ true
   pub gives : state history ≡ s
 
 -- the sum over all peers is that of the state, which is one that a history gives

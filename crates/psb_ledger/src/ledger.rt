@@ -1,23 +1,23 @@
 //! The ledger: the state that a history gives, kept with running sums, and its changes.
 
-ghost use Rattle.std.specs.Prelude.{◌≡◌, ◌<◌, ◌^◌, ◌&&◌, IsTrue, OnOk};
+ghost use Rattle.std.specs.Prelude.{◌≡◌, ◌<◌, ◌^◌, IsTrue, OnOk};
 ghost use Rattle.psb_model.specs.State.{nothing_yet};
 ghost use Rattle.psb_model.specs.Grammar.{in_grammar};
 ghost use Rattle.psb_model.specs.Conditions.{allowed};
 ghost use Rattle.psb_model.specs.Effects.{after};
-ghost use Rattle.psb_model.specs.History.{is_built};
 ghost use Rattle.psb_ledger.specs.View.{HasRoom, IsReached};
 
-mod accounts;
 mod begin;
 mod choosing;
 mod discarding;
 mod keeping;
+mod leaving;
 mod letting_go;
 mod looking;
 mod probing;
 mod proposing;
 mod refusing;
+mod replacing;
 mod settling;
 mod swapping;
 mod taking;
@@ -110,29 +110,26 @@ impl Ledger {
             Change::Kept(_) => self.make_room_to_keep(),
             Change::Snapped(_) => self.make_room_to_snap(),
             Change::TookFresh(x) => self.make_room_for(x.peer, 1, 1),
-            Change::TookSwap(x) => {
-                self.make_room_for(x.peer, 1 + 2 * x.slots.as_slice().len(), 0)
-            }
+            Change::TookSwap(x) => self.make_room_to_swap(x),
             Change::LetGo(x) => self.make_room_for(x.peer, 0, 2 * x.slots.as_slice().len()),
             Change::LetGoBack(x) => self.make_room_for(x.peer, x.slots.as_slice().len(), 0),
+            Change::Replaced(x) => self.make_room_to_replace(x),
             Change::Settled(x) => self.make_room_to_settle(x.peer, x.slots.as_slice().len()),
             Change::Turned(x) => self.make_room_to_turn(x.peer),
             Change::Passed(x) => self.make_room_to_pass(x),
             Change::Failed(x) => self.make_room_to_lose(x.peer, x.objects.as_slice().len()),
             Change::Declined(x) => self.make_room_to_lose(x.peer, x.places.as_slice().len()),
-            Change::Discarded(x) => {
-                self.make_room_for(x.peer, 2 * x.objects.as_slice().len(), 0)
-            }
+            Change::Discarded(x) => self.make_room_to_discard(x),
             Change::Chose(x) => self.make_room_to_choose(x.candidates.as_slice()),
             _ => Ok(()),
         }
     }
 
-    /// Whether the change is of a kind that is applied so far and its condition holds. The settings
-    /// text of a Begun is the one that room was made for. Takes no memory.
+    /// Whether the condition of the change holds. The settings text of a Begun is the one that room was
+    /// made for. Takes no memory.
     pub fn allows(&self, c: &Change) -> bool
         requires { HasRoom self.now c.now }
-        ensures { result ≡ (is_built c.now && allowed self.now.state c.now) }
+        ensures { result ≡ allowed self.now.state c.now }
     {
         match c {
             Change::Begun(x) => self.may_begin(&x.body),
@@ -143,6 +140,7 @@ impl Ledger {
             Change::TookSwap(x) => self.may_take_swap(x),
             Change::LetGo(x) => self.may_let_go(x),
             Change::LetGoBack(x) => self.may_put_back(x),
+            Change::Replaced(x) => self.may_replace(x),
             Change::Refused(x) => self.may_refuse(x),
             Change::Proposed(x) => self.may_propose(x.peer, x.deal, &x.what),
             Change::Settled(x) => self.may_settle(x),
@@ -153,7 +151,6 @@ impl Ledger {
             Change::Declined(x) => self.may_decline(x),
             Change::Discarded(x) => self.may_discard(x),
             Change::Chose(x) => self.may_choose(x.candidates.as_slice()),
-            _ => false,
         }
     }
 
@@ -162,7 +159,7 @@ impl Ledger {
         requires grammar { IsTrue (in_grammar c) }
         requires room { HasRoom self.old c }
         requires few { self.old.state.changes < 2 ^ 62 }
-        requires may { IsTrue (is_built c && allowed self.old.state c) }
+        requires may { IsTrue (allowed self.old.state c) }
         ensures { self.new.state ≡ after self.old.state c }
     {
         match c {
@@ -174,6 +171,7 @@ impl Ledger {
             Change::TookSwap(x) => self.take_swap(&x),
             Change::LetGo(x) => self.let_go(&x),
             Change::LetGoBack(x) => self.put_back(&x),
+            Change::Replaced(x) => self.replace(&x),
             Change::Refused(x) => self.refuse(&x),
             Change::Proposed(x) => self.propose(
                 x.peer,
@@ -190,7 +188,6 @@ impl Ledger {
             Change::Declined(x) => self.decline(&x),
             Change::Discarded(x) => self.discard(&x),
             Change::Chose(x) => self.choose(x.candidates.as_slice()),
-            _ => {}
         }
     }
 }

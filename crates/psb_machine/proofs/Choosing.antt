@@ -9,7 +9,7 @@ use Rattle.psb_settings.specs.Settings.{IsPeerRow, has_id, have_distinct_ids}
 use Rattle.psb_model.specs.Grammar.{is_u32, is_count, candidate_fits}
 use Rattle.psb_model.specs.State.{State, is_peer}
 use Rattle.psb_model.specs.Candidates.{distinct_peers}
-use Rattle.psb_model.specs.History.{state, is_built}
+use Rattle.psb_model.specs.History.{state}
 use Rattle.psb_model.specs.Needed.{IsValid}
 use Rattle.psb_model.specs.declared.change.Change.{Change}
 use Rattle.psb_model.specs.declared.change.Change.TheVariants.{Chose}
@@ -161,10 +161,10 @@ all_known f (r ∷ rs) known =
     or_true true = refl
     or_true false = refl
 
-found_peers : (h : List Change) (settings : Settings) (samples : List (ℕ × ℕ)) (n : ℕ) → list_all is_built h ≡ true → (state h).settings ≡ Some settings → list_all (λ (x : Candidate). is_peer (state h) x.peer) (candidates settings.peers samples n) ≡ true
-found_peers h settings samples n built is =
+found_peers : (h : List Change) (settings : Settings) (samples : List (ℕ × ℕ)) (n : ℕ) → (state h).settings ≡ Some settings → list_all (λ (x : Candidate). is_peer (state h) x.peer) (candidates settings.peers samples n) ≡ true
+found_peers h settings samples n is =
     found_pass (λ (x : Candidate). is_peer (state h) x.peer) (λ (r : PeerRow). is_peer (state h) r.id) settings.peers samples n (λ r bits k. k)
-    (all_known (is_peer (state h)) settings.peers (λ q k. rows_are_peers h built q ∙ ap (λ o. peer_in o q) is ∙ k))
+    (all_known (is_peer (state h)) settings.peers (λ q k. rows_are_peers h q ∙ ap (λ o. peer_in o q) is ∙ k))
 
 -- ---- the choice
 
@@ -196,7 +196,7 @@ choice_cases P settings n p cs is found_so =
 found_may : (settings : Settings) (h : List Change) (samples : List (ℕ × ℕ)) (n : ℕ) → IsValid h → (state h).settings ≡ Some settings → 1 ≤ n → n ≤ 32 → 1 ≤ length (candidates settings.peers samples n) → MayTake (state h) (Chose (record { candidates = put_all [] (candidates settings.peers samples n) }))
 found_may settings h samples n v is some few found =
     let s = state h in
-    let read = settings_read h settings v.built is in
+    let read = settings_read h settings is in
     let all = candidates settings.peers samples n in
     let asked = found_asked settings.peers samples n some in
     let one = found_distinct settings.peers samples n read.distinct in
@@ -205,13 +205,12 @@ found_may settings h samples n v is some few found =
     let count : is_count (length ordered) ≡ true = lt-ltb (length ordered) (2 ^ 32) (omega (arith, long, found_few settings.peers samples n, read.few_peers)) in
     let first : nat_le 1 (length ordered) ≡ true = le-leb 1 (length ordered) (omega (arith, long, found)) in
     record {
-      built = refl;
       grammar = count;
       may = rw (
         begun_here h v.some,
         first,
         put_distinct all one,
-        all_hold (λ (x : Candidate). is_peer s x.peer) [] all refl (found_peers h settings samples n v.built is),
+        all_hold (λ (x : Candidate). is_peer s x.peer) [] all refl (found_peers h settings samples n is),
         all_hold (λ (x : Candidate). nat_le 1 x.of) [] all refl asked,
         next_in_order ordered (put_in_order all asked one),
       ) refl;

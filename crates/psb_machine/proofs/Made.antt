@@ -16,18 +16,18 @@ use Rattle.psb_model.specs.declared.deals.Deal.{Deal as OwnDeal}
 use Rattle.psb_model.specs.declared.deals.DealWhat.{DealWhat}
 use Rattle.psb_model.specs.declared.deals.DealWhat.TheVariants as own
 use Rattle.psb_model.specs.declared.change.Change.{Change}
-use Rattle.psb_model.specs.declared.change.Change.TheVariants.{Begun, Kept, Snapped, Forgot, TookFresh, TookSwap, LetGo, LetGoBack, Refused, Proposed, Settled, Turned, Chose}
+use Rattle.psb_model.specs.declared.change.Change.TheVariants.{Proposed}
 use Rattle.psb_model.specs.Words.{all_of, name_listed}
 use Rattle.psb_model.specs.State.{State, row, own_has, used}
 use Rattle.psb_model.specs.Conditions.{most_claims, tests}
 use Rattle.psb_model.specs.Proposing.{ProposeFacts, as_many, slots_to_give, may_release, cancel, put_back, release_of, release, slots_to_fill, is_missing, swap, fresh, place_of, first_place, place, proposal}
-use Rattle.psb_model.specs.History.{state, is_built, is_built_deal}
+use Rattle.psb_model.specs.History.{state}
 use Rattle.psb_model.specs.Needed.{last_brought}
 use Rattle.psb_model.proofs.ByObject.{by_cases}
 use Rattle.wire_codec.specs.Frames.{Incoming, read_frame, key_in}
 use Rattle.wire_codec.specs.declared.frame.Dropped.{Dropped}
 use Rattle.wire_codec.specs.declared.frame.Frame.{Frame}
-use Rattle.psb_machine.specs.Made.{is_made}
+use Rattle.psb_machine.specs.Made.{is_made_deal, is_made}
 use Rattle.psb_machine.specs.Deals.{standing, Deal, StoreFresh, StoreSwap, Cancel, PutBack, deal_of, takes, judged, judged_at, facts_at, clashes, reasons, first_that_holds, meets_others}
 use Rattle.psb_machine.specs.Gets.{got_of, has_chunk}
 use Rattle.psb_machine.specs.Settling.{Reply, Accepts, Refuses, replied_by, answers_deal, wait_in}
@@ -39,23 +39,6 @@ use Rattle.psb_machine.specs.declared.deals.Standing.TheVariants.{Fresh, Repeat,
 use Rattle.psb_machine.specs.declared.deals.Refusal.{Refusal}
 use Rattle.psb_machine.proofs.Steps.{too_same}
 
--- the program has what the machine makes
-pub made_is_built : (c : Change) → is_made c ≡ true → is_built c ≡ true
-made_is_built (Begun x) m = refl
-made_is_built (Kept x) m = refl
-made_is_built (Snapped x) m = refl
-made_is_built (Forgot x) m = refl
-made_is_built (TookFresh x) m = refl
-made_is_built (TookSwap x) m = refl
-made_is_built (LetGo x) m = refl
-made_is_built (LetGoBack x) m = refl
-made_is_built (Refused x) m = refl
-made_is_built (Proposed x) m = m
-made_is_built (Settled x) m = refl
-made_is_built (Turned x) m = refl
-made_is_built (Chose x) m = refl
-made_is_built _ m = absurd (false≢true m)
-
 -- the change that a reaction makes, if it makes one, is of these kinds
 abbrev pub MakesSuch : Reaction → Type 0
 MakesSuch r = list_all is_made (changes_of r) ≡ true
@@ -65,44 +48,44 @@ one_made c m = rw m refl
 
 -- ---- a deal that is proposed
 
-abbrev is_built_what : Option DealWhat → Bool
-is_built_what None = true
-is_built_what (Some w) = is_built_deal w
+abbrev is_made_what : Option DealWhat → Bool
+is_made_what None = true
+is_made_what (Some w) = is_made_deal w
 
-mapped : (f : List ℕ → DealWhat) → ((l : List ℕ) → is_built_deal (f l) ≡ true) → (o : Option (List ℕ)) → is_built_what (option_map f o) ≡ true
+mapped : (f : List ℕ → DealWhat) → ((l : List ℕ) → is_made_deal (f l) ≡ true) → (o : Option (List ℕ)) → is_made_what (option_map f o) ≡ true
 mapped f all None = refl
 mapped f all (Some l) = all l
 
-either : (a b : Option DealWhat) → is_built_what a ≡ true → is_built_what b ≡ true → is_built_what (option_or a b) ≡ true
+either : (a b : Option DealWhat) → is_made_what a ≡ true → is_made_what b ≡ true → is_made_what (option_or a b) ≡ true
 either None b ha hb = hb
 either (Some w) b ha hb = ha
 
-one_of : (t : Bool) (a b : Option DealWhat) → is_built_what a ≡ true → is_built_what b ≡ true → is_built_what (if t then a else b) ≡ true
+one_of : (t : Bool) (a b : Option DealWhat) → is_made_what a ≡ true → is_made_what b ≡ true → is_made_what (if t then a else b) ≡ true
 one_of true a b ha hb = ha
 one_of false a b ha hb = hb
 
-cancel_built : (s : State) (p : ℕ) (name : List ℕ) (u : ℕ) → is_built_what (cancel s p name u) ≡ true
-cancel_built s p name u = mapped (own.Cancel name) (λ l. refl) (if name_listed (row s p).turned_cancels name then None else as_many u (slots_to_give s p))
+cancel_made : (s : State) (p : ℕ) (name : List ℕ) (u : ℕ) → is_made_what (cancel s p name u) ≡ true
+cancel_made s p name u = mapped (own.Cancel name) (λ l. refl) (if name_listed (row s p).turned_cancels name then None else as_many u (slots_to_give s p))
 
-put_back_built : (issued : ℕ) (name : List ℕ) (u : ℕ) → is_built_what (put_back issued name u) ≡ true
-put_back_built issued name u = one_of (nat_le (issued + u) most_claims) (Some (own.PutBack name issued)) None refl refl
+put_back_made : (issued : ℕ) (name : List ℕ) (u : ℕ) → is_made_what (put_back issued name u) ≡ true
+put_back_made issued name u = one_of (nat_le (issued + u) most_claims) (Some (own.PutBack name issued)) None refl refl
 
-release_of_built : (s : State) (p issued : ℕ) (e : OutEntry) → is_built_what (release_of s p issued e) ≡ true
-release_of_built s p issued e = by_object e.object
+release_of_made : (s : State) (p issued : ℕ) (e : OutEntry) → is_made_what (release_of s p issued e) ≡ true
+release_of_made s p issued e = by_object e.object
   where
-    by_object : (o : Object) → is_built_what (elim o [ Chunk name ↦ option_or (cancel s p name e.units) (put_back issued name e.units) | Slot n ↦ None ]) ≡ true
-    by_object (Chunk name) = either (cancel s p name e.units) (put_back issued name e.units) (cancel_built s p name e.units) (put_back_built issued name e.units)
+    by_object : (o : Object) → is_made_what (elim o [ Chunk name ↦ option_or (cancel s p name e.units) (put_back issued name e.units) | Slot n ↦ None ]) ≡ true
+    by_object (Chunk name) = either (cancel s p name e.units) (put_back issued name e.units) (cancel_made s p name e.units) (put_back_made issued name e.units)
     by_object (Slot n) = refl
 
-release_built : (s : State) (p : ℕ) (probed : List Object) (issued : ℕ) → is_built_what (release s p probed issued) ≡ true
-release_built s p probed issued = by_found (find (may_release s p probed) (row s p).outs)
+release_made : (s : State) (p : ℕ) (probed : List Object) (issued : ℕ) → is_made_what (release s p probed issued) ≡ true
+release_made s p probed issued = by_found (find (may_release s p probed) (row s p).outs)
   where
-    by_found : (o : Option OutEntry) → is_built_what (elim o [ None ↦ None | Some e ↦ release_of s p issued e ]) ≡ true
+    by_found : (o : Option OutEntry) → is_made_what (elim o [ None ↦ None | Some e ↦ release_of s p issued e ]) ≡ true
     by_found None = refl
-    by_found (Some e) = release_of_built s p issued e
+    by_found (Some e) = release_of_made s p issued e
 
-place_of_built : (s : State) (p : ℕ) (probed : List Object) (capacity : ℕ) (e : OwnEntry) → is_built_what (place_of s p probed capacity e) ≡ true
-place_of_built s p probed capacity e =
+place_of_made : (s : State) (p : ℕ) (probed : List Object) (capacity : ℕ) (e : OwnEntry) → is_made_what (place_of s p probed capacity e) ≡ true
+place_of_made s p probed capacity e =
     let u = units e.len in
     one_of (is_missing s p e.name) (option_or (swap s p probed e.name u) (fresh s capacity e.name u)) None
     (either (swap s p probed e.name u) (fresh s capacity e.name u)
@@ -110,23 +93,23 @@ place_of_built s p probed capacity e =
     (one_of (nat_le (used s + u) capacity) (Some (own.Fresh e.name)) None refl refl))
     refl
 
-first_place_built : (s : State) (p : ℕ) (probed : List Object) (capacity : ℕ) (es : List OwnEntry) → is_built_what (first_place s p probed capacity es) ≡ true
-first_place_built s p probed capacity [] = refl
-first_place_built s p probed capacity (e ∷ es) =
-    either (place_of s p probed capacity e) (first_place s p probed capacity es) (place_of_built s p probed capacity e) (first_place_built s p probed capacity es)
+first_place_made : (s : State) (p : ℕ) (probed : List Object) (capacity : ℕ) (es : List OwnEntry) → is_made_what (first_place s p probed capacity es) ≡ true
+first_place_made s p probed capacity [] = refl
+first_place_made s p probed capacity (e ∷ es) =
+    either (place_of s p probed capacity e) (first_place s p probed capacity es) (place_of_made s p probed capacity e) (first_place_made s p probed capacity es)
 
-proposal_built : (s : State) (p : ℕ) (probed : List Object) (facts : ProposeFacts) → is_built_what (proposal s p probed facts) ≡ true
-proposal_built s p probed facts =
+proposal_made : (s : State) (p : ℕ) (probed : List Object) (facts : ProposeFacts) → is_made_what (proposal s p probed facts) ≡ true
+proposal_made s p probed facts =
     let placed = first_place s p probed facts.capacity s.own in
-    either (release s p probed facts.issued) (place s p probed facts.capacity) (release_built s p probed facts.issued)
-    (one_of (list_any (λ q. q == p) s.chosen) placed None (first_place_built s p probed facts.capacity s.own) refl)
+    either (release s p probed facts.issued) (place s p probed facts.capacity) (release_made s p probed facts.issued)
+    (one_of (list_any (λ q. q == p) s.chosen) placed None (first_place_made s p probed facts.capacity s.own) refl)
 
--- what a tick asks for was proposed before, or is of a kind that is built
+-- what a tick asks for was proposed before, or is of a kind that the machine makes
 abbrev AsksSuch : Option Asking → Type 0
 AsksSuch None = Unit {0}
-AsksSuch (Some a) = a.is_new ≡ true → is_built_deal a.deal.what ≡ true
+AsksSuch (Some a) = a.is_new ≡ true → is_made_deal a.deal.what ≡ true
 
-proposed_such : (s : State) (p : ℕ) (o : Option DealWhat) → is_built_what o ≡ true → AsksSuch (option_map (next_asking s p) o)
+proposed_such : (s : State) (p : ℕ) (o : Option DealWhat) → is_made_what o ≡ true → AsksSuch (option_map (next_asking s p) o)
 proposed_such s p None b = tt
 proposed_such s p (Some what) b = λ new. b
 
@@ -138,7 +121,7 @@ asking_such settings n p = by_pending (row (state n.history) p).pending
 
     by_pending : (o : Option OwnDeal) → AsksSuch (asking_by settings n p o)
     by_pending None = by_cases (wait_in n.volatile.waits p == 0)
-        (λ k. rw k (proposed_such (state n.history) p (proposal (state n.history) p [] facts) (proposal_built (state n.history) p [] facts)))
+        (λ k. rw k (proposed_such (state n.history) p (proposal (state n.history) p [] facts) (proposal_made (state n.history) p [] facts)))
         (λ k. rw k tt)
     by_pending (Some d) = by_cases (is_even (later (clock_in n.volatile.clocks p)))
         (λ k. rw k (λ new. absurd (false≢true new)))

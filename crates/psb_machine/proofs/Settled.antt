@@ -33,7 +33,6 @@ reply_may h p number (Accepts claims) some peer p_fits number_fits f passed =
     let long : (length (claims_joined claims) == 512 * length numbers) ≡ true =
     eq-eqb (length (claims_joined claims)) (512 * length numbers) (omega (arith, joined_long claims f.1, length-map claims (λ (c : SlotClaim). c.slot))) in
     record {
-      built = refl;
       grammar = rw (long, f.0.ascend, counted numbers f.0) refl;
       may = allows_change (state h) (answers_deal p number (Accepts claims)) (begun_here h some) peer passed;
       widths = rw (p_fits, number_fits, f.0.widths, joined_bytes claims f.1) refl;
@@ -41,7 +40,6 @@ reply_may h p number (Accepts claims) some peer p_fits number_fits f passed =
       answerable = refl;
     }
 reply_may h p number (Refuses why detail) some peer p_fits number_fits f passed = record {
-  built = refl;
   grammar = refl;
   may = allows_change (state h) (answers_deal p number (Refuses why detail)) (begun_here h some) peer passed;
   widths = rw (p_fits, number_fits, f.0, f.1) refl;
@@ -64,5 +62,5 @@ reply_valid n p number reply v peer p_fits number_fits f =
     let c = answers_deal p number reply in
     by_cases (all_of (tests (state n.history) c))
     (λ k. let m = reply_may n.history p number reply v.some peer p_fits number_fits f k in
-    rw k (valid_snoc n.history c v m.grammar m.may m.widths m.built m.brings))
+    rw k (valid_snoc n.history c v m.grammar m.may m.widths m.brings))
     (λ k. rw k (subst IsValid (sym (append-nil n.history)) v))

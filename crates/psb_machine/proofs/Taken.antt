@@ -15,7 +15,7 @@ use Rattle.psb_model.specs.Words.{has, has_so}
 use Rattle.psb_model.specs.State.{State, row, in_key, out_key, debt_units, is_held, is_peer, tied_in, tied_out, used}
 use Rattle.psb_model.specs.Grammar.{in_grammar, fits_widths, is_u8, is_u32, is_count, are_bytes, body_fits}
 use Rattle.psb_model.specs.Conditions.{most_claims, capacity, is_next_deal, carries_none, each_slot, allowed}
-use Rattle.psb_model.specs.History.{state, is_built}
+use Rattle.psb_model.specs.History.{state}
 use Rattle.psb_model.specs.Needed.{brings_right, no_slots}
 use Rattle.psb_model.specs.declared.change.Change.{Change}
 use Rattle.psb_model.specs.declared.change.Change.TheVariants.{TookFresh, TookSwap, LetGoBack}
@@ -29,9 +29,8 @@ use Rattle.psb_machine.specs.Replies.{is_answerable}
 use Rattle.psb_machine.proofs.Standings.{NoneHolds, none_holds}
 use Rattle.psb_machine.proofs.Slots.{none_found, each_both, passes_there}
 
--- a change of a kind that the program has: it may be made, its fields fit, its bytes are there, and it can be answered
+-- of a change: it may be made, its fields fit, its bytes are there, and it can be answered
 pub record MayTake (s : State) (c : Change) : Type 0 where
-  pub built : is_built c ≡ true
   pub grammar : in_grammar c ≡ true
   pub may : allowed s c ≡ true
   pub widths : fits_widths c ≡ true
@@ -94,7 +93,6 @@ fresh_may settings h p number name bytes clash n f t =
     let same : (s.issued == s.issued) ≡ true = eq-eqb s.issued s.issued refl in
     let short = le-leb (length bytes) 32768 f.short in
     record {
-      built = refl;
       grammar = rw (le-leb 1 (length bytes) f.long, short, body_in_grammar (is_held s name) bytes) refl;
       may = rw (begun_here h n.some, n.peer, n.next_deal, new_here, flag_same (is_held s name), no_debt, room_here, same, claims) refl;
       widths = rw (f.peer, f.number_fits, f.name_fits, first, len, body_of_bytes (is_held s name) bytes f.bytes_fit) refl;
@@ -122,7 +120,6 @@ swap_may settings h p number name numbers bytes clash n f t =
     let no_debt = not_some (debt_units (row s p)) t.1.1.1.1.1.1.0 in
     let len : is_u32 (length bytes) ≡ true = lt-ltb (length bytes) (2 ^ 32) (omega (arith, f.store.short)) in
     record {
-      built = refl;
       grammar = rw (le-leb 1 (length bytes) f.store.long, le-leb (length bytes) 32768 f.store.short, body_in_grammar (is_held s name) bytes, f.slots.ascend, counted numbers f.slots) refl;
       may = rw (begun_here h n.some, n.peer, n.next_deal, new_here, flag_same (is_held s name), there, free, equal, no_debt) refl;
       widths = rw (f.store.peer, f.store.number_fits, f.store.name_fits, f.slots.widths, len, body_of_bytes (is_held s name) bytes f.store.bytes_fit) refl;
@@ -159,7 +156,6 @@ cancel_may settings h p number name numbers clash n f t =
     let there = not_false (has in_key (row s p).ins (Chunk name)) missing.0 in
     let equal = not_false (length numbers == chunk_units s p name) t.1.1.0 in
     record {
-      built = refl;
       grammar = rw (f.slots.ascend, counted numbers f.slots) refl;
       may = rw (begun_here h n.some, n.peer, n.next_deal, there, none_carried s p numbers t.0 missing.1, free_out s p numbers t.0, equal) refl;
       widths = rw (f.peer, f.number_fits, f.name_fits, f.slots.widths) refl;
@@ -198,7 +194,6 @@ put_back_may settings h p number name claims clash n f t =
     let long : (length (claims_joined claims) == 512 * length numbers) ≡ true =
     eq-eqb (length (claims_joined claims)) (512 * length numbers) (omega (arith, joined_long claims f.claims_fit, length-map claims (λ (c : SlotClaim). c.slot))) in
     record {
-      built = refl;
       grammar = rw (long, f.slots.ascend, counted numbers f.slots) refl;
       may = rw (begun_here h n.some, n.peer, n.next_deal, there, absent, equal) refl;
       widths = rw (f.peer, f.number_fits, f.name_fits, f.slots.widths, joined_bytes claims f.claims_fit) refl;

@@ -73,7 +73,6 @@ proposed_may h settings p what v is peer f idle next =
     let may = proposable s p [] (propose_facts settings s) what (steady_state h v.lawful) (fit_state h v.lawful) (wide_state h v.lawful v.fit) (sorted_row h p) refl (sym (ap capacity is)) next in
     let fits : is_u64 number ≡ true = lt-ltb number (2 ^ 64) (omega (arith, f.more)) in
     record {
-      built = may.built;
       grammar = may.listed;
       may = proposal_allowed s p number what may (begun_here h v.some) peer idle refl;
       widths = rw (f.peer, fits, may.fits) refl;
@@ -85,7 +84,7 @@ proposed_valid : (h : List Change) (settings : Settings) (p : ℕ) (what : DealW
     → proposal (state h) p [] (propose_facts settings (state h)) ≡ Some what → IsValid (h ++ Proposed (record { peer = p; deal = (row (state h) p).mine + 1; what = what }) ∷ [])
 proposed_valid h settings p what v is peer f idle next =
     let m = proposed_may h settings p what v is peer f idle next in
-    valid_snoc h (Proposed (record { peer = p; deal = (row (state h) p).mine + 1; what = what })) v m.grammar m.may m.widths m.built m.brings
+    valid_snoc h (Proposed (record { peer = p; deal = (row (state h) p).mine + 1; what = what })) v m.grammar m.may m.widths m.brings
 
 asking_valid : (settings : Settings) (n : Situation) (p : ℕ) (key : List ℕ) (o : Option Asking) → asking_at settings n p ≡ o → IsValid n.history → (state n.history).settings ≡ Some settings → is_peer (state n.history) p ≡ true → TickFits (state n.history) p
     → IsValid (n.history ++ changes_of (by_asking settings n p key o))
@@ -99,14 +98,14 @@ choice_valid : (settings : Settings) (n : Situation) (p : ℕ) (key : List ℕ) 
     → IsValid (n.history ++ changes_of (by_choice settings n p key o))
 choice_valid settings n p key (Some candidates) chosen v is peer f =
     let m = choice_may settings n p candidates v is chosen in
-    valid_snoc n.history (Chose (record { candidates = candidates })) v m.grammar m.may m.widths m.built m.brings
+    valid_snoc n.history (Chose (record { candidates = candidates })) v m.grammar m.may m.widths m.brings
 choice_valid settings n p key None chosen v is peer f =
     let valid = asking_valid settings n p key (asking_at settings n p) refl v is peer f in
     too_same (λ (r : Reaction). IsValid (n.history ++ changes_of r)) (questions settings (state n.history) p key) (by_asking settings n p key (asking_at settings n p)) valid valid
 
 key_valid : (settings : Settings) (n : Situation) (p : ℕ) (o : Option (List ℕ)) → key_in (keys_of settings) p ≡ o → IsValid n.history → (state n.history).settings ≡ Some settings → TickFits (state n.history) p → IsValid (n.history ++ changes_of (by_key settings n p o))
 key_valid settings n p None keyed v is f = unchanged n.history v
-key_valid settings n p (Some key) keyed v is f = choice_valid settings n p key (choice_at settings n p) refl v is (keyed_is_peer n.history settings p key v.built is keyed) f
+key_valid settings n p (Some key) keyed v is f = choice_valid settings n p key (choice_at settings n p) refl v is (keyed_is_peer n.history settings p key is keyed) f
 
 pub tick_valid : (n : Situation) (p : ℕ) (o : Option Settings) → o ≡ (state n.history).settings → IsValid n.history → TickFits (state n.history) p → IsValid (n.history ++ changes_of (on_tick o n p))
 tick_valid n p None is v f = unchanged n.history v

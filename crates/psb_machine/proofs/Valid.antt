@@ -71,7 +71,7 @@ refused_valid : (h : List Change) (p number : ℕ) (r : Refusal) → IsValid h �
     → IsValid (h ++ Refused (record { peer = p; deal = number; why = code_of r.why; detail = r.detail }) ∷ [])
 refused_valid h p number r v peer p_fits number_fits next_deal small =
     let code = codes_are r.why in
-    valid_snoc h (Refused (record { peer = p; deal = number; why = code_of r.why; detail = r.detail })) v refl (allows_refused h p number r v.some peer next_deal) (rw (p_fits, number_fits, code.2, small) refl) refl refl
+    valid_snoc h (Refused (record { peer = p; deal = number; why = code_of r.why; detail = r.detail })) v refl (allows_refused h p number r v.some peer next_deal) (rw (p_fits, number_fits, code.2, small) refl) refl
 
 -- ---- the details of what is looked at fit their field
 
@@ -95,7 +95,7 @@ used_small h v = by_settings (state h).settings refl (steady_state h v.lawful).u
   where
     by_settings : (o : Option Settings) → (state h).settings ≡ o → used (state h) ≤ capacity o → used (state h) ≤ 2147483648
     by_settings None is le = omega (arith, le)
-    by_settings (Some st) is le = omega (arith, le, (settings_read h st v.built is).capacity)
+    by_settings (Some st) is le = omega (arith, le, (settings_read h st is).capacity)
 
 numbers_fit : (h : List Change) (p : ℕ) → IsValid h → DetailsFit (state h) p
 numbers_fit h p v =
@@ -135,7 +135,7 @@ pub judged_deal_valid : (settings : Settings) (h : List Change) (p number : ℕ)
 judged_deal_valid settings h p number deal clash v present peer f next_deal = by_refusal (first_that_holds (reasons_at settings (state h) p deal clash)) refl
   where
     taken_valid : (c : Change) → MayTake (state h) c → IsValid (h ++ c ∷ [])
-    taken_valid c m = valid_snoc h c v m.grammar m.may m.widths m.built m.brings
+    taken_valid c m = valid_snoc h c v m.grammar m.may m.widths m.brings
 
     by_refusal : (o : Option Refusal) → first_that_holds (reasons_at settings (state h) p deal clash) ≡ o → IsValid (h ++ judged p number (taken_at (state h) p number deal) o ∷ [])
     by_refusal None is =
@@ -186,7 +186,7 @@ frame_valid settings n p number key frame v present peer f = got (got_of frame)
 keyed_valid : (settings : Settings) (n : Situation) (i : Incoming) (o : Option (List ℕ)) → o ≡ key_in (keys_of settings) i.from → IsValid n.history → (state n.history).settings ≡ Some settings
     → FrameFits i.from i.number i.frame → IsValid (n.history ++ changes_of (on_keyed settings n i o))
 keyed_valid settings n i None is v present f = unchanged n.history v
-keyed_valid settings n i (Some key) is v present f = frame_valid settings n i.from i.number key i.frame v present (keyed_is_peer n.history settings i.from key v.built present (sym is)) f
+keyed_valid settings n i (Some key) is v present f = frame_valid settings n i.from i.number key i.frame v present (keyed_is_peer n.history settings i.from key present (sym is)) f
 
 read_valid : (settings : Settings) (n : Situation) (r : Result Incoming Dropped) → IsValid n.history → (state n.history).settings ≡ Some settings
     → ((i : Incoming) → r ≡ Ok i → FrameFits i.from i.number i.frame) → IsValid (n.history ++ changes_of (on_read settings n r))
@@ -221,7 +221,6 @@ kept_valid h name bytes v f lacks =
     may.0
     may.1
     (rw (f.name_fits, len, body_of_bytes (is_held s name) bytes f.bytes_fit) refl)
-    refl
     (brings_kept name bytes (is_held s name) f.named)
 
 pub keep_valid : (n : Situation) (name bytes : List ℕ) → IsValid n.history → KeepFits name bytes → IsValid (n.history ++ changes_of (on_keep n name bytes))
@@ -243,13 +242,13 @@ snap_valid n note v f =
     let s = state n.history in
     let number : is_u32 (snaps_made s + 1) ≡ true = lt-ltb (snaps_made s + 1) (2 ^ 32) (omega (arith, f.more)) in
     let may = snapped_may n.history note v.some f in
-    valid_snoc n.history (snapped_with s note) v may.0 may.1 (rw number f.widths) refl refl
+    valid_snoc n.history (snapped_with s note) v may.0 may.1 (rw number f.widths) refl
 
 pub forgot_may : (h : List Change) (number : ℕ) → 1 ≤ length h → has_snapshot (state h) number ≡ true → allowed (state h) (Forgot (record { number = number })) ≡ true
 forgot_may h number some k = rw (begun_here h some, k) refl
 
 pub forgot_valid : (h : List Change) (number : ℕ) → IsValid h → is_u32 number ≡ true → has_snapshot (state h) number ≡ true → IsValid (h ++ Forgot (record { number = number }) ∷ [])
-forgot_valid h number v fit k = valid_snoc h (Forgot (record { number = number })) v refl (forgot_may h number v.some k) fit refl refl
+forgot_valid h number v fit k = valid_snoc h (Forgot (record { number = number })) v refl (forgot_may h number v.some k) fit refl
 
 pub forget_valid : (n : Situation) (number : ℕ) → IsValid n.history → is_u32 number ≡ true → IsValid (n.history ++ changes_of (on_forget n number))
 forget_valid n number v fit = by_cases (has_snapshot (state n.history) number)

@@ -98,7 +98,7 @@ settled_labels : (p : ℕ) (d : Option Deal) (rows : List (ℕ × Row)) → bare
 settled_labels p None rows = refl
 settled_labels p (Some d) rows = settle_labels p d.number d.what rows
 
-states_labels : (s : State) (c : Change) (rows : List (ℕ × Row)) → bare_rows (states_of s c rows) ≡ bare_rows rows
+pub states_labels : (s : State) (c : Change) (rows : List (ℕ × Row)) → bare_rows (states_of s c rows) ≡ bare_rows rows
 states_labels s (Replaced x) rows = at_labelled x.peer (relabel_in (Slot x.slot) (cond (x.place == 0) at.Direct (at.Home x.home))) (relabelled_in (Slot x.slot) (cond (x.place == 0) at.Direct (at.Home x.home))) rows
 states_labels s (Settled x) rows = settled_labels x.peer (row s x.peer).pending rows
 states_labels s _ rows = refl
@@ -112,7 +112,7 @@ loosen_one at.Body rows = refl
 loosen_one at.Direct rows = refl
 loosen_one (at.Home i) rows = refl
 
-loosen_labels : (es : List InEntry) (rows : List (ℕ × Row)) → bare_rows (loosen es rows) ≡ bare_rows rows
+pub loosen_labels : (es : List InEntry) (rows : List (ℕ × Row)) → bare_rows (loosen es rows) ≡ bare_rows rows
 loosen_labels [] rows = refl
 loosen_labels (e ∷ es) rows = loosen_labels es _ ∙ loosen_one e.state rows
 

@@ -12,7 +12,7 @@ pub mod Balance
 pub mod Prefixes
 pub mod Bare
 pub mod Steady
-pub mod Built
+pub mod Freed
 pub mod Held
 pub mod Lent
 pub mod Passing

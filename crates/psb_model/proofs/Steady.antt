@@ -300,7 +300,7 @@ settled_steadies : (s : State) (p : ℕ) (d : Option Deal) (rows : List (ℕ × 
 settled_steadies s p None rows = steadies_self s rows
 settled_steadies s p (Some d) rows = settle_steadies s p d.number d.what rows
 
-states_steadies : (s : State) (c : Change) (rows : List (ℕ × Row)) → Steadies s rows (states_of s c rows)
+pub states_steadies : (s : State) (c : Change) (rows : List (ℕ × Row)) → Steadies s rows (states_of s c rows)
 states_steadies s (Replaced x) rows = at_steadies s x.peer _ (relabel_in_alike (Slot x.slot) _) rows
 states_steadies s (Settled x) rows = settled_steadies s x.peer (row s x.peer).pending rows
 states_steadies s _ rows = steadies_self s rows
@@ -311,7 +311,7 @@ loosen_one s at.Body rows = steadies_self s rows
 loosen_one s at.Direct rows = steadies_self s rows
 loosen_one s (at.Home i) rows = steadies_self s rows
 
-loosen_steadies : (s : State) (es : List InEntry) (rows : List (ℕ × Row)) → Steadies s rows (loosen es rows)
+pub loosen_steadies : (s : State) (es : List InEntry) (rows : List (ℕ × Row)) → Steadies s rows (loosen es rows)
 loosen_steadies s [] rows = steadies_self s rows
 loosen_steadies s (e ∷ es) rows = steadies_then s rows _ _ (loosen_one s e.state rows) (loosen_steadies s es _)
 

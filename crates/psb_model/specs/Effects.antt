@@ -137,10 +137,14 @@ abbrev pub disturbed : State → Change → List InEntry
 disturbed s (Replaced x) = only in_key (Slot x.slot ∷ []) (row s x.peer).ins
 disturbed s c = elim (peer_of c) [ None ↦ [] | Some p ↦ only in_key (move_of s c).in_gone (row s p).ins ]
 
+-- the slot of this number is loose, in out(p) and in debt(p)
+abbrev pub loose_at : ℕ → Row → Row
+loose_at n r = relabel_debt (Slot n) on.Loose (relabel_out (Slot n) on.Loose r)
+
 -- the slots of the forwarded ones are loose
 abbrev pub loosen : List InEntry → List (ℕ × Row) → List (ℕ × Row)
 loosen [] rows = rows
-loosen (e ∷ es) rows = loosen es (elim e.state [ at.Forwarded seat ↦ at_row seat.peer (λ r. relabel_debt (Slot seat.slot) on.Loose (relabel_out (Slot seat.slot) on.Loose r)) rows | _ ↦ rows ])
+loosen (e ∷ es) rows = loosen es (elim e.state [ at.Forwarded seat ↦ at_row seat.peer (loose_at seat.slot) rows | _ ↦ rows ])
 
 -- Last, what else is noted of the peer.
 

@@ -3,9 +3,7 @@ use Rattle.std.specs.Prelude.{◌≡◌, ◌≤◌, ℕ, ◌+◌, Bool, true, fa
 use Rattle.psb_bytes.specs.declared.ids.Object.{Object}
 use Rattle.psb_model.specs.declared.entries.DebtEntry.{DebtEntry}
 use Rattle.psb_model.specs.declared.change.Change.{Change}
-use Rattle.psb_model.specs.declared.change.Change.TheVariants.{Begun, Kept, Snapped, Forgot, TookFresh, TookSwap, LetGo, LetGoBack, Refused, Proposed, Settled, Turned, Asked, Passed, Failed, Declined, Discarded, Chose}
-use Rattle.psb_model.specs.declared.deals.DealWhat.{DealWhat}
-use Rattle.psb_model.specs.declared.deals.DealWhat.TheVariants.{Fresh, Swap, Cancel, PutBack, Forward, Return}
+use Rattle.psb_model.specs.declared.change.Change.TheVariants.{Passed, Failed, Declined}
 use Rattle.psb_model.specs.Words.{listed, has, units_at, has_so, occurs, In}
 use Rattle.psb_model.specs.State.{State, nothing_yet, row, used, held_units, back_units, debt_units, out_key, out_size, debt_key}
 use Rattle.psb_model.specs.Grammar.{in_grammar}
@@ -28,39 +26,6 @@ state h = state_from nothing_yet h
 
 abbrev pub is_lawful : List Change → Bool
 is_lawful h = lawful_from nothing_yet h
-
--- the program has own deals of these kinds so far: all but those that move a claim
-abbrev pub is_built_deal : DealWhat → Bool
-is_built_deal (Fresh name) = true
-is_built_deal (Swap name numbers) = true
-is_built_deal (Cancel name numbers) = true
-is_built_deal (PutBack name first) = true
-is_built_deal (Forward slot entry) = false
-is_built_deal (Return slot) = false
-
--- the program has this kind so far: the beginning, what is kept of the node's own, what the deals of a peer
--- make but for a replaced claim, the own deals with their replies, probes with their outcomes, discards, and a
--- choice of buddies
-abbrev pub is_built : Change → Bool
-is_built (Begun x) = true
-is_built (Kept x) = true
-is_built (Snapped x) = true
-is_built (Forgot x) = true
-is_built (TookFresh x) = true
-is_built (TookSwap x) = true
-is_built (LetGo x) = true
-is_built (LetGoBack x) = true
-is_built (Refused x) = true
-is_built (Proposed x) = is_built_deal x.what
-is_built (Settled x) = true
-is_built (Turned x) = true
-is_built (Asked x) = true
-is_built (Passed x) = true
-is_built (Failed x) = true
-is_built (Declined x) = true
-is_built (Discarded x) = true
-is_built (Chose x) = true
-is_built _ = false
 
 -- the three numbers of a peer
 abbrev pub held : List Change → ℕ → ℕ

@@ -10,7 +10,7 @@ use Rattle.psb_model.specs.State.{State, row, in_key, is_held}
 use Rattle.psb_model.specs.Heads.{body_of}
 use Rattle.psb_model.specs.Grammar.{fits_widths}
 use Rattle.psb_model.specs.Conditions.{peer_of, is_begun, is_direct}
-use Rattle.psb_model.specs.History.{state, is_lawful, is_built}
+use Rattle.psb_model.specs.History.{state, is_lawful}
 
 -- the name whose sealed bytes the change carries
 abbrev pub brings : Change → Option (List ℕ)
@@ -105,11 +105,9 @@ abbrev pub brings_right : Change → Bool
 brings_right c = elim (brings c) [ None ↦ no_slots (slots_given c) || body_is_right c | Some name ↦ body_is_right c ]
 
 -- The histories of nodes: each change is in the grammar and its condition holds after those before
--- it; what it says fits its fields; its kind is one that the program has; and the bodies that the
--- history needs are there.
+-- it; what it says fits its fields; and the bodies that the history needs are there.
 pub record IsValid (h : List Change) : Type 0 where
   pub lawful : is_lawful h ≡ true
   pub fit : list_all fits_widths h ≡ true
-  pub built : list_all is_built h ≡ true
   pub some : 1 ≤ length h
   pub sound : is_sound h ≡ true

@@ -7,7 +7,7 @@ ghost use Rattle.psb_model.specs.Effects.{after};
 ghost use Rattle.psb_ledger.specs.View.{HasBegunRoom};
 
 use super::Ledger;
-use super::accounts::first_accounts;
+use accounts::first_accounts;
 use psb_bytes::{Bytes, Memory};
 use psb_settings::{Settings, SettingsError, read_settings};
 use std::alloc::Global;

@@ -11,7 +11,7 @@ ghost use Rattle.psb_model.specs.Effects.{after, chosen_after};
 ghost use Rattle.peer_account.specs.View.{named_row};
 
 use super::Ledger;
-use super::accounts::is_peer;
+use accounts::is_peer;
 use buddy_select::{comes_before, distinct_peers, have_samples};
 use peer_account::Account;
 use psb_bytes::{Memory, PeerId};

@@ -15,12 +15,13 @@ ghost use Rattle.peer_lists.specs.Entries.{in_order};
 ghost use Rattle.own_chunks.specs.OwnList.{own_key};
 ghost use Rattle.discard_policy.specs.Grades.{every};
 ghost use Rattle.discard_policy.specs.Drawing.{drawn};
-ghost use Rattle.psb_ledger.specs.View.{HasListRoom};
+ghost use Rattle.accounts.specs.Freeing.{row_at, have_out_room, free_room};
+ghost use Rattle.psb_ledger.specs.View.{HasLeavingRoom};
 ghost use Rattle.psb_ledger.specs.Moves.{MayDiscard};
 ghost use Rattle.psb_ledger.specs.Discarding.{untied};
 
 use super::Ledger;
-use super::accounts::place_in;
+use accounts::{free, place_in};
 use discard_policy::{Picker, grade};
 use own_chunks::Own;
 use peer_account::Account;
@@ -118,9 +119,11 @@ impl Ledger {
     /// The place of the peer's account, with what its discard needs.
     fn place_to_discard(&self, x: &Discarded) -> usize
         requires grammar { in_grammar (change.Discarded x.now) ≡ true }
-        requires room { HasListRoom self.now x.now.peer (2 * length x.now.objects) 0 }
+        requires room { HasLeavingRoom self.now x.now.peer (2 * length x.now.objects) x.now.objects }
         requires may { allowed self.now.state (change.Discarded x.now) ≡ true }
         ensures place { Some result ≡ position (λ v. v.id == x.now.peer) self.now.accounts }
+        ensures within { result < length self.now.accounts }
+        ensures loose { have_out_room (free_room (row_at self.now.accounts result).ins x.now.objects) self.now.accounts ≡ true }
         ensures may { MayDiscard self.now x.now result }
     {
         let _changes = self.changes;
@@ -129,13 +132,14 @@ impl Ledger {
 
     pub(super) fn discard(&mut self, x: &Discarded)
         requires grammar { in_grammar (change.Discarded x.now) ≡ true }
-        requires room { HasListRoom self.old x.now.peer (2 * length x.now.objects) 0 }
+        requires room { HasLeavingRoom self.old x.now.peer (2 * length x.now.objects) x.now.objects }
         requires few { self.old.state.changes < 2 ^ 62 }
         requires may { allowed self.old.state (change.Discarded x.now) ≡ true }
         ensures { self.new.state ≡ after self.old.state (change.Discarded x.now) }
     {
         let at = self.place_to_discard(x);
         let changes = self.changes;
+        free(&mut self.accounts, at, x.objects.as_slice());
         let account = &mut self.accounts[at];
         let before = account.held();
         let rows = account.debts().len();

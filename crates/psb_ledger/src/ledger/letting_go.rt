@@ -10,7 +10,7 @@ ghost use Rattle.psb_ledger.specs.View.{HasListRoom};
 ghost use Rattle.psb_ledger.specs.Moves.{MayLetGo, MayPutBack};
 
 use super::Ledger;
-use super::accounts::place_in;
+use accounts::place_in;
 use psb_model::{LetGo, LetGoBack};
 
 impl Ledger {

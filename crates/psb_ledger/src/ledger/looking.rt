@@ -8,8 +8,8 @@ ghost use Rattle.psb_model.specs.Conditions.{each_slot};
 ghost use Rattle.peer_lists.specs.Entries.{in_order};
 ghost use Rattle.own_chunks.specs.OwnList.{own_key, known_len, next_own};
 
-use super::accounts::{account_of, holds, is_peer, ties_in};
 use super::{Balance, Ledger};
+use accounts::{account_of, holds, is_peer, ties_in};
 use own_chunks::has_number;
 use peer_account::Account;
 use psb_bytes::{Digest, Object, PeerId};

@@ -9,7 +9,7 @@ ghost use Rattle.psb_ledger.specs.View.{HasDebtRoom, HasRoom};
 ghost use Rattle.psb_ledger.specs.Moves.{MayAsk, MayPass, MayFail, MayDecline};
 
 use super::Ledger;
-use super::accounts::{place_in, place_of};
+use accounts::{place_in, place_of};
 use psb_bytes::{Memory, PeerId};
 use psb_model::{Asked, Declined, Failed, Passed};
 

@@ -2,21 +2,21 @@
 
 ghost use Rattle.std.specs.Prelude.{◌≡◌, ◌+◌, ◌<◌, ◌^◌, ◌==◌, ◌&&◌, true, is_none, Some, position};
 ghost use Rattle.psb_model.specs.declared.change.Change.TheVariants.{Proposed};
-ghost use Rattle.psb_model.specs.declared.deals.DealWhat.TheVariants.{Fresh, Swap, Cancel, PutBack};
+ghost use Rattle.psb_model.specs.declared.deals.DealWhat.TheVariants.{Fresh, Swap, Cancel, PutBack, Forward, Return};
 ghost use Rattle.psb_model.specs.Words.{all_of};
 ghost use Rattle.psb_model.specs.Grammar.{what_in_grammar};
-ghost use Rattle.psb_model.specs.Conditions.{allowed, place_tests, propose_tests};
+ghost use Rattle.psb_model.specs.Conditions.{allowed, may_forward, place_tests, propose_tests};
 ghost use Rattle.psb_model.specs.Effects.{after};
-ghost use Rattle.psb_model.specs.History.{is_built_deal};
 ghost use Rattle.peer_account.specs.OwnDeals.{drawn};
 ghost use Rattle.psb_ledger.specs.Moves.{proposing, may_take_back, MayPropose};
 
 use super::Ledger;
-use super::accounts::place_in;
 use super::taking::capacity_of;
+use accounts::place_in;
 use peer_account::Account;
-use psb_bytes::{Digest, Object, PeerId};
+use psb_bytes::{Digest, Object, PeerId, Seat};
 use psb_model::{Deal, DealWhat, may_issue};
+use psb_settings::Settings;
 
 /// Whether the deal is the next own one, and none is pending.
 fn is_next_own(account: &Account, deal: u64) -> bool
@@ -32,6 +32,16 @@ fn drawn(account: &Account, what: &DealWhat) -> u32
     match what {
         DealWhat::PutBack { name, .. } => account.units_out(&Object::Chunk(*name)),
         _ => 0,
+    }
+}
+
+/// Whether the settings let claims be forwarded.
+fn forwards(settings: &Option<Settings>) -> bool
+    ensures { result ≡ may_forward settings.now }
+{
+    match settings {
+        None => false,
+        Some(x) => x.forward,
     }
 }
 
@@ -95,21 +105,44 @@ impl Ledger {
             && may_issue(self.issued, self.row(peer).units_out(&Object::Chunk(*name)))
     }
 
+    /// An own claim on the peer may give its place to a claim that is held for another.
+    fn allows_forward(&self, peer: PeerId, slot: u32, entry: &Seat) -> bool
+        ensures { result ≡ all_of (propose_tests self.now.state peer (Forward slot entry.now)) }
+    {
+        let row = self.row(peer);
+        let mine = Object::Slot(slot);
+        forwards(&self.settings)
+            && row.is_own(&mine)
+            && !row.ties_out(&mine)
+            && self.row(entry.peer).is_direct(entry.slot)
+            && !self.tied_in(entry.peer, &Object::Slot(entry.slot))
+    }
+
+    /// A loose slot on the peer may get the own claim again.
+    fn allows_return(&self, peer: PeerId, slot: u32) -> bool
+        ensures { result ≡ all_of (propose_tests self.now.state peer (Return slot)) }
+    {
+        let row = self.row(peer);
+        let mine = Object::Slot(slot);
+        row.is_loose(&mine) && !row.ties_out(&mine)
+    }
+
     /// The objects of the deal stand where it needs them, and no deal ties them.
     fn allows_deal(&self, peer: PeerId, what: &DealWhat) -> bool
-        ensures { result ≡ (is_built_deal what.now && all_of (propose_tests self.now.state peer what.now)) }
+        ensures { result ≡ all_of (propose_tests self.now.state peer what.now) }
     {
         match what {
             DealWhat::Fresh { name } => self.allows_fresh(peer, name),
             DealWhat::Swap { name, slots } => self.allows_swap(peer, name, slots.as_slice()),
             DealWhat::Cancel { name, slots } => self.allows_cancel(peer, name, slots.as_slice()),
             DealWhat::PutBack { name, first } => self.allows_put_back(peer, name, *first),
-            _ => false,
+            DealWhat::Forward { slot, entry } => self.allows_forward(peer, *slot, entry),
+            DealWhat::Return { slot } => self.allows_return(peer, *slot),
         }
     }
 
     pub(super) fn may_propose(&self, peer: PeerId, deal: u64, what: &DealWhat) -> bool
-        ensures { result ≡ (is_built_deal what.now && allowed self.now.state (Proposed (record { peer = peer; deal = deal; what = what.now }))) }
+        ensures { result ≡ allowed self.now.state (Proposed (record { peer = peer; deal = deal; what = what.now })) }
     {
         self.is_open(peer) && is_next_own(self.row(peer), deal) && self.allows_deal(peer, what)
     }
@@ -117,7 +150,7 @@ impl Ledger {
     /// The place of the peer's account, with what its deal needs.
     fn place_to_propose(&self, peer: PeerId, deal: &Deal) -> usize
         requires grammar { what_in_grammar deal.now.what ≡ true }
-        requires may { (is_built_deal deal.now.what && allowed self.now.state (proposing peer deal.now)) ≡ true }
+        requires may { allowed self.now.state (proposing peer deal.now) ≡ true }
         ensures place { Some result ≡ position (λ v. v.id == peer) self.now.accounts }
         ensures may { MayPropose self.now peer deal.now result }
     {
@@ -128,7 +161,7 @@ impl Ledger {
     pub(super) fn propose(&mut self, peer: PeerId, deal: Deal)
         requires grammar { what_in_grammar deal.what ≡ true }
         requires few { self.old.state.changes < 2 ^ 62 }
-        requires may { (is_built_deal deal.what && allowed self.old.state (proposing peer deal)) ≡ true }
+        requires may { allowed self.old.state (proposing peer deal) ≡ true }
         ensures { self.new.state ≡ after self.old.state (proposing peer deal) }
     {
         let at = self.place_to_propose(peer, &deal);

@@ -8,7 +8,7 @@ ghost use Rattle.psb_ledger.specs.View.{HasListRoom};
 ghost use Rattle.psb_ledger.specs.Moves.{MayRefuse};
 
 use super::Ledger;
-use super::accounts::{place_in, place_of};
+use accounts::{place_in, place_of};
 use psb_bytes::{Memory, PeerId};
 use psb_model::Refused;
 

@@ -5,11 +5,13 @@ ghost use Rattle.psb_model.specs.Grammar.{in_grammar};
 ghost use Rattle.psb_model.specs.declared.change.Change.TheVariants as change;
 ghost use Rattle.psb_model.specs.Conditions.{allowed};
 ghost use Rattle.psb_model.specs.Effects.{after};
-ghost use Rattle.psb_ledger.specs.View.{HasListRoom};
+ghost use Rattle.psb_model.specs.Words.{slots};
+ghost use Rattle.accounts.specs.Freeing.{row_at, have_out_room, free_room};
+ghost use Rattle.psb_ledger.specs.View.{HasLeavingRoom};
 ghost use Rattle.psb_ledger.specs.Moves.{MaySwap};
 
 use super::Ledger;
-use super::accounts::place_in;
+use accounts::{free_slots, place_in};
 use psb_bytes::units_of;
 use psb_model::TookSwap;
 
@@ -26,9 +28,11 @@ impl Ledger {
     /// The place of the peer's account, with what its chunk needs.
     fn place_to_swap(&self, x: &TookSwap) -> usize
         requires grammar { in_grammar (change.TookSwap x.now) ≡ true }
-        requires room { HasListRoom self.now x.now.peer (1 + 2 * length x.now.slots) 0 }
+        requires room { HasLeavingRoom self.now x.now.peer (1 + 2 * length x.now.slots) (slots x.now.slots) }
         requires may { allowed self.now.state (change.TookSwap x.now) ≡ true }
         ensures place { Some result ≡ position (λ v. v.id == x.now.peer) self.now.accounts }
+        ensures within { result < length self.now.accounts }
+        ensures loose { have_out_room (free_room (row_at self.now.accounts result).ins (slots x.now.slots)) self.now.accounts ≡ true }
         ensures may { MaySwap self.now x.now result }
     {
         let _changes = self.changes;
@@ -37,7 +41,7 @@ impl Ledger {
 
     pub(super) fn take_swap(&mut self, x: &TookSwap)
         requires grammar { in_grammar (change.TookSwap x.now) ≡ true }
-        requires room { HasListRoom self.old x.now.peer (1 + 2 * length x.now.slots) 0 }
+        requires room { HasLeavingRoom self.old x.now.peer (1 + 2 * length x.now.slots) (slots x.now.slots) }
         requires few { self.old.state.changes < 2 ^ 62 }
         requires may { allowed self.old.state (change.TookSwap x.now) ≡ true }
         ensures { self.new.state ≡ after self.old.state (change.TookSwap x.now) }
@@ -45,6 +49,7 @@ impl Ledger {
         let at = self.place_to_swap(x);
         let u = units_of(x.len);
         let changes = self.changes;
+        free_slots(&mut self.accounts, at, x.slots.as_slice());
         let account = &mut self.accounts[at];
         account.take_swap(x, u, changes);
         self.changes = changes + 1;

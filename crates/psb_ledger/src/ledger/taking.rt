@@ -11,7 +11,7 @@ ghost use Rattle.psb_ledger.specs.View.{HasListRoom};
 ghost use Rattle.psb_ledger.specs.Moves.{MayTake};
 
 use super::Ledger;
-use super::accounts::place_in;
+use accounts::place_in;
 use peer_account::Measure;
 use psb_bytes::units_of;
 use psb_model::TookFresh;

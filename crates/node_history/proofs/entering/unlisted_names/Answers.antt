@@ -2,7 +2,7 @@ use Rattle.std.proofs.Common.{◌≡◌, ◌<◌, ℕ, List, Option, None, sym, 
 use Rattle.psb_model.specs.declared.entries.OwnEntry.{OwnEntry}
 use Rattle.psb_model.specs.Words.{name_listed}
 use Rattle.psb_model.specs.Effects.{kept_lists, kept_without}
-use Rattle.node_history.proofs.OwnWalks.{own_left}
+use Rattle.own_chunks.proofs.Walks.{own_left}
 use Rattle.node_history.proofs.Walking.{WalkedTo, walk_on, walk_done, walk_falls}
 use Rattle.node_history.proofs.entering.unlisted_names.Goals as goal
 

@@ -1,4 +1,4 @@
-use Rattle.node_history.proofs.OwnWalks.{own_left}
+use Rattle.own_chunks.proofs.Walks.{own_left}
 use Rattle.node_history.proofs.Walking.{WalkedTo}
 use Rattle.psb_model.specs.Effects.{kept_lists, kept_without}
 use Rattle.node_history.proofs.entering.unlisted_names.Given as goal

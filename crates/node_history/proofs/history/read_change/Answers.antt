@@ -1,5 +1,4 @@
-use Rattle.std.proofs.Common.{◌≡◌, List, ℕ, sym, subst, true, false, IfSome, slice_get, rules}
-use Rattle.psb_model.specs.History.{is_built}
+use Rattle.std.proofs.Common.{◌≡◌, List, ℕ, sym, subst, false, IfSome, slice_get, rules}
 use Rattle.psb_model.specs.declared.change.Change.{Change}
 use Rattle.change_codec.specs.Records.{IsRecord}
 use Rattle.node_history.specs.Readable.{IsReadable}
@@ -18,7 +17,7 @@ returns-else-has_body-clause-record_is g c =
 
 pub returns-else-has_body-clause-not_node : goal.returns-else-has_body-clause-not_node
 returns-else-has_body-clause-not_node g c = λ is_not tells es shows.
-    given_up (λ head body. (d : Change) → IsReadable d → is_built d ≡ true → ¬ IsRecord d head body) (slice_get es c.args.number) c.deref-else-has_body.result.now _
+    given_up (λ head body. (d : Change) → IsReadable d → ¬ IsRecord d head body) (slice_get es c.args.number) c.deref-else-has_body.result.now _
     (subst (λ (l : List ℕ). IfSome (slice_get es c.args.number) (λ e. l ≡ e.head)) (sym c.deref-else-has_body.ensures.value) (c.in_ok-head.ensures.bytes tells es shows))
     (g.met.L.Log.holds_bodies c.args.log.now es shows.bytes c.args.number shows.reads)
     (let kept : g.L.Log.keeps_body c.args.log.now c.args.number ≡ false = search rules in kept)

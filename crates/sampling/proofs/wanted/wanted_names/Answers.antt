@@ -1,7 +1,8 @@
 use Rattle.std.proofs.Common.{◌≡◌, ◌<◌, Option, None, sym, ◌∙◌, subst, rules}
 use Rattle.psb_model.specs.declared.entries.OwnEntry.{OwnEntry}
 use Rattle.psb_model.specs.Effects.{kept_lists}
-use Rattle.sampling.proofs.Walking.{ListsTo, own_left, lists_on, lists_done, lists_falls}
+use Rattle.own_chunks.proofs.Walks.{own_left}
+use Rattle.sampling.proofs.Walking.{ListsTo, lists_on, lists_done, lists_falls}
 use Rattle.sampling.proofs.wanted.wanted_names.Goals as goal
 
 pub loop-next-smaller : goal.loop-next-smaller

@@ -1,5 +1,6 @@
 use Rattle.psb_model.specs.Effects.{kept_lists}
-use Rattle.sampling.proofs.Walking.{ListsTo, own_left}
+use Rattle.own_chunks.proofs.Walks.{own_left}
+use Rattle.sampling.proofs.Walking.{ListsTo}
 use Rattle.sampling.proofs.wanted.wanted_names.Given as goal
 
 abbrev pub invariant-loop-next : goal.invariant-loop-next

@@ -1,7 +1,6 @@
 use Rattle.std.proofs.Common.{◌≡◌, inl, inr, ◌≤◌, ℕ, ◌+◌, true, refl, sym, ◌∙◌, ap, subst, arith, rules}
-use Rattle.std.proofs.lemmas.Bool.{and_parts, false≢true}
+use Rattle.std.proofs.lemmas.Bool.{false≢true}
 use Rattle.psb_model.specs.State.{State}
-use Rattle.psb_model.specs.Conditions.{allowed}
 use Rattle.psb_ledger.specs.View.{LedgerView}
 use Rattle.node_history.specs.Names.{Enters, Enter}
 use Rattle.node_history.proofs.Entered.{names_same, is_new, enters_after, there_same, there_grown}
@@ -18,21 +17,20 @@ pub ready-requires-clause-own : goal.ready-requires-clause-own
 ready-requires-clause-own g c =
     let n = c.requires.known.0 in
     let k = c.requires.known.1 in
-    (subst IsOrdered (sym k.ledger) (ordered_state n.history k.valid.lawful k.valid.built)).own
+    (subst IsOrdered (sym k.ledger) (ordered_state n.history k.valid.lawful)).own
 
 pub ready-requires-clause-kept : goal.ready-requires-clause-kept
 ready-requires-clause-kept g c =
     let n = c.requires.known.0 in
     let k = c.requires.known.1 in
-    (subst IsOrdered (sym k.ledger) (ordered_state n.history k.valid.lawful k.valid.built)).kept
+    (subst IsOrdered (sym k.ledger) (ordered_state n.history k.valid.lawful)).kept
 
 pub enter-requires-clause-fresh : goal.enter-requires-clause-fresh
 enter-requires-clause-fresh g c =
     let n = c.requires.known.0 in
     let k = c.requires.known.1 in
     let node = c.args.self.now in
-    is_new c.ready.new.names n.history node.ledger.state c.args.change c.in_ok-entering.entering (names_same node.names c.ready.new.names n.history (c.ready.ensures.names) k.names) k.ledger c.requires.may.read
-    (and_parts _ (allowed node.ledger.state c.args.change) c.requires.may.may).1 c.in_ok-entering.ensures.entering
+    is_new c.ready.new.names n.history node.ledger.state c.args.change c.in_ok-entering.entering (names_same node.names c.ready.new.names n.history (c.ready.ensures.names) k.names) k.ledger c.requires.may.may c.in_ok-entering.ensures.entering
 
 pub returns-in_err-entering-clause-kept : goal.returns-in_err-entering-clause-kept
 returns-in_err-entering-clause-kept g c = on_err c.from_residual-in_err-entering.result _ (λ whole. (
@@ -53,7 +51,7 @@ pub returns-clause-step : goal.returns-clause-step
 returns-clause-step g c = λ n m k step.
     let grown : c.apply.new.self.state ≡ after c.args.self.now.ledger.state c.args.change = search rules in
     let issued : c.apply.new.self.state.issued ≤ c.issue_to.new.claims.issued = omega (arith, c.issued.ensures, ap (λ (v : LedgerView). v.state.issued) c.ledger-left.ensures, c.issue_to.ensures.issued) in
-    let entered = enters_after c.args.self.now.ledger.state c.apply.new.self.state n.history c.ready.new.names c.enter.new.names c.args.change c.in_ok-entering.entering c.in_ok-number.number k.ledger k.valid.lawful k.valid.built c.requires.may.read grown c.in_ok-entering.ensures.entering (subst (λ (v : LedgerView). Enter v.state.own c.ready.new.names c.enter.new.names c.in_ok-entering.entering c.in_ok-number.number) c.ledger-left.ensures c.enter.ensures) in
+    let entered = enters_after c.args.self.now.ledger.state c.apply.new.self.state n.history c.ready.new.names c.enter.new.names c.args.change c.in_ok-entering.entering c.in_ok-number.number k.ledger k.valid.lawful grown c.in_ok-entering.ensures.entering (subst (λ (v : LedgerView). Enter v.state.own c.ready.new.names c.enter.new.names c.in_ok-entering.entering c.in_ok-number.number) c.ledger-left.ensures c.enter.ensures) in
     step_knows c.args.self.now _ n m c.args.change c.ready.new.names c.in_ok-number.number c.requires.may k step grown (c.ready.ensures.names) entered
     (c.requires.counted.changes ∙ sym c.ready.ensures.size ∙ sym c.in_ok-number.ensures.number) (record { peers = refl; seed = c.issue_to.ensures.seed; issued = c.issue_to.ensures.stay }) issued (search rules) c.note_question.ensures
 
@@ -65,10 +63,10 @@ returns-clause-counted g c =
     let here : c.in_ok-number.number ≡ g.L.Log.size node.log = c.in_ok-number.ensures.number ∙ c.ready.ensures.size in
     let n = c.requires.known.0 in
     let k = c.requires.known.1 in
-    let entered = enters_after node.ledger.state c.apply.new.self.state n.history c.ready.new.names c.enter.new.names c.args.change c.in_ok-entering.entering c.in_ok-number.number k.ledger k.valid.lawful k.valid.built c.requires.may.read grown c.in_ok-entering.ensures.entering (subst (λ (v : LedgerView). Enter v.state.own c.ready.new.names c.enter.new.names c.in_ok-entering.entering c.in_ok-number.number) c.ledger-left.ensures c.enter.ensures) in
+    let entered = enters_after node.ledger.state c.apply.new.self.state n.history c.ready.new.names c.enter.new.names c.args.change c.in_ok-entering.entering c.in_ok-number.number k.ledger k.valid.lawful grown c.in_ok-entering.ensures.entering (subst (λ (v : LedgerView). Enter v.state.own c.ready.new.names c.enter.new.names c.in_ok-entering.entering c.in_ok-number.number) c.ledger-left.ensures c.enter.ensures) in
     record {
       changes = omega (arith, ap (λ (s : State). s.changes) grown, c.requires.counted.changes, long);
-      bodies = there_grown node.ledger.state c.ready.new.names c.enter.new.names c.args.change (g.L.Log.size node.log) (g.L.Log.size c.append.new.self) (g.L.Log.keeps_body node.log) (g.L.Log.keeps_body c.append.new.self) c.requires.may.read long
+      bodies = there_grown node.ledger.state c.ready.new.names c.enter.new.names c.args.change (g.L.Log.size node.log) (g.L.Log.size c.append.new.self) (g.L.Log.keeps_body node.log) (g.L.Log.keeps_body c.append.new.self) long
           (λ i lt. c.in_ok-number.ensures.bodies i (omega (arith, lt, c.ready.ensures.size)) ∙ c.ready.ensures.bodies i)
           (subst (λ (i : ℕ). g.L.Log.keeps_body c.append.new.self i ≡ true) c.ready.ensures.size c.in_ok-number.ensures.there)
           (there_same node.names c.ready.new.names (g.L.Log.size node.log) (g.L.Log.keeps_body node.log) (c.ready.ensures.names) c.requires.counted.bodies)

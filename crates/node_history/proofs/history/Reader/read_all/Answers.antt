@@ -1,9 +1,8 @@
-use Rattle.std.proofs.Common.{◌≡◌, ⊎_elim, ◌<◌, ℕ, List, Err, true, ◌&&◌, IfSome, slice_get, refl, ◌∙◌, subst, arith, rules}
+use Rattle.std.proofs.Common.{◌≡◌, ⊎_elim, ◌<◌, ℕ, List, Err, true, IfSome, slice_get, refl, ◌∙◌, subst, arith, rules}
 use Rattle.psb_station.specs.Span.{Shows, Tells_bytes}
 use Rattle.psb_station.proofs.Spans.{keeps_same, keeps_then}
 use Rattle.node_journal.specs.Entry.{Entry}
 use Rattle.psb_model.specs.Conditions.{allowed}
-use Rattle.psb_model.specs.History.{is_built}
 use Rattle.psb_model.specs.Needed.{brings_name, body_is_right}
 use Rattle.psb_model.specs.declared.change.Change.{Change}
 use Rattle.change_codec.specs.Records.{IsRecord}
@@ -40,7 +39,7 @@ returns-in_err-read_next-clause-not_node g c = λ is.
     let inside : n < g.L.Log.size log = omega (arith, c.loop-number-test.true, c.count-count.ensures.value) in
     let failed : c.read_next.result ≡ Err NotNode = search rules in
     no_change (g.L.Log.holds log) (g.L.Log.size log) (g.L.Log.keeps_body log) n t c.loop-number.self.lacking first now later (g.met.L.Log.holds_size log) inside c.loop-number.invariant.keeps c.read_next.ensures.keeps
-    (subst (λ (l : g.row.L.Denot). Tells_bytes later → (es : List Entry) → Shows (g.L.Log.holds l es) now → IfSome (slice_get es n) (λ e. (d : Change) → IsReadable d → is_built d && allowed t.ledger.state d ≡ true → ¬ IsRecord d e.head e.body)) c.loop-number.invariant.log (c.read_next.ensures.not_node failed))
+    (subst (λ (l : g.row.L.Denot). Tells_bytes later → (es : List Entry) → Shows (g.L.Log.holds l es) now → IfSome (slice_get es n) (λ e. (d : Change) → IsReadable d → allowed t.ledger.state d ≡ true → ¬ IsRecord d e.head e.body)) c.loop-number.invariant.log (c.read_next.ensures.not_node failed))
     c.loop-number.invariant.reading
 
 pub loop-number-preserved : goal.loop-number-preserved

@@ -1,9 +1,6 @@
 use Rattle.std.proofs.Common.{◌∙◌, ap}
-use Rattle.std.proofs.lemmas.Bool.{and_parts}
 use Rattle.psb_model.specs.State.{State}
-use Rattle.psb_model.specs.Conditions.{allowed}
 use Rattle.psb_model.specs.Effects.{after}
-use Rattle.psb_model.specs.History.{is_built}
 use Rattle.node_history.proofs.Entered.{names_same, is_new, enters_after}
 use Rattle.node_history.proofs.history.Reader.take_up.Goals as goal
 
@@ -13,8 +10,7 @@ enter-requires-clause-fresh c =
     let old = c.args.self.now.tables in
     let room = c.prepare.new.self.tables.names in
     let e = c.in_ok-entering.ensures in
-    let two = and_parts (is_built c.args.change) (allowed old.ledger.state c.args.change) e.allowed in
-    is_new room a.history old.ledger.state c.args.change c.in_ok-entering.entering (names_same old.names room a.history c.prepare.ensures.names a.names) a.state_is two.0 two.1 e.entering
+    is_new room a.history old.ledger.state c.args.change c.in_ok-entering.entering (names_same old.names room a.history c.prepare.ensures.names a.names) a.state_is e.allowed e.entering
 
 pub returns-clause-taken : goal.returns-clause-taken
 returns-clause-taken c =
@@ -22,13 +18,12 @@ returns-clause-taken c =
     let old = c.args.self.now.tables in
     let room = c.prepare.new.self.tables.names in
     let e = c.in_ok-entering.ensures in
-    let two = and_parts (is_built c.args.change) (allowed old.ledger.state c.args.change) e.allowed in
     let grown = c.apply.ensures ∙ ap (λ (s : State). after s c.args.change) c.prepare.ensures.state in
     record {
       may = e.allowed;
       grown = grown;
       between = room;
       same = c.prepare.ensures.names;
-      enters = enters_after old.ledger.state _ a.history room _ c.args.change c.in_ok-entering.entering c.args.number a.state_is a.lawful a.built two.0 grown e.entering c.enter.ensures;
+      enters = enters_after old.ledger.state _ a.history room _ c.args.change c.in_ok-entering.entering c.args.number a.state_is a.lawful grown e.entering c.enter.ensures;
       lacks = e.noted;
     }

@@ -2,7 +2,7 @@ use Rattle.std.proofs.Common.{◌≤◌, ◌∙◌, ap, sym, subst}
 use Rattle.std.specs.Prelude.{◌==◌, position}
 use Rattle.peer_account.specs.View.{AccountView}
 use Rattle.psb_ledger.specs.View.{LedgerView, HasTurnRoom}
-use Rattle.psb_ledger.proofs.Places.{on_ok_both}
+use Rattle.accounts.proofs.Places.{on_ok_both}
 use Rattle.psb_ledger.proofs.Rooms.{roomier, no_room}
 use Rattle.psb_ledger.proofs.ledger.Ledger.make_room_to_turn.Goals as goal
 

@@ -1,10 +1,7 @@
 -- What the condition says of the account.
 use Rattle.std.proofs.Common.{subst, ap, ◌∙◌, arith}
 use Rattle.std.specs.Prelude.{◌==◌, position}
-use Rattle.std.proofs.lemmas.Bool.{and_parts}
 use Rattle.peer_account.specs.View.{AccountView}
-use Rattle.psb_model.specs.Conditions.{allowed}
-use Rattle.psb_model.specs.History.{is_built_deal}
 use Rattle.psb_ledger.specs.View.{LedgerView}
 use Rattle.psb_ledger.specs.Moves.{proposing, MayPropose}
 use Rattle.psb_ledger.proofs.Peers.{at_place}
@@ -20,6 +17,5 @@ returns-clause-may c =
     let d = c.args.deal.now in
     let i = c.place_in.result in
     let l = c.self.inside in
-    let both = and_parts (is_built_deal d.what) (allowed c.args.self.now.state (proposing p d)) c.requires.may in
     let place = c.place_in.ensures ∙ ap (position (λ (v : AccountView). v.id == p)) c.as_slice.ensures.value in
-    subst (λ (v : LedgerView). MayPropose v p d i) c.self.view_is (λ r here. can_propose l p d i r (at_place l c.args.self.now (proposing p d) p i r c.self.view_is c.self.invariant.sound place both.1 c.requires.grammar here) both.0 c.self.invariant.own_part.own_ordered (omega arith))
+    subst (λ (v : LedgerView). MayPropose v p d i) c.self.view_is (λ r here. can_propose l p d i r (at_place l c.args.self.now (proposing p d) p i r c.self.view_is c.self.invariant.sound place c.requires.may c.requires.grammar here) c.self.invariant.own_part.own_ordered (omega arith))

@@ -4,7 +4,7 @@ use Rattle.std.specs.Prelude.{◌==◌, find}
 use Rattle.psb_model.specs.State.{row}
 use Rattle.peer_account.specs.View.{AccountView}
 use Rattle.psb_ledger.specs.View.{LedgerView}
-use Rattle.psb_ledger.proofs.Places.{row_of, row_found}
+use Rattle.accounts.proofs.Places.{row_of, row_found}
 use Rattle.psb_ledger.proofs.ledger.Ledger.row.Goals as goal
 
 pub returns-in-None : goal.returns-in-None

@@ -1,0 +1,10 @@
+//! The accounts of all peers, and what a change of one of them does to the states of entries in others.
+#![tactic(auto)]
+
+mod freeing;
+mod table;
+
+pub use freeing::{
+    free, free_one, free_slots, reserve_outs, room_for_objects, room_for_slots, set_states,
+};
+pub use table::{account_of, first_accounts, holds, is_peer, place_in, place_of, ties_in};

@@ -1,6 +1,0 @@
-use Rattle.std.proofs.Common.{◌∙◌}
-use Rattle.psb_ledger.proofs.Places.{peers_in}
-use Rattle.psb_ledger.proofs.ledger.accounts.is_peer.Goals as goal
-
-pub returns : goal.returns
-returns c = c.has_account.ensures ∙ peers_in c.args.accounts.now c.args.peer
