@@ -15,38 +15,43 @@ use Rattle.psb_model.specs.Words.{name_eq}
 use Rattle.wire_codec.specs.Laws.{IsFrame}
 use Rattle.wire_codec.specs.declared.frame.Frame.TheVariants.{Store, Accepted}
 use Rattle.wire_codec.proofs.FrameLaws.{reads}
+use Rattle.psb_machine.specs.Letters.{Letter, keys_of, all_spelled}
+use Rattle.psb_machine.specs.Volatile.{of_peer}
 use Rattle.psb_machine.specs.Deals.{StoreFresh, claims_joined, standing, judged_at}
+use Rattle.psb_machine.specs.Messages.{Deals, Replies}
 use Rattle.psb_machine.specs.Settling.{Accepts}
 use Rattle.psb_machine.specs.Replies.{claims_from, reply}
-use Rattle.psb_machine.specs.Proposals.{Asking, proposed_at}
+use Rattle.psb_machine.specs.Proposals.{Offer, proposed_at}
 use Rattle.psb_machine.specs.Sampling.{questions}
-use Rattle.psb_machine.specs.Machine.{Situation, Input, Datagram, Tick, Reaction, keys_of, tells_again, by_standing, on_deal, on_reply, asks_too, by_asking, asking_by, asking_at, choice_at, by_choice, on_tick, react, fresh, settled}
-use Rattle.psb_machine.proofs.Steps.{react-read, on_read-deal, on_read-reply}
+use Rattle.psb_machine.specs.Machine.{Situation, Input, Datagram, Tick, Reaction, answers_with, by_standing, on_deal, on_reply, sends, then_by, by_choice, choice_at, by_offer, offer_by, offer_at, ruled, on_tick, react, fresh, settled}
+use Rattle.psb_machine.proofs.Causes.{react-message}
 use Rattle.model_laws.specs.Worked.{bytes_from, plain_ticket}
 use Rattle.agreement.specs.Worlds.{Party, Give, Stop, moved}
 use Rattle.agreement.specs.Worked.{chunk, name, pair_key, node_settings, chosen, asked, placed, quiet_yet, took, store, accepted, first_node, opened, comes, StepsWorked, EndWorked, ToldWorked, WorkedWorld}
 use Rattle.agreement.specs.Agreeing.{placing_by, last_placed}
-use Rattle.agreement.proofs.ClaimFits.{accepted_fits}
+use Rattle.psb_machine.proofs.ClaimFits.{accepted_fits}
 use Rattle.agreement.proofs.Chunks.{last_end, first_of_two}
 
 -- ---- an input whose reaction is known
 
-given : (n : Party) (x : Input) (r : Reaction) → react n.now x ≡ r → moved n (Give x) ≡ record { now = settled n.now r; sent = n.sent ++ r.letters }
-given n x r is = ap (λ (q : Reaction). record { now = settled n.now q; sent = n.sent ++ q.letters }) is
+given : (n : Party) (x : Input) (s : Settings) (r : Reaction) → (state n.now.history).settings ≡ Some s → react n.now x ≡ r → moved n (Give x) ≡ record { now = settled n.now r; sent = n.sent ++ all_spelled (Some s) r.letters }
+given n x s r has is =
+    ap (λ (q : Reaction). record { now = settled n.now q; sent = n.sent ++ all_spelled (state n.now.history).settings q.letters }) is
+    ∙ ap (λ (o : Option Settings). record { now = settled n.now r; sent = n.sent ++ all_spelled o r.letters }) has
 
 -- ---- what the letters are read as
 
 -- node 1's, by node 2
-asks_it : (n : Situation) → (state n.history).settings ≡ Some (node_settings 2 1) → IsFrame 1 2 1 (Store name [] chunk) → react n (Datagram store.1) ≡ on_deal (node_settings 2 1) n 1 1 pair_key (StoreFresh name chunk)
+asks_it : (n : Situation) → (state n.history).settings ≡ Some (node_settings 2 1) → IsFrame 1 2 1 (Store name [] chunk) → react n (Datagram store.1) ≡ on_deal (node_settings 2 1) n (record { peer = 1; number = 1 }) (StoreFresh name chunk)
 asks_it n has fit =
-    react-read n store.1 (node_settings 2 1) has
-    ∙ on_read-deal (node_settings 2 1) n _ 1 1 pair_key (Store name [] chunk) (StoreFresh name chunk) (reads 2 (keys_of (node_settings 2 1)) pair_key 1 1 (Store name [] chunk) fit refl) refl refl
+    react-message n store.1 (node_settings 2 1) (record { from = 1; number = 1; frame = Store name [] chunk }) (Deals (StoreFresh name chunk)) has
+    (reads 2 (keys_of (node_settings 2 1)) pair_key 1 1 (Store name [] chunk) fit refl) refl
 
 -- node 2's, by node 1
-answers_it : (n : Situation) → (state n.history).settings ≡ Some (node_settings 1 2) → react n (Datagram accepted.1) ≡ on_reply n 2 1 (Accepts (claims_from (bytes_from 2 32) 0 1))
+answers_it : (n : Situation) → (state n.history).settings ≡ Some (node_settings 1 2) → react n (Datagram accepted.1) ≡ on_reply n (record { peer = 2; number = 1 }) (Accepts (claims_from (bytes_from 2 32) 0 1))
 answers_it n has =
-    react-read n accepted.1 (node_settings 1 2) has
-    ∙ on_read-reply (node_settings 1 2) n _ 2 1 pair_key (Accepted (claims_from (bytes_from 2 32) 0 1)) (Accepts (claims_from (bytes_from 2 32) 0 1)) (reads 1 (keys_of (node_settings 1 2)) pair_key 2 1 (Accepted (claims_from (bytes_from 2 32) 0 1)) fit refl) refl refl
+    react-message n accepted.1 (node_settings 1 2) (record { from = 2; number = 1; frame = Accepted (claims_from (bytes_from 2 32) 0 1) }) (Replies (Accepts (claims_from (bytes_from 2 32) 0 1))) has
+    (reads 1 (keys_of (node_settings 1 2)) pair_key 2 1 (Accepted (claims_from (bytes_from 2 32) 0 1)) fit refl) refl
   where
     fit : IsFrame 2 1 1 (Accepted (claims_from (bytes_from 2 32) 0 1))
     fit = record { frame_fits = accepted_fits (bytes_from 2 32) 0 1 (omega arith) (omega arith); from_fits = omega arith; to_fits = omega arith; number_fits = omega arith }
@@ -57,13 +62,13 @@ store_fits = record { frame_fits = refl; from_fits = omega arith; to_fits = omeg
 -- ---- ticks
 
 -- a tick at node 1, where no choice is to be made and nothing is asked besides
-ticks : (n : Situation) (a : Asking) → (state n.history).settings ≡ Some (node_settings 1 2) → choice_at (node_settings 1 2) n 2 ≡ None → questions (node_settings 1 2) (state n.history) 2 pair_key ≡ [] → asking_at (node_settings 1 2) n 2 ≡ Some a
-    → react n (Tick 2) ≡ asks_too [] (by_asking (node_settings 1 2) n 2 pair_key (Some a))
-ticks n a has none no_question asking =
-    ap (λ (o : Option Settings). on_tick o n 2) has
-    ∙ ap (λ (o : Option (List Candidate)). by_choice (node_settings 1 2) n 2 pair_key o) none
-    ∙ ap (λ (ls : List (ℕ × List ℕ)). asks_too ls (by_asking (node_settings 1 2) n 2 pair_key (asking_at (node_settings 1 2) n 2))) no_question
-    ∙ ap (λ (o : Option Asking). asks_too [] (by_asking (node_settings 1 2) n 2 pair_key o)) asking
+ticks : (n : Situation) (o : Offer) → (state n.history).settings ≡ Some (node_settings 1 2) → choice_at (node_settings 1 2) n 2 ≡ None → questions (state n.history) 2 ≡ [] → offer_at (node_settings 1 2) n 2 ≡ Some o
+    → react n (Tick 2) ≡ ruled 2 (then_by (by_offer (node_settings 1 2) n.history 2 (Some o)) (sends []))
+ticks n o has none no_question offer =
+    ap (λ (s : Option Settings). ruled 2 (on_tick s n 2)) has
+    ∙ ap (λ (c : Option (List Candidate)). ruled 2 (then_by (by_choice c) (then_by (by_offer (node_settings 1 2) n.history 2 (offer_at (node_settings 1 2) n 2)) (sends (questions (state n.history) 2))))) none
+    ∙ ap (λ (ls : List Letter). ruled 2 (then_by (by_offer (node_settings 1 2) n.history 2 (offer_at (node_settings 1 2) n 2)) (sends ls))) no_question
+    ∙ ap (λ (a : Option Offer). ruled 2 (then_by (by_offer (node_settings 1 2) n.history 2 a) (sends []))) offer
 
 -- what node 1 is when it has begun, and the changes after that
 begun_state : (text : List ℕ) → settings_of text ≡ Some (node_settings 1 2) → after nothing_yet (Begun (record { body = Some text })) ≡ record nothing_yet { changes = 1; settings = Some (node_settings 1 2); rows = (2, blank) ∷ [] }
@@ -79,10 +84,10 @@ record IsLast (h : List Change) : Type 0 where
   change : (row (state h) 1).last.change ≡ 1
 
 -- is answered again by the change that is noted
-answers_last : (n : Situation) → IsLast n.history → on_deal (node_settings 2 1) n 1 1 pair_key (StoreFresh name chunk) ≡ tells_again (option_map (reply (node_settings 2 1) pair_key 1 1) (slice_get n.history 1)) n.volatile
+answers_last : (n : Situation) → IsLast n.history → on_deal (node_settings 2 1) n (record { peer = 1; number = 1 }) (StoreFresh name chunk) ≡ answers_with (option_map (reply (node_settings 2 1) 1 1) (slice_get n.history 1))
 answers_last n last =
-    ap (λ (k : ℕ). by_standing (standing k 1) (node_settings 2 1) n 1 1 pair_key (judged_at (node_settings 2 1) n.history 1 1 (StoreFresh name chunk))) last.number
-    ∙ ap (λ (k : ℕ). tells_again (option_map (reply (node_settings 2 1) pair_key 1 1) (slice_get n.history k)) n.volatile) last.change
+    ap (λ (k : ℕ). by_standing (standing k 1) (node_settings 2 1) n (record { peer = 1; number = 1 }) (judged_at (node_settings 2 1) n.history 1 1 (StoreFresh name chunk))) last.number
+    ∙ ap (λ (k : ℕ). answers_with (option_map (reply (node_settings 2 1) 1 1) (slice_get n.history k))) last.change
 
 -- ---- the steps
 
@@ -93,22 +98,22 @@ steps_worked text other says others is =
     let taken = fresh (took other) in
     let last : IsLast (took other) = record { number = rw others refl; change = rw others refl } in
     let pending : (row (state (chosen text)) 2).pending ≡ None = rw says refl in
-    let next : asking_at (node_settings 1 2) first 2 ≡ Some (record { deal = record { number = 1; what = Fresh name }; is_new = true }) =
-    ap (λ (o : Option OwnDeal). asking_by (node_settings 1 2) first 2 o) pending ∙ ap (λ (s : State). proposed_at (node_settings 1 2) (state_from s later_changes) 2) (begun_state text says) in
+    let next : offer_at (node_settings 1 2) first 2 ≡ Some (record { deal = record { number = 1; what = Fresh name }; is_new = true }) =
+    ap (λ (o : Option OwnDeal). offer_by (node_settings 1 2) (state first.history) 2 (of_peer first.volatile 2) o) pending ∙ ap (λ (s : State). proposed_at (node_settings 1 2) (state_from s later_changes) 2 []) (begun_state text says) in
     let proposes = ticks first (record { deal = record { number = 1; what = Fresh name }; is_new = true }) says (rw says refl) (rw says refl) next in
     let repeats = ticks again (record { deal = record { number = 1; what = Fresh name }; is_new = false }) says (rw says refl) (rw says refl) (rw says refl) in
     let tells = asks_it taken others store_fits ∙ answers_last taken last in
     record {
-      asks = given (opened (chosen text) []) (Tick 2) _ proposes;
-      asks_again = given (first_node (asked text) 1 (store ∷ [])) (Tick 2) _ repeats;
+      asks = given (opened (chosen text) []) (Tick 2) (node_settings 1 2) _ says proposes;
+      asks_again = given (first_node (asked text) 1 (store ∷ [])) (Tick 2) (node_settings 1 2) _ says repeats;
       forgets = ap (λ r. record { now = fresh (settled again r).history; sent = store ∷ [] }) repeats;
       restarts = refl;
       stops_before = refl;
       stops_after = ap (λ r. record { now = fresh (settled (fresh (quiet_yet other)) r).history; sent = [] }) (asks_it (fresh (quiet_yet other)) others store_fits) ∙ rw (others, is) refl;
-      answers = given (opened (took other) []) (Datagram store.1) _ tells;
-      answers_again = given (opened (took other) (accepted ∷ [])) (Datagram store.1) _ tells;
-      settles = given (first_node (asked text) 2 (store ∷ store ∷ [])) (Datagram accepted.1) _ (answers_it (first_node (asked text) 2 []).now (rw says refl)) ∙ rw says refl;
-      settles_once = given (first_node (placed text) 2 (store ∷ store ∷ [])) (Datagram accepted.1) _ (answers_it (first_node (placed text) 2 []).now (rw says refl)) ∙ rw says refl;
+      answers = given (opened (took other) []) (Datagram store.1) (node_settings 2 1) _ others tells;
+      answers_again = given (opened (took other) (accepted ∷ [])) (Datagram store.1) (node_settings 2 1) _ others tells;
+      settles = given (first_node (asked text) 2 (store ∷ store ∷ [])) (Datagram accepted.1) (node_settings 1 2) _ (rw says refl) (answers_it (first_node (asked text) 2 []).now (rw says refl)) ∙ rw says refl;
+      settles_once = given (first_node (placed text) 2 (store ∷ store ∷ [])) (Datagram accepted.1) (node_settings 1 2) _ (rw says refl) (answers_it (first_node (placed text) 2 []).now (rw says refl)) ∙ rw says refl;
     }
 
 told_worked : (text other : List ℕ) → settings_of text ≡ Some (node_settings 1 2) → settings_of other ≡ Some (node_settings 2 1) → ToldWorked text other

@@ -1,5 +1,4 @@
 pub mod Worlds
-pub mod Finding
 pub mod Agreeing
 pub mod Laws
 pub mod Letters

@@ -17,9 +17,10 @@ use Rattle.wire_codec.specs.Frames.{datagram}
 use Rattle.wire_codec.specs.declared.frame.Frame.TheVariants.{Store, Accepted}
 use Rattle.psb_machine.specs.Deals.{claims_joined}
 use Rattle.psb_machine.specs.Replies.{claims_from}
-use Rattle.psb_machine.specs.Machine.{Volatile, Datagram, Tick, empty, fresh}
+use Rattle.psb_machine.specs.Volatile.{Volatile}
+use Rattle.psb_machine.specs.Machine.{Datagram, Tick, fresh}
 use Rattle.agreement.specs.Worlds.{Party, Move, Give, Stop, Restart, World, Step, moved, run}
-use Rattle.agreement.specs.Finding.{answer, proposed}
+use Rattle.model_laws.specs.Finding.{answer, proposed}
 use Rattle.agreement.specs.Agreeing.{last_placed}
 
 -- the chunk, and the name that the standard gives as its SHA-256
@@ -99,7 +100,7 @@ accepted = (1, datagram pair_key 2 1 1 (Accepted (claims_from (bytes_from 2 32) 
 
 -- a node with this history, the clock of its peer and these letters
 abbrev pub clock_of : ℕ → ℕ → Volatile
-clock_of peer ticks = record empty { clocks = (peer, ticks) ∷ [] }
+clock_of peer ticks = record { peers = (peer, record { clock = ticks; wait = 0; sample = None }) ∷ [] }
 
 abbrev pub first_node : List Change → ℕ → List (ℕ × List ℕ) → Party
 first_node h ticks sent = record { now = record { history = h; volatile = clock_of 2 ticks }; sent = sent }

@@ -15,3 +15,9 @@ pub mod Linking
 pub mod Forwards
 pub mod Linked
 pub mod Following
+pub mod Growth
+pub mod Along
+pub mod Noted
+pub mod Numbered
+pub mod HeldBytes
+pub mod Lengths

@@ -1,4 +1,7 @@
 pub mod Moved
-pub mod Worked
 pub mod Links
 pub mod Following
+pub mod Finding
+pub mod Numbers
+pub mod Held
+pub mod Worked

@@ -3,8 +3,10 @@
 
 ghost use Rattle.psb_model.specs.History.{AllExplained, Balances, StaysWithin};
 ghost use Rattle.model_laws.specs.Following.{AllDiscardsFollow, AllOutcomesOnce};
+ghost use Rattle.model_laws.specs.Held.{AllHeldHaveBytes};
 ghost use Rattle.model_laws.specs.Links.{AllAreLinked};
 ghost use Rattle.model_laws.specs.Moved.{AllAreSums};
+ghost use Rattle.model_laws.specs.Numbers.{AllAreNumbered};
 ghost use Rattle.model_laws.specs.Worked.{WorkedRows};
 
 /// After every lawful history and for every peer: what the node answers for to the peer is what it
@@ -52,6 +54,20 @@ pub fn discards_law()
 /// among them. So no Asked has two outcomes.
 pub fn outcomes_law()
     ensures { AllOutcomesOnce }
+{}
+
+/// In every lawful history and for every peer: the deals of the peer that were answered have the numbers
+/// 1, 2, 3 and so on, in turn and each once, and so have the own deals that were proposed to it. Each of
+/// those ended in its turn, but the last one where that is pending; and what is pending is what was
+/// proposed under its number.
+pub fn numbers_law()
+    ensures { AllAreNumbered }
+{}
+
+/// In every valid history: the bytes of each name that is held are those of the last change that brought
+/// it, which has them; and their SHA-256 is the name.
+pub fn held_law()
+    ensures { AllHeldHaveBytes }
 {}
 
 /// Worked histories are lawful, with these numbers and states: a chunk that was taken, a slot that

@@ -1,5 +1,5 @@
 -- What a node asks before it chooses, and its choice, are the machine's.
-use Rattle.std.proofs.Common.{◌≡◌, ℕ, ◌*◌, ◌<◌, ◌≤◌, ◌^◌, Bool, true, false, ◌==◌, List, [], ◌∷◌, ◌++◌, length, map, is_some, option_map, option_to_list, Option, Some, None, IfSome, refl, sym, ◌∙◌, ap, subst, arith, length-append}
+use Rattle.std.proofs.Common.{◌≡◌, ℕ, ◌*◌, ◌<◌, ◌≤◌, ◌^◌, Bool, true, false, not, cond, ◌==◌, List, [], ◌∷◌, ◌++◌, length, map, is_some, option_map, option_to_list, Option, Some, None, IfSome, refl, sym, ◌∙◌, ap, subst, arith, length-append}
 use Rattle.std.specs.Int.{to_be_bytes, w32}
 use Rattle.std.specs.List.{flat_map, list_all}
 use Rattle.std.specs.Prelude.{nat_le, if◌then◌else◌}
@@ -13,49 +13,54 @@ use Rattle.psb_model.specs.Heads.{head_of, candidate}
 use Rattle.psb_model.specs.History.{state}
 use Rattle.psb_model.specs.Needed.{IsValid}
 use Rattle.psb_model.specs.declared.change.Change.{Change}
+use Rattle.psb_model.specs.declared.change.Change.TheVariants.{Proposed}
 use Rattle.psb_model.specs.declared.entries.Candidate.{Candidate}
 use Rattle.model_laws.proofs.Bodies.{valid_snoc}
 use Rattle.buddy_select.specs.Order.{put_all}
 use Rattle.buddy_select.proofs.Ordering.{put_long}
 use Rattle.wire_codec.specs.Frames.{key_in, datagram}
 use Rattle.wire_codec.specs.declared.frame.Frame.TheVariants.{Ask}
-use Rattle.psb_machine.specs.Sampling.{sample_in, candidate_by, candidates, is_last, is_ready, choice_among, choice_by, open_question, question_to, questions}
+use Rattle.psb_machine.specs.Sampling.{candidate_by, candidates, is_last, is_ready, choice_among, choice_by, open_question, question_to, questions}
 use Rattle.psb_machine.specs.declared.question.Question.{Question}
 use Rattle.psb_model.proofs.ByObject.{by_cases}
-use Rattle.psb_machine.specs.Machine.{Situation, Volatile, Tick, Reaction as MachineReaction, key_of_row, clock_in, later, react, asks_too, by_asking, asking_at, choice_at, choice_of, by_choice}
+use Rattle.psb_machine.specs.Letters.{Letter as MachineLetter, key_of_row, spelled, all_spelled}
+use Rattle.psb_machine.specs.Proposals.{Offer}
+use Rattle.psb_machine.specs.Volatile.{Volatile, PeerState as MachineState, of_peer, later}
+use Rattle.psb_machine.specs.Machine.{Situation, Rule, sends, then_by, choice_at, choice_of, by_choice, by_offer, offer_at, on_tick, sample_of as machine_sample}
 use Rattle.psb_machine.proofs.Choosing.{choice_cases, choice_may, found_asked, found_distinct, found_few, open_is}
 use Rattle.psb_machine.proofs.Peers.{settings_read}
-use Rattle.node_core.specs.declared.clocks.Clock.{Clock}
+use Rattle.node_core.specs.declared.peer_state.PeerState.{PeerState}
 use Rattle.node_core.specs.declared.node.Node.{Node}
-use Rattle.node_core.specs.declared.outcome.Letter.{Letter}
+use Rattle.node_letters.specs.declared.letter.Letter.{Letter}
+use Rattle.node_letters.specs.Letters.{letters_of}
+use Rattle.node_letters.specs.Peers.{PeersView, peers_of}
 use Rattle.node_core.specs.declared.reaction.Reaction.{Reaction}
-use Rattle.node_core.specs.Choosing.{candidates_in, besides, AsksDeal, AsksDealSo, AsksBesides}
-use Rattle.node_core.specs.Clocks.{clock_of, sample_of, KnowsClocks}
-use Rattle.node_core.specs.Letters.{letters_of}
+use Rattle.node_core.specs.PeerStates.{state_of, sample_of, KnowsStates}
+use Rattle.node_core.specs.Ticking.{IsRule, Follows, FollowsSo, OffersDeal, OffersDealSo}
 use Rattle.node_core.specs.Making.{MayMake}
-use Rattle.node_core.specs.Peers.{PeersView, peers_of}
-use Rattle.node_core.specs.Reacting.{told_by, Reacts, ReactsSo, MayCome, IsSame}
+use Rattle.node_core.specs.Reacting.{MayCome, IsSame}
 use Rattle.node_core.specs.Stored.{Knows}
-use Rattle.node_core.proofs.Ticks.{has_key, undropped}
+use Rattle.node_core.proofs.Heard.{none_spelled}
+use Rattle.node_core.proofs.Ticking.{has_key, spelled_with}
 use Rattle.node_core.proofs.Committing.{same_knows}
 
 -- ---- the candidates
 
--- what is kept beside a peer's clock is the machine's sample of it
-kept_sample : (clocks : List Clock) (keys : List (ℕ × List ℕ)) (v : Volatile) (p : ℕ) → KnowsClocks clocks keys v → is_some (key_in keys p) ≡ true → sample_of clocks p ≡ sample_in v.samples p
-kept_sample clocks keys v p k keyed = by_clock (clock_of clocks p) refl
+-- what is kept of a peer has the machine's sample of it
+kept_sample : (states : List PeerState) (keys : List (ℕ × List ℕ)) (v : Volatile) (p : ℕ) → KnowsStates states keys v → is_some (key_in keys p) ≡ true → sample_of states p ≡ machine_sample v p
+kept_sample states keys v p k keyed = by_state (state_of states p) refl
   where
-    by_clock : (o : Option Clock) → clock_of clocks p ≡ o → sample_of clocks p ≡ sample_in v.samples p
-    by_clock None is = absurd (false≢true (sym (ap (λ (o : Option Clock). is_some o) is) ∙ k.there p ∙ keyed))
-    by_clock (Some x) is = rw is (sym (k.are p x is).sample)
+    by_state : (o : Option PeerState) → state_of states p ≡ o → sample_of states p ≡ machine_sample v p
+    by_state None is = absurd (false≢true (sym (ap (λ (o : Option PeerState). is_some o) is) ∙ k.there p ∙ keyed))
+    by_state (Some x) is = rw is (sym (ap (λ (y : MachineState). y.sample) (k.are p x is)))
 
 -- so are the candidates, where each of the peers has a key
-found_same : (rows : List PeerRow) (clocks : List Clock) (keys : List (ℕ × List ℕ)) (v : Volatile) (n : ℕ) → KnowsClocks clocks keys v → list_all (λ (r : PeerRow). is_some (key_in keys r.id)) rows ≡ true → candidates_in rows clocks n ≡ candidates rows v.samples n
-found_same [] clocks keys v n k keyed = refl
-found_same (r ∷ rs) clocks keys v n k keyed =
+found_same : (rows : List PeerRow) (states : List PeerState) (keys : List (ℕ × List ℕ)) (v : Volatile) (n : ℕ) → KnowsStates states keys v → list_all (λ (r : PeerRow). is_some (key_in keys r.id)) rows ≡ true → candidates rows (sample_of states) n ≡ candidates rows (machine_sample v) n
+found_same [] states keys v n k keyed = refl
+found_same (r ∷ rs) states keys v n k keyed =
     let two = and_parts (is_some (key_in keys r.id)) (list_all (λ (x : PeerRow). is_some (key_in keys x.id)) rs) keyed in
-    ap (λ (o : Option ℕ). candidate_by r n o ++ candidates_in rs clocks n) (kept_sample clocks keys v r.id k two.0)
-    ∙ ap (λ (l : List Candidate). candidate_by r n (sample_in v.samples r.id) ++ l) (found_same rs clocks keys v n k two.1)
+    ap (λ (o : Option ℕ). candidate_by r n o ++ candidates rs (sample_of states) n) (kept_sample states keys v r.id k two.0)
+    ∙ ap (λ (l : List Candidate). candidate_by r n (machine_sample v r.id) ++ l) (found_same rs states keys v n k two.1)
 
 key_too : (x : PeerRow) (xs : List PeerRow) (q : ℕ) → is_some (key_in (map key_of_row xs) q) ≡ true → is_some (key_in (map key_of_row (x ∷ xs)) q) ≡ true
 key_too x xs q h = by_cases (x.id == q) (λ k. rw k refl) (λ k. rw k h)
@@ -74,16 +79,16 @@ all_keyed (x ∷ xs) = rw (eq-eqb x.id x.id refl) (keys_too x xs xs (all_keyed x
 -- ---- the choice
 
 -- by what a node keeps
-abbrev pub choice_in : List PeerRow → List Clock → ℕ → Option Question → ℕ → Option (List Candidate)
-choice_in rows clocks ticks o p = if is_last rows p then elim o [ None ↦ None | Some q ↦ choice_among (length rows) ticks (candidates_in rows clocks (length q.names)) ] else None
+abbrev pub choice_in : List PeerRow → List PeerState → ℕ → Option Question → ℕ → Option (List Candidate)
+choice_in rows states ticks o p = if is_last rows p then elim o [ None ↦ None | Some q ↦ choice_among (length rows) ticks (candidates rows (sample_of states) (length q.names)) ] else None
 
-choice_same : (rows : List PeerRow) (clocks : List Clock) (v : Volatile) (ticks : ℕ) (o : Option Question) (p : ℕ) → KnowsClocks clocks (map key_of_row rows) v
-    → choice_in rows clocks ticks o p ≡ (if is_last rows p then choice_by rows v.samples ticks o else None)
-choice_same rows clocks v ticks o p k = ap (λ (c : Option (List Candidate)). if is_last rows p then c else None) (by_question o)
+choice_same : (rows : List PeerRow) (states : List PeerState) (v : Volatile) (ticks : ℕ) (o : Option Question) (p : ℕ) → KnowsStates states (map key_of_row rows) v
+    → choice_in rows states ticks o p ≡ (if is_last rows p then choice_by rows (machine_sample v) ticks o else None)
+choice_same rows states v ticks o p k = ap (λ (c : Option (List Candidate)). if is_last rows p then c else None) (by_question o)
   where
-    by_question : (o : Option Question) → elim o [ None ↦ None | Some q ↦ choice_among (length rows) ticks (candidates_in rows clocks (length q.names)) ] ≡ choice_by rows v.samples ticks o
+    by_question : (o : Option Question) → elim o [ None ↦ None | Some q ↦ choice_among (length rows) ticks (candidates rows (sample_of states) (length q.names)) ] ≡ choice_by rows (machine_sample v) ticks o
     by_question None = refl
-    by_question (Some q) = ap (choice_among (length rows) ticks) (found_same rows clocks (map key_of_row rows) v (length q.names) k (all_keyed rows))
+    by_question (Some q) = ap (choice_among (length rows) ticks) (found_same rows states (map key_of_row rows) v (length q.names) k (all_keyed rows))
 
 -- what a node knows of its settings
 peers_here : {L : Type 0} (node : Node L) (n : Situation) (settings : Settings) → Knows node n → (state n.history).settings ≡ Some settings → node.peers ≡ peers_of settings
@@ -91,47 +96,47 @@ peers_here node n settings k present =
     let same : k.settings.settings ≡ settings = same_some (state n.history).settings k.settings.settings settings k.settings.present present in
     k.settings.peers ∙ ap peers_of same
 
-pub choice_node : {L : Type 0} (node : Node L) (n : Situation) (settings : Settings) (p : ℕ) (x : Clock) → Knows node n → (state n.history).settings ≡ Some settings → clock_of node.clocks.items p ≡ Some x
-    → choice_in node.peers.rows node.clocks.items (later x.ticks) (open_question node.ledger.state) p ≡ choice_at settings n p
+pub choice_node : {L : Type 0} (node : Node L) (n : Situation) (settings : Settings) (p : ℕ) (x : PeerState) → Knows node n → (state n.history).settings ≡ Some settings → state_of node.states.items p ≡ Some x
+    → choice_in node.peers.rows node.states.items (later x.clock) (open_question node.ledger.state) p ≡ choice_at settings n p
 choice_node node n settings p x k present found =
     let here = peers_here node n settings k present in
-    let clocks = subst (λ (w : PeersView). KnowsClocks node.clocks.items w.keys n.volatile) here k.clocks in
-    ap (λ (w : PeersView). choice_in w.rows node.clocks.items (later x.ticks) (open_question node.ledger.state) p) here
-    ∙ ap (λ (s : State). choice_in settings.peers node.clocks.items (later x.ticks) (open_question s) p) k.ledger
-    ∙ ap (λ (c : ℕ). choice_in settings.peers node.clocks.items (later c) (open_question (state n.history)) p) (sym (k.clocks.are p x found).ticks)
-    ∙ choice_same settings.peers node.clocks.items n.volatile (later (clock_in n.volatile.clocks p)) (open_question (state n.history)) p clocks
+    let states = subst (λ (w : PeersView). KnowsStates node.states.items w.keys n.volatile) here k.states in
+    ap (λ (w : PeersView). choice_in w.rows node.states.items (later x.clock) (open_question node.ledger.state) p) here
+    ∙ ap (λ (s : State). choice_in settings.peers node.states.items (later x.clock) (open_question s) p) k.ledger
+    ∙ ap (λ (c : ℕ). choice_in settings.peers node.states.items (later c) (open_question (state n.history)) p) (ap (λ (y : MachineState). y.clock) (sym (k.states.are p x found)))
+    ∙ choice_same settings.peers node.states.items n.volatile (later (of_peer n.volatile p).clock) (open_question (state n.history)) p states
 
 -- where nothing is asked, or it is no tick of the last peer
-pub none_open : (rows : List PeerRow) (clocks : List Clock) (ticks : ℕ) (o : Option Question) (p : ℕ) → o ≡ None → choice_in rows clocks ticks o p ≡ None
-none_open rows clocks ticks o p is = by_cases (is_last rows p) (λ k. rw (k, is) refl) (λ k. rw k refl)
+pub none_open : (rows : List PeerRow) (states : List PeerState) (ticks : ℕ) (o : Option Question) (p : ℕ) → o ≡ None → choice_in rows states ticks o p ≡ None
+none_open rows states ticks o p is = by_cases (is_last rows p) (λ k. rw (k, is) refl) (λ k. rw k refl)
 
-pub none_last : (rows : List PeerRow) (clocks : List Clock) (ticks : ℕ) (o : Option Question) (p : ℕ) → is_last rows p ≡ false → choice_in rows clocks ticks o p ≡ None
-none_last rows clocks ticks o p k = rw k refl
+pub none_last : (rows : List PeerRow) (states : List PeerState) (ticks : ℕ) (o : Option Question) (p : ℕ) → is_last rows p ≡ false → choice_in rows states ticks o p ≡ None
+none_last rows states ticks o p k = rw k refl
 
 -- where it is one
-pub ready_last : (rows : List PeerRow) (clocks : List Clock) (ticks : ℕ) (o : Option Question) (p : ℕ) (q : Question) → o ≡ Some q → is_last rows p ≡ true → choice_in rows clocks ticks o p ≡ choice_among (length rows) ticks (candidates_in rows clocks (length q.names))
-ready_last rows clocks ticks o p q is k = rw (k, is) refl
+pub ready_last : (rows : List PeerRow) (states : List PeerState) (ticks : ℕ) (o : Option Question) (p : ℕ) (q : Question) → o ≡ Some q → is_last rows p ≡ true → choice_in rows states ticks o p ≡ choice_among (length rows) ticks (candidates rows (sample_of states) (length q.names))
+ready_last rows states ticks o p q is k = rw (k, is) refl
 
 -- what it is then
 among_is : (peers ticks : ℕ) (found : List Candidate) (b : Bool) → is_ready peers (length found) ticks ≡ b → choice_among peers ticks found ≡ (if b then Some (put_all [] found) else None)
 among_is peers ticks found b is = ap (λ (t : Bool). if t then Some (put_all [] found) else None) is
 
-pub chooses : {L : Type 0} (node : Node L) (n : Situation) (settings : Settings) (p : ℕ) (x : Clock) (q : Question) → Knows node n → (state n.history).settings ≡ Some settings → clock_of node.clocks.items p ≡ Some x → open_question node.ledger.state ≡ Some q → is_last node.peers.rows p ≡ true
-    → is_ready (length node.peers.rows) (length (candidates_in node.peers.rows node.clocks.items (length q.names))) (later x.ticks) ≡ true → Some (choice_of (put_all [] (candidates_in node.peers.rows node.clocks.items (length q.names)))) ≡ option_map choice_of (choice_at settings n p)
+pub chooses : {L : Type 0} (node : Node L) (n : Situation) (settings : Settings) (p : ℕ) (x : PeerState) (q : Question) → Knows node n → (state n.history).settings ≡ Some settings → state_of node.states.items p ≡ Some x → open_question node.ledger.state ≡ Some q → is_last node.peers.rows p ≡ true
+    → is_ready (length node.peers.rows) (length (candidates node.peers.rows (sample_of node.states.items) (length q.names))) (later x.clock) ≡ true → Some (choice_of (put_all [] (candidates node.peers.rows (sample_of node.states.items) (length q.names)))) ≡ option_map choice_of (choice_at settings n p)
 chooses node n settings p x q k present found opened last ready =
-    let cs = candidates_in node.peers.rows node.clocks.items (length q.names) in
+    let cs = candidates node.peers.rows (sample_of node.states.items) (length q.names) in
     ap (option_map choice_of)
-    (sym (among_is (length node.peers.rows) (later x.ticks) cs true ready)
-    ∙ sym (ready_last node.peers.rows node.clocks.items (later x.ticks) (open_question node.ledger.state) p q opened last)
+    (sym (among_is (length node.peers.rows) (later x.clock) cs true ready)
+    ∙ sym (ready_last node.peers.rows node.states.items (later x.clock) (open_question node.ledger.state) p q opened last)
     ∙ choice_node node n settings p x k present found)
 
-pub chooses_none : {L : Type 0} (node : Node L) (n : Situation) (settings : Settings) (p : ℕ) (x : Clock) (q : Question) → Knows node n → (state n.history).settings ≡ Some settings → clock_of node.clocks.items p ≡ Some x → open_question node.ledger.state ≡ Some q → is_last node.peers.rows p ≡ true
-    → is_ready (length node.peers.rows) (length (candidates_in node.peers.rows node.clocks.items (length q.names))) (later x.ticks) ≡ false → None ≡ option_map choice_of (choice_at settings n p)
+pub chooses_none : {L : Type 0} (node : Node L) (n : Situation) (settings : Settings) (p : ℕ) (x : PeerState) (q : Question) → Knows node n → (state n.history).settings ≡ Some settings → state_of node.states.items p ≡ Some x → open_question node.ledger.state ≡ Some q → is_last node.peers.rows p ≡ true
+    → is_ready (length node.peers.rows) (length (candidates node.peers.rows (sample_of node.states.items) (length q.names))) (later x.clock) ≡ false → None ≡ option_map choice_of (choice_at settings n p)
 chooses_none node n settings p x q k present found opened last not_ready =
-    let cs = candidates_in node.peers.rows node.clocks.items (length q.names) in
+    let cs = candidates node.peers.rows (sample_of node.states.items) (length q.names) in
     ap (option_map choice_of)
-    (sym (among_is (length node.peers.rows) (later x.ticks) cs false not_ready)
-    ∙ sym (ready_last node.peers.rows node.clocks.items (later x.ticks) (open_question node.ledger.state) p q opened last)
+    (sym (among_is (length node.peers.rows) (later x.clock) cs false not_ready)
+    ∙ sym (ready_last node.peers.rows node.states.items (later x.clock) (open_question node.ledger.state) p q opened last)
     ∙ choice_node node n settings p x k present found)
 
 -- ---- what the choice needs
@@ -140,17 +145,17 @@ pub record CanChoose (found : List Candidate) : Type 0 where
   pub asked : list_all (λ (x : Candidate). nat_le 1 x.of) found ≡ true
   pub distinct : distinct_peers found ≡ true
 
-pub can_choose : {L : Type 0} (node : Node L) (n : Situation) (q : Question) → Knows node n → open_question node.ledger.state ≡ Some q → CanChoose (candidates_in node.peers.rows node.clocks.items (length q.names))
+pub can_choose : {L : Type 0} (node : Node L) (n : Situation) (q : Question) → Knows node n → open_question node.ledger.state ≡ Some q → CanChoose (candidates node.peers.rows (sample_of node.states.items) (length q.names))
 can_choose node n q k opened =
     let settings = k.settings.settings in
     let is = open_is node.ledger.state q opened in
-    let clocks = subst (λ (w : PeersView). KnowsClocks node.clocks.items w.keys n.volatile) k.settings.peers k.clocks in
-    let same : candidates_in node.peers.rows node.clocks.items (length q.names) ≡ candidates settings.peers n.volatile.samples (length q.names) =
-    ap (λ (w : PeersView). candidates_in w.rows node.clocks.items (length q.names)) k.settings.peers
-    ∙ found_same settings.peers node.clocks.items (map key_of_row settings.peers) n.volatile (length q.names) clocks (all_keyed settings.peers) in
+    let states = subst (λ (w : PeersView). KnowsStates node.states.items w.keys n.volatile) k.settings.peers k.states in
+    let same : candidates node.peers.rows (sample_of node.states.items) (length q.names) ≡ candidates settings.peers (machine_sample n.volatile) (length q.names) =
+    ap (λ (w : PeersView). candidates w.rows (sample_of node.states.items) (length q.names)) k.settings.peers
+    ∙ found_same settings.peers node.states.items (map key_of_row settings.peers) n.volatile (length q.names) states (all_keyed settings.peers) in
     subst CanChoose (sym same) (record {
-      asked = found_asked settings.peers n.volatile.samples (length q.names) is.some_names;
-      distinct = found_distinct settings.peers n.volatile.samples (length q.names) (settings_read n.history settings k.settings.present).distinct;
+      asked = found_asked settings.peers (machine_sample n.volatile) (length q.names) is.some_names;
+      distinct = found_distinct settings.peers (machine_sample n.volatile) (length q.names) (settings_read n.history settings k.settings.present).distinct;
     })
 
 -- ---- it may be made
@@ -170,8 +175,8 @@ chose_short cs few = omega (arith, few, candidates_long cs, length-append (to_be
 chosen_few : (settings : Settings) (n : Situation) (p : ℕ) (cs : List Candidate) → IsValid n.history → (state n.history).settings ≡ Some settings → choice_at settings n p ≡ Some cs → length cs ≤ 64
 chosen_few settings n p cs v present is =
     choice_cases (length cs ≤ 64) settings n p cs is (λ q f.
-    let found = candidates settings.peers n.volatile.samples (length q.names) in
-    omega (arith, ap length f.order, put_long found, found_few settings.peers n.volatile.samples (length q.names), (settings_read n.history settings present).few_peers))
+    let found = candidates settings.peers (machine_sample n.volatile) (length q.names) in
+    omega (arith, ap length f.order, put_long found, found_few settings.peers (machine_sample n.volatile) (length q.names), (settings_read n.history settings present).few_peers))
 
 pub record MayChoose (n : Situation) (c : Change) : Type 0 where
   pub make : MayMake (state n.history) c
@@ -208,123 +213,140 @@ choice_may_come node p c few known choice = (
         by_choice_made (choice_at settings n p) c (choice n settings k k.settings.present) (λ cs is same.
         subst (MayChoose n) (sym same) (may_choose settings n p cs k.valid k.settings.present (subst (λ (s : State). s.changes < 2 ^ 62) k.ledger few) is))
 
--- ---- what comes of a tick
-
--- a choice
-pub choice_reacts : {L : Type 0} (r : Reaction) (node : Node L) (n : Situation) (p : ℕ) (x : Clock) (c : Change) → Knows node n → clock_of node.clocks.items p ≡ Some x
-    → ((n : Situation) (settings : Settings) → Knows node n → (state n.history).settings ≡ Some settings → Some c ≡ option_map choice_of (choice_at settings n p))
-    → r.change ≡ Some c → r.sample ≡ None → r.dropped ≡ None → r.out ≡ [] → Reacts r (react n (Tick p))
-choice_reacts r node n p x c k found choice change sample dropped out =
-    let settings = k.settings.settings in
-    let h = has_key node n p x k found in
-    by_choice_made (choice_at settings n p) c (choice n settings k k.settings.present) (λ cs is same.
-    subst (λ (m : MachineReaction). Reacts r m) (sym (h.reaction ∙ ap (by_choice settings n p h.key) is)) (record {
-      change = change ∙ ap (λ (d : Change). Some d) same;
-      letters = ap letters_of out;
-      sample = ap (option_map told_by) sample;
-      dropped = dropped;
-    }))
-
--- no choice: what is asked for, and the question
-too_by : (letters : List (ℕ × List ℕ)) (m : MachineReaction) (o : Option Change) → m.grown ≡ o → asks_too letters m ≡ elim o [ None ↦ record m { letters = m.letters ++ letters } | Some c ↦ m ]
-too_by letters m o is = ap (λ (g : Option Change). elim g [ None ↦ record m { letters = m.letters ++ letters } | Some c ↦ m ]) is
-
-too_reacts : (r r' : Reaction) (m : MachineReaction) (letters : List (ℕ × List ℕ)) → Reacts r m → letters_of r'.out ≡ besides r.change (letters_of r.out) letters
-    → r'.change ≡ r.change → r'.sample ≡ r.sample → r'.dropped ≡ r.dropped → Reacts r' (asks_too letters m)
-too_reacts r r' m letters it given change sample dropped = by_grown m.grown refl
-  where
-    by_grown : (o : Option Change) → m.grown ≡ o → Reacts r' (asks_too letters m)
-    by_grown None is = subst (λ (q : MachineReaction). Reacts r' q) (sym (too_by letters m None is)) (record {
-      change = change ∙ it.change;
-      letters = given ∙ ap (λ (g : Option Change). besides g (letters_of r.out) letters) (it.change ∙ is) ∙ ap (λ (l : List (ℕ × List ℕ)). l ++ letters) it.letters;
-      sample = ap (option_map told_by) sample ∙ it.sample;
-      dropped = dropped ∙ it.dropped;
-    })
-    by_grown (Some c) is = subst (λ (q : MachineReaction). Reacts r' q) (sym (too_by letters m (Some c) is)) (record {
-      change = change ∙ it.change;
-      letters = given ∙ ap (λ (g : Option Change). besides g (letters_of r.out) letters) (it.change ∙ is) ∙ it.letters;
-      sample = ap (option_map told_by) sample ∙ it.sample;
-      dropped = dropped ∙ it.dropped;
-    })
-
--- where there is none, the machine makes none
-no_choice : (o : Option (List Candidate)) → None ≡ option_map choice_of o → o ≡ None
-no_choice None is = refl
-no_choice (Some cs) is = absurd (cc (is))
-
-pub deal_reacts : {L : Type 0} (r r' : Reaction) (node : Node L) (n : Situation) (p : ℕ) (x : Clock) → Knows node n → clock_of node.clocks.items p ≡ Some x
-    → ((n : Situation) (settings : Settings) → Knows node n → (state n.history).settings ≡ Some settings → None ≡ option_map choice_of (choice_at settings n p))
-    → AsksBesides node r p (letters_of r'.out) → r'.change ≡ r.change → r'.sample ≡ r.sample → r'.dropped ≡ r.dropped → AsksDeal r node n p → Reacts r' (react n (Tick p))
-deal_reacts r r' node n p x k found choice given change sample dropped asks =
-    let settings = k.settings.settings in
-    let h = has_key node n p x k found in
-    let none = no_choice (choice_at settings n p) (choice n settings k k.settings.present) in
-    subst (λ (m : MachineReaction). Reacts r' m) (sym (h.reaction ∙ ap (by_choice settings n p h.key) none))
-    (too_reacts r r' (by_asking settings n p h.key (asking_at settings n p)) (questions settings (state n.history) p h.key) (asks settings h.key k.settings.present h.here) (given n settings h.key k k.settings.present h.here) change sample dropped)
-
--- on every disk it is so but for the letters
-pub record IsSoFar (m : MachineReaction) (letters : List (ℕ × List ℕ)) : Type 0 where
-  pub grown : (asks_too letters m).grown ≡ m.grown
-  pub dropped : (asks_too letters m).dropped ≡ m.dropped
-
-so_far : (m : MachineReaction) (letters : List (ℕ × List ℕ)) → IsSoFar m letters
-so_far m letters = by_grown m.grown refl
-  where
-    by_grown : (o : Option Change) → m.grown ≡ o → IsSoFar m letters
-    by_grown None is = let e = too_by letters m None is in record { grown = ap (λ (q : MachineReaction). q.grown) e; dropped = ap (λ (q : MachineReaction). q.dropped) e }
-    by_grown (Some c) is = let e = too_by letters m (Some c) is in record { grown = ap (λ (q : MachineReaction). q.grown) e; dropped = ap (λ (q : MachineReaction). q.dropped) e }
-
-pub deal_reacts_so : {L : Type 0} (r r' : Reaction) (node : Node L) (n : Situation) (p : ℕ) (x : Clock) → Knows node n → clock_of node.clocks.items p ≡ Some x
-    → ((n : Situation) (settings : Settings) → Knows node n → (state n.history).settings ≡ Some settings → None ≡ option_map choice_of (choice_at settings n p))
-    → r'.change ≡ r.change → r'.dropped ≡ r.dropped → AsksDealSo r node n p → ReactsSo r' n (Tick p)
-deal_reacts_so r r' node n p x k found choice change dropped asks =
-    let settings = k.settings.settings in
-    let h = has_key node n p x k found in
-    let none = no_choice (choice_at settings n p) (choice n settings k k.settings.present) in
-    let m = by_asking settings n p h.key (asking_at settings n p) in
-    let letters = questions settings (state n.history) p h.key in
-    let here : react n (Tick p) ≡ asks_too letters m = h.reaction ∙ ap (by_choice settings n p h.key) none in
-    let it = asks settings h.key k.settings.present h.here in
-    let far = so_far m letters in
-    record {
-      change = λ certain. ap (λ (o : Option Change). is_some o) (change ∙ it.0 ∙ sym far.grown ∙ sym (ap (λ (q : MachineReaction). q.grown) here));
-      dropped = dropped ∙ it.1 ∙ sym (undropped settings n p h.key (asking_at settings n p)) ∙ sym far.dropped ∙ sym (ap (λ (q : MachineReaction). q.dropped) here);
-    }
-
--- ---- the question
-
--- one letter more, where no change is made
-pub none_besides : (o : Option Change) (l q given : List (ℕ × List ℕ)) → is_some o ≡ false → given ≡ l ++ q → given ≡ besides o l q
-none_besides None l q given none is = is
-none_besides (Some c) l q given none is = absurd (false≢true (sym none))
-
-pub made_besides : (o : Option Change) (l q : List (ℕ × List ℕ)) → is_some o ≡ true → l ≡ besides o l q
-made_besides None l q some = absurd (false≢true some)
-made_besides (Some c) l q some = refl
-
 letters_joined : (a b : List Letter) → letters_of (a ++ b) ≡ letters_of a ++ letters_of b
 letters_joined [] b = refl
 letters_joined (x ∷ xs) b = ap (λ (l : List (ℕ × List ℕ)). (x.to, x.frame) ∷ l) (letters_joined xs b)
 
-pub besides_joined : (out a b : List Letter) → out ≡ a ++ b → letters_of out ≡ letters_of a ++ letters_of b
-besides_joined out a b is = ap letters_of is ∙ letters_joined a b
+spelled_joined : (o : Option Settings) (a b : List MachineLetter) → all_spelled o (a ++ b) ≡ all_spelled o a ++ all_spelled o b
+spelled_joined None a b = refl
+spelled_joined (Some settings) a b = map_joined a
+  where
+    map_joined : (a : List MachineLetter) → map (spelled settings) (a ++ b) ≡ map (spelled settings) a ++ map (spelled settings) b
+    map_joined [] = refl
+    map_joined (x ∷ xs) = ap (λ (l : List (ℕ × List ℕ)). spelled settings x ∷ l) (map_joined xs)
+
+-- ---- what comes of a tick
+
+by_choice_none : (o : Option (List Candidate)) → None ≡ option_map choice_of o → o ≡ None
+by_choice_none None is = refl
+by_choice_none (Some cs) is = absurd (cc (is))
+
+-- a choice
+pub choice_follows : {L : Type 0} (r : Reaction) (node : Node L) (n : Situation) (p : ℕ) (x : PeerState) (c : Change) → Knows node n → state_of node.states.items p ≡ Some x
+    → ((n : Situation) (settings : Settings) → Knows node n → (state n.history).settings ≡ Some settings → Some c ≡ option_map choice_of (choice_at settings n p))
+    → r.change ≡ Some c → r.dropped ≡ None → r.out ≡ [] → Follows r n p
+choice_follows r node n p x c k found choice change dropped out =
+    let settings = k.settings.settings in
+    let h = has_key node n p x k found in
+    let next = then_by (by_offer settings n.history p (offer_at settings n p)) (sends (questions (state n.history) p)) in
+    by_choice_made (choice_at settings n p) c (choice n settings k k.settings.present) (λ cs is same.
+    subst (λ (m : Rule). IsRule r n m) (sym (h.follows ∙ ap (λ (o : Option (List Candidate)). then_by (by_choice o) next) is)) (record {
+      change = change ∙ ap (λ (d : Change). Some d) same;
+      letters = ap letters_of out ∙ none_spelled (state n.history).settings;
+      dropped = dropped;
+    }))
+
+-- no choice: the rule of the deal, and behind it the question
+no_choice : {L : Type 0} (node : Node L) (n : Situation) (p : ℕ) (x : PeerState) (k : Knows node n) → state_of node.states.items p ≡ Some x
+    → ((n : Situation) (settings : Settings) → Knows node n → (state n.history).settings ≡ Some settings → None ≡ option_map choice_of (choice_at settings n p))
+    → on_tick (state n.history).settings n p ≡ then_by (by_offer k.settings.settings n.history p (offer_at k.settings.settings n p)) (sends (questions (state n.history) p))
+no_choice node n p x k found choice =
+    let settings = k.settings.settings in
+    let h = has_key node n p x k found in
+    let next = then_by (by_offer settings n.history p (offer_at settings n p)) (sends (questions (state n.history) p)) in
+    h.follows ∙ ap (λ (o : Option (List Candidate)). then_by (by_choice o) next) (by_choice_none (choice_at settings n p) (choice n settings k k.settings.present))
+
+-- a rule that makes a change is the last, and one that makes none is not
+offer_ends : (settings : Settings) (h : List Change) (p : ℕ) (o : Option Offer) (c : Change) → (by_offer settings h p o).grown ≡ Some c → (by_offer settings h p o).goes_on ≡ false
+offer_ends settings h p None c is = absurd (cc (is))
+offer_ends settings h p (Some o) c is = by_cases o.is_new (λ k. rw k refl) (λ k. let bad : None ≡ Some c = rw k at is in absurd (cc (bad)))
+
+offer_goes_on : (settings : Settings) (h : List Change) (p : ℕ) (o : Option Offer) → (by_offer settings h p o).grown ≡ None → (by_offer settings h p o).goes_on ≡ true
+offer_goes_on settings h p None is = refl
+offer_goes_on settings h p (Some o) is = by_new o.is_new is
+  where
+    by_new : (b : Bool) → cond b (Some (Proposed (record { peer = p; deal = o.deal.number; what = o.deal.what }))) None ≡ None → not b ≡ true
+    by_new true e = absurd (cc (e))
+    by_new false e = refl
+
+-- the deal, where it makes a change
+pub deal_follows : {L : Type 0} (r : Reaction) (node : Node L) (n : Situation) (p : ℕ) (x : PeerState) → Knows node n → state_of node.states.items p ≡ Some x
+    → ((n : Situation) (settings : Settings) → Knows node n → (state n.history).settings ≡ Some settings → None ≡ option_map choice_of (choice_at settings n p))
+    → is_some r.change ≡ true → OffersDeal r node n p → Follows r n p
+deal_follows r node n p x k found choice made offers =
+    let settings = k.settings.settings in
+    let h = has_key node n p x k found in
+    let asked = sends (questions (state n.history) p) in
+    subst (λ (m : Rule). IsRule r n m) (sym (no_choice node n p x k found choice))
+    (ended (by_offer settings n.history p (offer_at settings n p)) asked (offers settings h.key k.settings.present h.here) (λ c. offer_ends settings n.history p (offer_at settings n p) c))
+  where
+    ended : (offered asked : Rule) → IsRule r n offered → ((c : Change) → offered.grown ≡ Some c → offered.goes_on ≡ false) → IsRule r n (then_by offered asked)
+    ended offered asked it ends = by_grown offered.grown refl
+      where
+        by_grown : (o : Option Change) → offered.grown ≡ o → IsRule r n (then_by offered asked)
+        by_grown None none = absurd (false≢true (sym (ap (λ (q : Option Change). is_some q) (it.change ∙ none)) ∙ made))
+        by_grown (Some c) some = subst (λ (m : Rule). IsRule r n m) (sym (ap (λ (t : Bool). cond t (record { grown = asked.grown; letters = offered.letters ++ asked.letters; goes_on = asked.goes_on }) offered) (ends c some))) it
+
+-- and with the question, where it makes none
+pub question_follows : {L : Type 0} (r q : Reaction) (node : Node L) (n : Situation) (p : ℕ) (x : PeerState) (letter : Option Letter) → Knows node n → state_of node.states.items p ≡ Some x
+    → ((n : Situation) (settings : Settings) → Knows node n → (state n.history).settings ≡ Some settings → None ≡ option_map choice_of (choice_at settings n p))
+    → is_some r.change ≡ false → q.change ≡ r.change → q.dropped ≡ r.dropped → q.out ≡ r.out ++ option_to_list letter
+    → ((settings : Settings) (key : List ℕ) → (state n.history).settings ≡ Some settings → key_in node.peers.keys p ≡ Some key → letters_of (option_to_list letter) ≡ map (spelled settings) (questions (state n.history) p))
+    → OffersDeal r node n p → Follows q n p
+question_follows r q node n p x letter k found choice none change dropped out letters offers =
+    let settings = k.settings.settings in
+    let h = has_key node n p x k found in
+    let offered = by_offer settings n.history p (offer_at settings n p) in
+    let it = offers settings h.key k.settings.present h.here in
+    let nothing : offered.grown ≡ None = sym it.change ∙ not_some r.change none in
+    let goes = offer_goes_on settings n.history p (offer_at settings n p) nothing in
+    let asked = letters settings h.key k.settings.present h.here in
+    subst (λ (m : Rule). IsRule q n m) (sym (no_choice node n p x k found choice ∙ went_on offered (sends (questions (state n.history) p)) goes)) (record {
+      change = change ∙ not_some r.change none;
+      letters =
+          ap letters_of out
+          ∙ letters_joined r.out (option_to_list letter)
+          ∙ ap (λ (l : List (ℕ × List ℕ)). l ++ letters_of (option_to_list letter)) it.letters
+          ∙ ap (λ (l : List (ℕ × List ℕ)). all_spelled (state n.history).settings offered.letters ++ l) (asked ∙ ap (λ (o : Option Settings). all_spelled o (questions (state n.history) p)) (sym k.settings.present))
+          ∙ sym (spelled_joined (state n.history).settings offered.letters (questions (state n.history) p));
+      dropped = dropped ∙ it.dropped;
+    })
+  where
+    not_some : (o : Option Change) → is_some o ≡ false → o ≡ None
+    not_some None h = refl
+    not_some (Some c) h = absurd (false≢true (sym h))
+
+    went_on : (a b : Rule) → a.goes_on ≡ true → then_by a b ≡ record { grown = b.grown; letters = a.letters ++ b.letters; goes_on = b.goes_on }
+    went_on a b goes = ap (λ (t : Bool). cond t (record { grown = b.grown; letters = a.letters ++ b.letters; goes_on = b.goes_on }) a) goes
+
+-- on every disk the change is the same
+pub offer_follows_so : {L : Type 0} (r q : Reaction) (node : Node L) (n : Situation) (p : ℕ) (x : PeerState) → Knows node n → state_of node.states.items p ≡ Some x
+    → ((n : Situation) (settings : Settings) → Knows node n → (state n.history).settings ≡ Some settings → None ≡ option_map choice_of (choice_at settings n p))
+    → q.change ≡ r.change → q.dropped ≡ r.dropped → OffersDealSo r n p → FollowsSo q n p
+offer_follows_so r q node n p x k found choice change dropped offers =
+    let settings = k.settings.settings in
+    let it = offers settings k.settings.present in (
+      change ∙ it.0 ∙ sym (then_grown settings n.history p (offer_at settings n p) (questions (state n.history) p)) ∙ sym (ap (λ (m : Rule). m.grown) (no_choice node n p x k found choice)),
+      dropped ∙ it.1,
+    )
+  where
+    then_grown : (settings : Settings) (h : List Change) (p : ℕ) (o : Option Offer) (letters : List MachineLetter) → (then_by (by_offer settings h p o) (sends letters)).grown ≡ (by_offer settings h p o).grown
+    then_grown settings h p None letters = refl
+    then_grown settings h p (Some o) letters = by_cases o.is_new (λ k. rw k refl) (λ k. rw k refl)
+
+-- ---- the question
 
 -- nothing is asked
-pub asks_none : {L : Type 0} (node : Node L) (n : Situation) (settings : Settings) (p : ℕ) (key : List ℕ) → Knows node n → open_question node.ledger.state ≡ None → letters_of (option_to_list None) ≡ questions settings (state n.history) p key
-asks_none node n settings p key k none = sym (ap (λ (o : Option Question). option_to_list (option_map (question_to settings p key) o)) (ap open_question (sym k.ledger) ∙ none))
+pub asks_none : {L : Type 0} (node : Node L) (n : Situation) (settings : Settings) (p : ℕ) → Knows node n → open_question node.ledger.state ≡ None → letters_of (option_to_list None) ≡ map (spelled settings) (questions (state n.history) p)
+asks_none node n settings p k none = sym (ap (λ (o : Option Question). map (spelled settings) (option_to_list (option_map (question_to p) o))) (ap open_question (sym k.ledger) ∙ none))
 
 -- or this question
-pub asks_one : {L : Type 0} (node : Node L) (n : Situation) (settings : Settings) (p : ℕ) (key : List ℕ) (q : Question) (letter : Letter) → Knows node n → (state n.history).settings ≡ Some settings → open_question node.ledger.state ≡ Some q
-    → letter.to ≡ p → letter.frame ≡ datagram key node.peers.own.id p q.number (Ask q.salt q.names) → letters_of (option_to_list (Some letter)) ≡ questions settings (state n.history) p key
-asks_one node n settings p key q letter k present opened to frame =
-    (λ i. (to i, (frame ∙ ap (λ (w : PeersView). datagram key w.own.id p q.number (Ask q.salt q.names)) (peers_here node n settings k present)) i) ∷ [])
-    ∙ sym (ap (λ (o : Option Question). option_to_list (option_map (question_to settings p key) o)) (ap open_question (sym k.ledger) ∙ opened))
-
--- with the question of this node, it is what is asked besides
-pub asks_with : {L : Type 0} (node : Node L) (r : Reaction) (p : ℕ) (question : Option Letter) (letters : List (ℕ × List ℕ)) → letters ≡ besides r.change (letters_of r.out) (letters_of (option_to_list question))
-    → ((n : Situation) (settings : Settings) (key : List ℕ) → Knows node n → (state n.history).settings ≡ Some settings → key_in node.peers.keys p ≡ Some key → letters_of (option_to_list question) ≡ questions settings (state n.history) p key)
-    → AsksBesides node r p letters
-asks_with node r p question letters is asks = λ n settings key k present here. is ∙ ap (besides r.change (letters_of r.out)) (asks n settings key k present here)
+pub asks_one : {L : Type 0} (node : Node L) (n : Situation) (settings : Settings) (p : ℕ) (key : List ℕ) (q : Question) (letter : Letter) → Knows node n → (state n.history).settings ≡ Some settings → key_in node.peers.keys p ≡ Some key → open_question node.ledger.state ≡ Some q
+    → letter.to ≡ p → letter.frame ≡ datagram key node.peers.own.id p q.number (Ask q.salt q.names) → letters_of (option_to_list (Some letter)) ≡ map (spelled settings) (questions (state n.history) p)
+asks_one node n settings p key q letter k present here opened to frame =
+    (λ i. (to i, frame i) ∷ [])
+    ∙ ap (λ (l : ℕ × List ℕ). l ∷ []) (spelled_with node n settings p q.number key (Ask q.salt q.names) k present here)
+    ∙ sym (ap (λ (o : Option Question). map (spelled settings) (option_to_list (option_map (question_to p) o))) (ap open_question (sym k.ledger) ∙ opened))
 
 -- ---- what may come next after looking
 
@@ -337,3 +359,9 @@ some_may_back old mid o p same is m = subst (λ (x : Option Change). IfSome x (M
     by_change : (x : Option Change) → IfSome x (MayCome Knows mid) → IfSome x (MayCome Knows old)
     by_change None m = tt
     by_change (Some c) m = may_back old mid c same m
+
+-- what is asked by a node that only looked since is what this one asks
+pub questions_back : {L : Type 0} (old mid : Node L) (p : ℕ) (letters : List (ℕ × List ℕ)) → IsSame old mid
+    → ((n : Situation) (settings : Settings) (key : List ℕ) → Knows mid n → (state n.history).settings ≡ Some settings → key_in mid.peers.keys p ≡ Some key → letters ≡ map (spelled settings) (questions (state n.history) p))
+    → (n : Situation) → Knows old n → (settings : Settings) (key : List ℕ) → (state n.history).settings ≡ Some settings → key_in old.peers.keys p ≡ Some key → letters ≡ map (spelled settings) (questions (state n.history) p)
+questions_back old mid p letters same asks n k settings key present here = asks n settings key (same_knows old mid n same k) present (ap (λ (v : PeersView). key_in v.keys p) same.rest.peers ∙ here)

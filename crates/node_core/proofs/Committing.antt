@@ -1,5 +1,5 @@
 -- A change is made as the machine makes it.
-use Rattle.std.proofs.Common.{◌≡◌, ◌⊎◌, inl, inr, ⊎_elim, ℕ, ◌≤◌, ◌<◌, Bool, true, List, [], ◌∷◌, ◌++◌, length, is_some, option_map, option_to_list, Option, Some, None, refl, sym, ◌∙◌, ap, subst, arith}
+use Rattle.std.proofs.Common.{◌≡◌, ◌⊎◌, inl, inr, ⊎_elim, ℕ, ◌≤◌, ◌<◌, Bool, true, false, List, [], ◌∷◌, ◌++◌, length, is_some, ◌==◌, option_to_list, Option, Some, None, refl, sym, ◌∙◌, ap, subst, arith}
 use Rattle.std.specs.Option.{unwrap_or}
 use Rattle.std.proofs.lemmas.Bool.{eqb-true, false≢true}
 use Rattle.std.proofs.lemmas.List.{append-nil}
@@ -19,21 +19,18 @@ use Rattle.psb_model.proofs.Steps.{parts}
 use Rattle.psb_model.proofs.Steady.{allows}
 use Rattle.psb_model.proofs.Prefixes.{state_snoc, changes_counted}
 use Rattle.claims.specs.Source.{Source}
-use Rattle.psb_model.specs.State.{own_has}
-use Rattle.psb_model.proofs.ByObject.{by_cases}
-use Rattle.psb_machine.specs.Machine.{Situation, Volatile, Input, Datagram, Tick, Keep, Snap, Forget, Reaction as MachineReaction, has_snapshot, noted, by_changes, react, settled, next}
+use Rattle.psb_machine.specs.Machine.{Situation, Reaction as MachineReaction, settled}
+use Rattle.psb_machine.specs.Volatile.{Note, noted, by_changes}
 use Rattle.psb_machine.specs.Sampling.{question_of, keeps_question}
 use Rattle.psb_machine.specs.declared.question.Question.{Question}
-use Rattle.psb_machine.proofs.Unticked.{passed, clocks_pass, noted_pass}
 use Rattle.psb_machine.proofs.Questions.{question_stays}
 use Rattle.psb_model.proofs.Steady.{steady_state}
-use Rattle.node_core.specs.declared.clocks.Clock.{Clock}
-use Rattle.node_core.specs.Peers.{PeersView}
+use Rattle.node_letters.specs.Peers.{PeersView}
 use Rattle.node_history.specs.Names.{KnowsNames}
-use Rattle.node_core.specs.Clocks.{KnowsClocks, clocks_after, clocks_noted, clocks_changed}
-use Rattle.node_core.specs.Letters.{is_own}
-use Rattle.node_core.specs.Refusing.{when_taken}
-use Rattle.node_core.proofs.ClockTables.{clocks_grown, clocks_ticked, clocks_kept}
+use Rattle.node_core.specs.PeerStates.{KnowsStates, states_noted, states_changed}
+use Rattle.node_core.specs.Ticking.{IsWorkedOut}
+use Rattle.node_core.proofs.PeerTables.{states_grown, states_then}
+use Rattle.node_core.specs.declared.peer_state.PeerState.{PeerState}
 use Rattle.node_core.specs.declared.node.Node.{Node}
 use Rattle.chunk_store.specs.declared.store.Store.{Store}
 use Rattle.chunk_store.specs.Store.{record_of, is_owner}
@@ -41,8 +38,7 @@ use Rattle.node_history.specs.Names.{SameNames, Enters}
 use Rattle.node_history.specs.Less.{IsLess}
 use Rattle.node_core.specs.Making.{MayMake}
 use Rattle.node_core.specs.declared.reaction.Reaction.{Reaction}
-use Rattle.node_core.specs.declared.reaction.PeerSample.{PeerSample}
-use Rattle.node_core.specs.Reacting.{IsStep, told_by, Reacts, SameOwner, IsSame, IsTicked, steady, numbered}
+use Rattle.node_core.specs.Reacting.{IsStep, Reacts, SameOwner, IsSame, IsNoted, numbered}
 use Rattle.node_history.specs.Stands.{HoldsHistory, ReopensTo}
 use Rattle.node_core.specs.Stored.{Knows, KnowsSettings, IsKnown, Stored, IsCounted}
 use Rattle.node_history.proofs.Entered.{names_grown, names_same}
@@ -68,16 +64,18 @@ settings_stay s _ may some = refl
 
 -- ---- what a node knows after it
 
--- its clocks are as the change leaves them
-clocks_stepped : {L : Type 0} (old new : Node L) (n : Situation) (m : MachineReaction) (c : Change) → Knows old n → m.grown ≡ Some c → new.peers ≡ old.peers → new.clocks.items ≡ clocks_changed old.peers.own.id c old.clocks.items
-    → KnowsClocks new.clocks.items new.peers.keys (settled n (steady n m)).volatile
-clocks_stepped old new n m c k grown peers clocks =
+-- what it keeps of its peers is as the note and then the change leave it
+states_stepped : {L : Type 0} (old new : Node L) (n : Situation) (m : MachineReaction) (c : Change) → Knows old n → m.grown ≡ Some c → new.peers ≡ old.peers → new.states.items ≡ states_changed old.peers.own.id c (states_noted m.note old.states.items)
+    → KnowsStates new.states.items new.peers.keys (settled n m).volatile
+states_stepped old new n m c k grown peers states =
     let s = state n.history in
-    let own : old.peers.own.id ≡ k.settings.settings.id = ap (λ (v : PeersView). v.own.id) k.settings.peers in
-    let known = clocks_grown old.clocks.items old.peers.keys s k.settings.settings c n.volatile k.settings.present k.clocks in
-    let made = subst (λ (o : Option Change). KnowsClocks (clocks_changed k.settings.settings.id c old.clocks.items) old.peers.keys (by_changes s o n.volatile)) (sym grown) known in
-    let keyed = subst (λ (v : PeersView). KnowsClocks (clocks_changed k.settings.settings.id c old.clocks.items) v.keys (by_changes s m.grown n.volatile)) (sym peers) made in
-    subst (λ (l : List Clock). KnowsClocks l new.peers.keys (by_changes s m.grown n.volatile)) (sym (clocks ∙ ap (λ (i : ℕ). clocks_changed i c old.clocks.items) own)) keyed
+    let st = k.settings.settings in
+    let noted_states = states_noted m.note old.states.items in
+    let own : old.peers.own.id ≡ st.id = ap (λ (v : PeersView). v.own.id) k.settings.peers in
+    let known = states_grown noted_states old.peers.keys s st c (noted m.note n.volatile) k.settings.present (states_then m.note old.states.items old.peers.keys n.volatile k.states) in
+    let made = subst (λ (o : Option Change). KnowsStates (states_changed st.id c noted_states) old.peers.keys (by_changes s o (noted m.note n.volatile))) (sym grown) known in
+    let keyed = subst (λ (v : PeersView). KnowsStates (states_changed st.id c noted_states) v.keys (settled n m).volatile) (sym peers) made in
+    subst (λ (l : List PeerState). KnowsStates l new.peers.keys (settled n m).volatile) (sym (states ∙ ap (λ (i : ℕ). states_changed i c noted_states) own)) keyed
 
 -- the question is the same, or is worked out anew
 question_stepped : {L : Type 0} (old : Node L) (n : Situation) (c : Change) (q : Option Question) → Knows old n → allowed (state n.history) c ≡ true → ((q ≡ old.question) × (keeps_question c ≡ true)) ⊎ (q ≡ None) → IsKnown q (after (state n.history) c)
@@ -92,11 +90,11 @@ question_stepped old n c q k may kept =
     known_then None s t same is = tt
     known_then (Some x) s t same is = same ∙ is
 
--- a node that made a change is where the machine is, but for a tick
+-- a node that made a change is where the machine is
 pub step_knows : {L : Type 0} (old new : Node L) (n : Situation) (m : MachineReaction) (c : Change) (mid : Store) (size : ℕ) → MayMake old.ledger.state c → Knows old n → IsStep n m c
     → new.ledger.state ≡ after old.ledger.state c → SameNames old.names mid → Enters old.ledger.state mid new.names c size → old.ledger.state.changes ≡ size → SameOwner old new → new.ledger.state.issued ≤ new.claims.issued
-    → new.clocks.items ≡ clocks_changed old.peers.own.id c old.clocks.items → ((new.question ≡ old.question) × (keeps_question c ≡ true)) ⊎ (new.question ≡ None) → Knows new (settled n (steady n m))
-step_knows old new n m c mid size may k step grown same enters counted rest issued clocks question =
+    → new.states.items ≡ states_changed old.peers.own.id c (states_noted m.note old.states.items) → ((new.question ≡ old.question) × (keeps_question c ≡ true)) ⊎ (new.question ≡ None) → Knows new (settled n m)
+step_knows old new n m c mid size may k step grown same enters counted rest issued states question =
     let h = n.history in
     let here : old.ledger.state.changes ≡ length h = ap (λ (s : State). s.changes) k.ledger ∙ changes_counted h in
     let after_is : after (state h) c ≡ state (h ++ c ∷ []) = sym (state_snoc h c) in
@@ -107,20 +105,25 @@ step_knows old new n m c mid size may k step grown same enters counted rest issu
       peers = rest.peers ∙ k.settings.peers;
       seed = rest.seed ∙ k.settings.seed;
     } in
-    let knows : Knows new (record { history = h ++ c ∷ []; volatile = (settled n (steady n m)).volatile }) = record {
+    let knows : Knows new (record { history = h ++ c ∷ []; volatile = (settled n m).volatile }) = record {
       valid = with_it n m c step;
       ledger = grown ∙ ap (λ (s : State). after s c) k.ledger ∙ after_is;
       settings = subst (λ (s : State). KnowsSettings new s) after_is settings;
       names = names_grown mid new.names h c k.valid.lawful allowed_here (names_same old.names mid h same k.names) (subst (λ (s : State). Enters s mid new.names c (length h)) k.ledger (subst (λ (j : ℕ). Enters old.ledger.state mid new.names c j) (sym counted ∙ here) enters));
       issued = omega (arith, issued, ap (λ (s : State). s.issued) grown, ap (λ (s : State). (after s c).issued) k.ledger, ap (λ (s : State). s.issued) after_is);
-      clocks = clocks_stepped old new n m c k step.grown rest.peers clocks;
+      states = states_stepped old new n m c k step.grown rest.peers states;
       question = subst (IsKnown new.question) after_is (question_stepped old n c new.question k allowed_here question);
     } in
-    subst (λ (o : Situation). Knows new o) (sym (λ j. record { history = grown_to n m c step.grown j; volatile = (settled n (steady n m)).volatile })) knows
+    subst (λ (o : Situation). Knows new o) (sym (λ j. record { history = grown_to n m c step.grown j; volatile = (settled n m).volatile })) knows
 
--- a node whose ledger, settings, names and clocks stay knows what it knew
-pub knows_still : {L : Type 0} (old new : Node L) (n : Situation) → new.ledger.state ≡ old.ledger.state → SameNames old.names new.names → SameOwner old new → new.clocks ≡ old.clocks → (IsKnown old.question (state n.history) → IsKnown new.question (state n.history)) → Knows old n → Knows new n
-knows_still old new n same names rest clocks question k = record {
+-- a question that was worked out is the state's
+worked_known : (o : Option Question) (s : State) → o ≡ question_of s → IsKnown o s
+worked_known None s is = tt
+worked_known (Some q) s is = sym is
+
+-- a node whose ledger, settings, names and what it keeps of its peers stay knows what it knew
+pub knows_still : {L : Type 0} (old new : Node L) (n : Situation) → new.ledger.state ≡ old.ledger.state → SameNames old.names new.names → SameOwner old new → new.states ≡ old.states → (IsKnown old.question (state n.history) → IsKnown new.question (state n.history)) → Knows old n → Knows new n
+knows_still old new n same names rest states question k = record {
   valid = k.valid;
   ledger = same ∙ k.ledger;
   settings = record {
@@ -131,13 +134,16 @@ knows_still old new n same names rest clocks question k = record {
   };
   names = names_same old.names new.names n.history names k.names;
   issued = omega (arith, k.issued, rest.issued);
-  clocks = subst (λ (v : PeersView). KnowsClocks new.clocks.items v.keys n.volatile) (sym rest.peers) (subst (λ l. KnowsClocks l.items old.peers.keys n.volatile) (sym clocks) k.clocks);
+  states = subst (λ (v : PeersView). KnowsStates new.states.items v.keys n.volatile) (sym rest.peers) (subst (λ l. KnowsStates l.items old.peers.keys n.volatile) (sym states) k.states);
   question = question k.question;
 }
 
 -- a node that only looked, and made claims, knows what it knew
 pub same_knows : {L : Type 0} (old new : Node L) (n : Situation) → IsSame old new → Knows old n → Knows new n
-same_knows old new n same k = knows_still old new n (ap (λ ledger. ledger.state) same.ledger) (all_same old.names new.names same.names) same.rest same.clocks (λ was. ⊎_elim (λ is. subst (λ (o : Option Question). IsKnown o (state n.history)) (sym is) was) (λ known. subst (IsKnown new.question) (ap (λ ledger. ledger.state) same.ledger ∙ k.ledger) known) same.question) k
+same_knows old new n same k =
+    knows_still old new n (ap (λ ledger. ledger.state) same.ledger) (all_same old.names new.names same.names) same.rest same.states
+    (λ was. ⊎_elim (λ is. subst (λ (o : Option Question). IsKnown o (state n.history)) (sym is) was)
+    (λ worked. subst (IsKnown new.question) (ap (λ ledger. ledger.state) same.ledger ∙ k.ledger) (worked_known new.question new.ledger.state worked)) same.question) k
   where
     all_same : (a b : Store) → b ≡ a → SameNames a b
     all_same a b is = record { owners = λ o q. ap (λ (s : Store). is_owner s o q) is; records = λ q. ap (λ (s : Store). record_of s q) is }
@@ -148,21 +154,19 @@ same_then a b c x y = record {
   log = y.log ∙ x.log;
   ledger = y.ledger ∙ x.ledger;
   names = y.names ∙ x.names;
-  clocks = y.clocks ∙ x.clocks;
-  question = ⊎_elim (λ is. ⊎_elim (λ was. inl (is ∙ was)) (λ known. inr (subst (λ (o : Option Question). IsKnown o c.ledger.state) (sym is) (subst (IsKnown b.question) (sym (ap (λ ledger. ledger.state) y.ledger)) known))) x.question) (λ known. inr known) y.question;
+  states = y.states ∙ x.states;
+  question = ⊎_elim (λ is. ⊎_elim (λ was. inl (is ∙ was)) (λ worked. inr (is ∙ worked ∙ ap (λ ledger. question_of ledger.state) (sym y.ledger))) x.question) (λ worked. inr worked) y.question;
   rest = record { peers = y.rest.peers ∙ x.rest.peers; seed = y.rest.seed ∙ x.rest.seed; issued = omega (arith, x.rest.issued, y.rest.issued) };
 }
 
--- where no change is made the node stays where it is, but for a tick
-pub rests_here : {L : Type 0} (node : Node L) (n : Situation) (m : MachineReaction) → m.grown ≡ None → Knows node n → Knows node (settled n (steady n m))
-rests_here node n m none k =
-    let same : n.history ++ option_to_list m.grown ≡ n.history = ap (λ (o : Option Change). n.history ++ option_to_list o) none ∙ append-nil n.history in
-    let rests : by_changes (state n.history) m.grown n.volatile ≡ n.volatile = ap (λ (o : Option Change). by_changes (state n.history) o n.volatile) none in
-    subst (λ (o : Situation). Knows node o) (sym (λ j. record { history = same j; volatile = rests j })) k
+-- where a question was worked out, it is so after what only looked
+pub worked_still : {L : Type 0} (a b : Node L) → IsSame a b → IsWorkedOut a.question a.ledger.state → IsWorkedOut b.question b.ledger.state
+worked_still a b same worked = λ free.
+    ⊎_elim (λ is. is ∙ worked (ap (λ ledger. length ledger.state.chosen == 0) (sym same.ledger) ∙ free) ∙ ap (λ ledger. question_of ledger.state) (sym same.ledger)) (λ is. is) same.question
 
--- an input that passes moves its clocks alone
-pub passes_knows : {L : Type 0} (old new : Node L) (n : Situation) (i : Input) (o : Option (ℕ × ℕ)) → IsTicked i o old new → Knows old n → Knows new (record n { volatile = passed i (noted o n.volatile) })
-passes_knows old new n i o t k = record {
+-- where the machine is then, whatever it makes of the input
+pub noted_alone : {L : Type 0} (old new : Node L) (n : Situation) (note : Note) → IsNoted note old new → Knows old n → Knows new (record { history = n.history; volatile = noted note n.volatile })
+noted_alone old new n note t k = record {
   valid = k.valid;
   ledger = ap (λ ledger. ledger.state) t.ledger ∙ k.ledger;
   settings = record {
@@ -173,50 +177,29 @@ passes_knows old new n i o t k = record {
   };
   names = subst (λ (s : Store). KnowsNames s n.history) (sym t.names) k.names;
   issued = omega (arith, k.issued, ap (λ (c : Source). c.issued) t.claims);
-  clocks =
-      subst (λ (v : PeersView). KnowsClocks new.clocks.items v.keys (passed i (noted o n.volatile))) (sym t.peers)
-      (subst (λ (l : List Clock). KnowsClocks l old.peers.keys (passed i (noted o n.volatile))) (sym t.clocks)
-      (clocks_passed i (clocks_noted o old.clocks.items) old.peers.keys (noted o n.volatile) (clocks_kept o old.clocks.items old.peers.keys n.volatile k.clocks)));
+  states =
+      subst (λ (v : PeersView). KnowsStates new.states.items v.keys (noted note n.volatile)) (sym t.peers)
+      (subst (λ (l : List PeerState). KnowsStates l old.peers.keys (noted note n.volatile)) (sym t.states) (states_then note old.states.items old.peers.keys n.volatile k.states));
   question = subst (λ (q : Option Question). IsKnown q (state n.history)) (sym t.question) k.question;
 }
-  where
-    clocks_passed : (i : Input) (l : List Clock) (keys : List (ℕ × List ℕ)) (v : Volatile) → KnowsClocks l keys v → KnowsClocks (clocks_after i l) keys (passed i v)
-    clocks_passed (Datagram x) l keys v k = k
-    clocks_passed (Tick p) l keys v k = clocks_ticked l keys v p k
-    clocks_passed (Keep name bytes) l keys v k = k
-    clocks_passed (Snap note) l keys v k = k
-    clocks_passed (Forget number) l keys v k = k
 
--- to where the machine is, which kept no sample
-pub ticked_knows : {L : Type 0} (old new : Node L) (n : Situation) (i : Input) → IsTicked i None old new → (react n i).sample ≡ None → Knows old (settled n (steady n (react n i))) → Knows new (next n i)
-ticked_knows old new n i t none k =
-    let m = react n i in
-    let there : (next n i).volatile ≡ passed i (settled n (steady n m)).volatile = ap (λ (o : Option (ℕ × ℕ)). by_changes (state n.history) m.grown (noted o m.volatile)) none ∙ clocks_pass n i in
-    subst (λ (v : Volatile). Knows new (record { history = (next n i).history; volatile = v })) (sym there) (passes_knows old new (settled n (steady n m)) i None t k)
-
--- and where it made no change, and may have kept one
-pub told_knows : {L : Type 0} (old new : Node L) (n : Situation) (i : Input) (o : Option (ℕ × ℕ)) → IsTicked i o old new → o ≡ (react n i).sample → (react n i).grown ≡ None → Knows old n → Knows new (next n i)
-told_knows old new n i o t is none k =
-    let m = react n i in
+-- where no change is made, what is noted is noted
+pub noted_knows : {L : Type 0} (old new : Node L) (n : Situation) (m : MachineReaction) (note : Note) → IsNoted note old new → note ≡ m.note → m.grown ≡ None → Knows old n → Knows new (settled n m)
+noted_knows old new n m note t is none k =
     let s = state n.history in
-    let same : n.history ++ option_to_list m.grown ≡ n.history = ap (λ (c : Option Change). n.history ++ option_to_list c) none ∙ append-nil n.history in
-    let passes : m.volatile ≡ passed i n.volatile = ap (λ (c : Option Change). by_changes s c m.volatile) (sym none) ∙ clocks_pass n i ∙ ap (λ (c : Option Change). passed i (by_changes s c n.volatile)) none in
-    let there : (next n i).volatile ≡ passed i (noted o n.volatile) =
-    ap (λ (c : Option Change). by_changes s c (noted m.sample m.volatile)) none
-    ∙ ap (λ (q : Option (ℕ × ℕ)). noted q m.volatile) (sym is)
-    ∙ ap (noted o) passes
-    ∙ noted_pass i o n.volatile in
-    subst (λ (p : Situation). Knows new p) (sym (λ j. record { history = same j; volatile = there j })) (passes_knows old new n i o t k)
+    let same : n.history ++ option_to_list m.grown ≡ n.history = ap (λ (o : Option Change). n.history ++ option_to_list o) none ∙ append-nil n.history in
+    let there : by_changes s m.grown (noted m.note n.volatile) ≡ noted note n.volatile = ap (λ (o : Option Change). by_changes s o (noted m.note n.volatile)) none ∙ ap (λ (q : Note). noted q n.volatile) (sym is) in
+    subst (λ (o : Situation). Knows new o) (sym (λ j. record { history = same j; volatile = there j })) (noted_alone old new n note t k)
 
 -- its log is the same, and so is what it has
-pub ticked_counted : {L : Type 0} (size : L → ℕ) (keeps : L → ℕ → Bool) (old new : Node L) (i : Input) (o : Option (ℕ × ℕ)) → IsTicked i o old new → IsCounted size keeps old → IsCounted size keeps new
-ticked_counted size keeps old new i o t c = record {
+pub noted_counted : {L : Type 0} (size : L → ℕ) (keeps : L → ℕ → Bool) (old new : Node L) (note : Note) → IsNoted note old new → IsCounted size keeps old → IsCounted size keeps new
+noted_counted size keeps old new note t c = record {
   changes = ap (λ ledger. ledger.state.changes) t.ledger ∙ c.changes ∙ ap size (sym t.log);
   bodies = λ q k here. subst (λ l. (k < size l) × (keeps l k ≡ true)) (sym t.log) (c.bodies q k (sym (ap (λ (s : Store). record_of s q) t.names) ∙ here));
 }
 
-pub ticked_stored : {L : Type 0} (holds : L → List Entry → List ℕ → Type 0) (old new : Node L) (i : Input) (o : Option (ℕ × ℕ)) (h : List Change) (v : View) → IsTicked i o old new → Stored holds old h v → Stored holds new h v
-ticked_stored holds old new i o h v t s = record {
+pub noted_stored : {L : Type 0} (holds : L → List Entry → List ℕ → Type 0) (old new : Node L) (note : Note) (h : List Change) (v : View) → IsNoted note old new → Stored holds old h v → Stored holds new h v
+noted_stored holds old new note h v t s = record {
   less = s.less;
   is_less = s.is_less;
   valid = s.valid;
@@ -225,33 +208,20 @@ ticked_stored holds old new i o h v t s = record {
   shows = subst (λ l. Shows (holds l s.records) v) (sym t.log) s.shows;
 }
 
--- what is taken of the node's own is no tick
-pub taken_steady : (n : Situation) (i : Input) → is_own i ≡ true → settled n (steady n (when_taken n i)) ≡ settled n (when_taken n i)
-taken_steady n (Datagram x) own = absurd (false≢true own)
-taken_steady n (Tick p) own = absurd (false≢true own)
-taken_steady n (Keep name bytes) own = by_cases (own_has (state n.history).own name) (λ k. rw k refl) (λ k. rw k refl)
-taken_steady n (Snap note) own = refl
-taken_steady n (Forget number) own = by_cases (has_snapshot (state n.history) number) (λ k. rw k refl) (λ k. rw k refl)
+-- where no change is made the disk holds what it held
+pub rested_stored : {L : Type 0} (holds : L → List Entry → List ℕ → Type 0) (old new : Node L) (n : Situation) (m : MachineReaction) (note : Note) (v : View) → IsNoted note old new → m.grown ≡ None → Stored holds old n.history v → Stored holds new (settled n m).history v
+rested_stored holds old new n m note v t none s =
+    let same : (settled n m).history ≡ n.history = ap (λ (o : Option Change). n.history ++ option_to_list o) none ∙ append-nil n.history in
+    subst (λ (h : List Change). Stored holds new h v) (sym same) (noted_stored holds old new note n.history v t s)
 
--- a change that was made has its number
+-- a change that was not made has no number, and one that was made has its own
+pub numbered_none : (o : Option Change) (number : ℕ) → is_some o ≡ false → None ≡ numbered o number
+numbered_none None number none = refl
+numbered_none (Some c) number none = absurd (false≢true (sym none))
+
 pub numbered_some : (o : Option Change) (number : ℕ) → is_some o ≡ true → Some number ≡ numbered o number
 numbered_some None number some = absurd (false≢true some)
 numbered_some (Some c) number some = refl
-
--- and keeps no sample
-own_unsampled : (n : Situation) (i : Input) → is_own i ≡ true → (when_taken n i).sample ≡ None
-own_unsampled n (Datagram x) own = absurd (false≢true own)
-own_unsampled n (Tick p) own = absurd (false≢true own)
-own_unsampled n (Keep name bytes) own = by_cases (own_has (state n.history).own name) (λ k. rw k refl) (λ k. rw k refl)
-own_unsampled n (Snap note) own = refl
-own_unsampled n (Forget number) own = by_cases (has_snapshot (state n.history) number) (λ k. rw k refl) (λ k. rw k refl)
-
-none_told : (o : Option PeerSample) → option_map told_by o ≡ None → o ≡ None
-none_told None is = refl
-none_told (Some x) is = absurd (cc (is))
-
-pub taken_unsampled : (r : Reaction) (n : Situation) (i : Input) → is_own i ≡ true → Reacts r (when_taken n i) → r.sample ≡ None
-taken_unsampled r n i own it = none_told r.sample (it.sample ∙ own_unsampled n i own)
 
 -- and its log has what it had
 pub same_counted : {L : Type 0} (size : L → ℕ) (keeps : L → ℕ → Bool) (old new : Node L) → IsSame old new → IsCounted size keeps old → IsCounted size keeps new
@@ -347,16 +317,16 @@ stored_room holds old new h v wider s = record {
 pub is_step : (n : Situation) (m : MachineReaction) (c : Change) → m.grown ≡ Some c → IsValid (n.history ++ c ∷ []) → IsStep n m c
 is_step n m c grown valid = record { grown = grown; valid = subst IsValid (sym (grown_to n m c grown)) valid }
 
-pub found_step : (r : Reaction) (n : Situation) (m : MachineReaction) (c : Change) → r.change ≡ Some c → Reacts r m → IsValid (n.history ++ c ∷ []) → IsStep n m c
+pub found_step : (r : Reaction) (n : Situation) (m : MachineReaction) (c : Change) → r.change ≡ Some c → Reacts r n m → IsValid (n.history ++ c ∷ []) → IsStep n m c
 found_step r n m c is reacts valid = is_step n m c (sym reacts.change ∙ is) valid
 
--- a reaction that makes a change, whatever it tells
-abbrev some_reaction : Situation → Change → MachineReaction
-some_reaction n c = record { grown = Some c; letters = []; volatile = n.volatile; sample = None; dropped = None }
+-- a reaction that makes a change and notes this, whatever it tells
+abbrev some_reaction : Change → Note → MachineReaction
+some_reaction c note = record { grown = Some c; letters = []; note = note; dropped = None }
 
 -- after it, it is known where the node is
-pub some_step : {L : Type 0} (new : Node L) (n : Situation) (c : Change) → IsValid (n.history ++ c ∷ []) → ((m : MachineReaction) → IsStep n m c → Knows new (settled n (steady n m))) → (o : Situation) × Knows new o
-some_step new n c valid step = (settled n (some_reaction n c), step (some_reaction n c) (is_step n (some_reaction n c) c refl valid))
+pub some_step : {L : Type 0} (new : Node L) (n : Situation) (c : Change) (note : Note) → IsValid (n.history ++ c ∷ []) → ((m : MachineReaction) → IsStep n m c → note ≡ m.note → Knows new (settled n m)) → (o : Situation) × Knows new o
+some_step new n c note valid step = (settled n (some_reaction c note), step (some_reaction c note) (is_step n (some_reaction c note) c refl valid) refl)
 
 -- the moments of looking at the disk, and then of making the change that was found
 pub found_leaves : {L : Type 0} (holds : L → List Entry → List ℕ → Type 0) (stands : List Entry → List ℕ → Type 0) (law : (log : L) (es : List Entry) (i : List ℕ) → holds log es i → stands es i) (old mid : Node L) (n : Situation) (m : MachineReaction) (c : Change) (v0 v1 v2 : View)

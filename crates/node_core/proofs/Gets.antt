@@ -1,7 +1,7 @@
--- A node answers a Get as the machine does.
-use Rattle.std.proofs.Common.{◌≡◌, ◌≤◌, ◌<◌, ℕ, Bool, true, false, ◌||◌, ◌&&◌, ◌==◌, nat_le, cond, List, [], ◌∷◌, map, length, get_or, option_map, option_to_list, Option, Some, None, refl, sym, ◌∙◌, ap, arith}
+-- What a peer has here is held, and bytes that were brought under a name are those of a chunk.
+use Rattle.std.proofs.Common.{◌≡◌, ◌≤◌, ℕ, Bool, true, false, ◌||◌, ◌&&◌, ◌==◌, nat_le, cond, List, [], ◌∷◌, map, length, Option, Some, None, refl, sym, ◌∙◌, ap, arith}
 use Rattle.std.specs.List.{list_any}
-use Rattle.std.proofs.lemmas.Bool.{and_parts, false≢true, true≢false, eqb-true, eq-eqb, leb-true, le-leb}
+use Rattle.std.proofs.lemmas.Bool.{and_parts, false≢true, eqb-true, leb-true}
 use Rattle.psb_bytes.specs.Units.{longest_chunk}
 use Rattle.psb_bytes.specs.declared.ids.Object.{Object}
 use Rattle.psb_bytes.specs.declared.ids.Object.TheVariants.{Chunk}
@@ -17,52 +17,17 @@ use Rattle.psb_model.specs.Effects.{after}
 use Rattle.psb_model.specs.Needed.{brings_name, last_bringing, last_brought, IsValid}
 use Rattle.psb_model.specs.declared.change.Change.{Change}
 use Rattle.psb_model.specs.declared.change.Change.TheVariants.{Kept, TookFresh, TookSwap}
-use Rattle.change_codec.proofs.RecordLaws.{all_bytes}
-use Rattle.wire_codec.specs.Fields.{is_digest, is_text, are_bytes}
-use Rattle.wire_codec.specs.Frames.{read_frame, datagram}
-use Rattle.wire_codec.specs.declared.frame.Frame.TheVariants.{Get, Here}
+use Rattle.wire_codec.specs.Frames.{datagram}
+use Rattle.wire_codec.specs.declared.frame.Frame.TheVariants.{Here}
 use Rattle.psb_machine.specs.Commands.{get_by, gets}
 use Rattle.psb_machine.specs.Gets.{has_chunk}
-use Rattle.psb_machine.specs.Machine.{Situation, Datagram, react, quiet, tells_again, here, on_get}
-use Rattle.psb_machine.proofs.Steps.{on_read-get}
-use Rattle.chunk_store.specs.declared.owner.Owner.TheVariants.{Peer}
-use Rattle.chunk_store.specs.Store.{is_owner}
+use Rattle.psb_machine.specs.Machine.{Situation}
+use Rattle.node_letters.specs.Peers.{PeersView}
+use Rattle.node_letters.specs.declared.message.Sender.{Sender}
 use Rattle.node_core.specs.declared.node.Node.{Node}
-use Rattle.node_core.specs.declared.offer.Request.{Request}
-use Rattle.node_core.specs.Offers.{IsGet}
-use Rattle.node_core.specs.Peers.{PeersView}
-use Rattle.node_core.specs.Reacting.{GivesBytes, IsGiven}
+use Rattle.node_core.specs.Hearing.{IsGiven}
 use Rattle.node_core.specs.Stored.{Knows}
 use Rattle.node_history.proofs.Brought.{or_this, bytes_of}
-use Rattle.node_core.proofs.Offered.{reads_as, keyed_in, read_is}
-
--- ---- what the machine makes of a Get
-
-got_as : {L : Type 0} (node : Node L) (n : Situation) (x : List ℕ) (r : Request) (k : Knows node n) → IsGet node.peers.own.id node.peers.keys x r → react n (Datagram x) ≡ on_get k.settings.settings n r.peer r.number r.key r.name
-got_as node n x r k get =
-    reads_as node n x k
-    ∙ on_read-get k.settings.settings n (read_frame node.peers.own.id node.peers.keys x) r.peer r.number r.key r.name get.reads (keyed_in node n r.peer r.key k get.keyed)
-
--- by whether the store lists the peer for the name
-by_owner : {L : Type 0} (node : Node L) (n : Situation) (x : List ℕ) (r : Request) (b : Bool) (k : Knows node n) → IsGet node.peers.own.id node.peers.keys x r → is_owner node.names (Peer r.peer) r.name ≡ b
-    → react n (Datagram x) ≡ cond b (tells_again (option_map (here k.settings.settings r.key r.peer r.number r.name) (last_brought r.name n.history)) n.volatile) (quiet n.volatile)
-by_owner node n x r b k get is =
-    got_as node n x r k get
-    ∙ ap (λ (t : Bool). cond t (tells_again (option_map (here k.settings.settings r.key r.peer r.number r.name) (last_brought r.name n.history)) n.volatile) (quiet n.volatile)) (sym (k.names.owners (Peer r.peer) r.name) ∙ is)
-
-pub gives_as : {L : Type 0} (node : Node L) (n : Situation) (x : List ℕ) (r : Request) → Knows node n → IsGet node.peers.own.id node.peers.keys x r → is_owner node.names (Peer r.peer) r.name ≡ true → GivesBytes n x r
-gives_as node n x r k get is =
-    let has_it : has_chunk (state n.history) r.peer r.name ≡ true = sym (k.names.owners (Peer r.peer) r.name) ∙ is in
-    record {
-      settings = k.settings.settings;
-      present = k.settings.present;
-      reaction = by_owner node n x r true k get is;
-      has = has_it;
-      read = record { not_unread = λ u. true≢false (sym has_it ∙ (u k.settings.settings r.peer r.number (Get r.name) k.settings.present (read_is node n x k ∙ get.reads)).get r.name refl) };
-    }
-
-pub passes_get : {L : Type 0} (node : Node L) (n : Situation) (x : List ℕ) (r : Request) → Knows node n → IsGet node.peers.own.id node.peers.keys x r → is_owner node.names (Peer r.peer) r.name ≡ false → react n (Datagram x) ≡ quiet n.volatile
-passes_get node n x r k get is = by_owner node n x r false k get is
 
 -- ---- what a peer has here is held
 
@@ -128,13 +93,6 @@ brought_chunk h name b v there = brought_from _ h name b v.lawful there
 
 -- ---- the letters
 
--- a name has a spelling in a frame, and so have the bytes of a chunk
-pub digest_fits : (name : List ℕ) → length name ≡ 32 → ((k : ℕ) → get_or name k 0 < 256) → is_digest name ≡ true
-digest_fits name long each = rw (eq-eqb (length name) 32 long) (all_bytes name each)
-
-pub text_fits : (least : ℕ) (bytes : List ℕ) → least ≤ length bytes → length bytes ≤ longest_chunk → are_bytes bytes ≡ true → is_text least bytes ≡ true
-text_fits least bytes some short all = rw (le-leb least (length bytes) some, le-leb (length bytes) 32768 short) all
-
 -- to each peer of the settings
 pub gets_are : {L : Type 0} (node : Node L) (n : Situation) (settings : Settings) (name : List ℕ) → Knows node n → (state n.history).settings ≡ Some settings → map (get_by node.peers.own.id name) node.peers.rows ≡ gets settings name
 gets_are node n settings name k present =
@@ -142,14 +100,10 @@ gets_are node n settings name k present =
     ap (λ (p : PeersView). map (get_by p.own.id name) p.rows) k.settings.peers ∙ ap (λ (st : Settings). gets st name) same
 
 -- where nothing is held, the peer has nothing there
-pub given_none : (n : Situation) (r : Request) (letters : List (ℕ × List ℕ)) → false ≡ is_held (state n.history) r.name → IsGiven n r letters
-given_none n r letters none = λ has_it settings present. absurd (false≢true (none ∙ chunk_held (state n.history) r.peer r.name has_it))
+pub given_none : {L : Type 0} (node : Node L) (n : Situation) (from : Sender) (name : List ℕ) (letters : List (ℕ × List ℕ)) → false ≡ is_held (state n.history) name → IsGiven node n from name letters
+given_none node n from name letters none = λ has_it. absurd (false≢true (none ∙ chunk_held (state n.history) from.peer name has_it))
 
 -- the one letter has the bytes that were brought last
-pub given_bytes : {L : Type 0} (node : Node L) (n : Situation) (r : Request) (bytes : List ℕ) (letters : List (ℕ × List ℕ)) → Knows node n → last_brought r.name n.history ≡ Some bytes
-    → (length bytes ≤ longest_chunk → letters ≡ (r.peer, datagram r.key node.peers.own.id r.peer r.number (Here r.name bytes)) ∷ []) → IsGiven n r letters
-given_bytes node n r bytes letters k brought tells = λ has_it settings present.
-    let same : k.settings.settings ≡ settings = same_some (state n.history).settings k.settings.settings settings k.settings.present present in
-    tells (brought_chunk n.history r.name bytes k.valid brought).short
-    ∙ ap (λ (own : ℕ). (r.peer, datagram r.key own r.peer r.number (Here r.name bytes)) ∷ []) (ap (λ (v : PeersView). v.own.id) k.settings.peers ∙ ap (λ (st : Settings). st.id) same)
-    ∙ ap (λ (o : Option (List ℕ)). option_to_list (option_map (here settings r.key r.peer r.number r.name) o)) (sym brought)
+pub given_bytes : {L : Type 0} (node : Node L) (n : Situation) (from : Sender) (name bytes : List ℕ) (letters : List (ℕ × List ℕ)) → Knows node n → last_brought name n.history ≡ Some bytes
+    → (length bytes ≤ longest_chunk → letters ≡ (from.peer, datagram from.key node.peers.own.id from.peer from.number (Here name bytes)) ∷ []) → IsGiven node n from name letters
+given_bytes node n from name bytes letters k brought tells = λ has_it. (bytes, brought, tells (brought_chunk n.history name bytes k.valid brought).short)

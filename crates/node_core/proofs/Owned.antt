@@ -1,5 +1,5 @@
 -- What a node makes of an input of its own is what the machine makes of it.
-use Rattle.std.proofs.Common.{◌≡◌, ◌↔◌, ℕ, ◌+◌, ◌<◌, ◌≤◌, ◌^◌, Bool, true, false, not, ◌||◌, ◌==◌, cond, get_or, List, [], ◌∷◌, ◌++◌, length, slice_get, is_some, IfSome, Option, Some, None, Result, Ok, Err, refl, sym, ◌∙◌, ap, subst, arith, length-append, option_map}
+use Rattle.std.proofs.Common.{◌≡◌, ◌↔◌, ℕ, ◌+◌, ◌<◌, ◌≤◌, ◌^◌, Bool, true, false, not, ◌||◌, ◌==◌, cond, get_or, List, [], ◌∷◌, ◌++◌, length, slice_get, is_some, IfSome, Option, Some, None, Result, Ok, Err, refl, sym, ◌∙◌, ap, subst, arith, length-append}
 use Rattle.std.specs.Int.{to_be_bytes, w32, w64}
 use Rattle.std.specs.List.{list_all, flat_map}
 use Rattle.std.proofs.lemmas.Bool.{and_parts, false≢true, true≢false, eqb-true, eq-eqb}
@@ -18,12 +18,13 @@ use Rattle.psb_model.specs.History.{state}
 use Rattle.psb_model.specs.Needed.{last_brought, IsValid}
 use Rattle.psb_model.specs.declared.change.Change.{Change}
 use Rattle.psb_model.specs.declared.change.Change.TheVariants.{Kept, Forgot}
+use Rattle.psb_model.proofs.ByObject.{by_cases}
 use Rattle.psb_model.proofs.Own.{name_refl}
 use Rattle.change_codec.proofs.RecordLaws.{all_bytes}
 use Rattle.change_codec.proofs.Lengths.{ticket_length, names_length}
 use Rattle.psb_machine.specs.Deals.{meets_others}
 use Rattle.psb_machine.specs.Laws.{KeepFits, SnapFits}
-use Rattle.psb_machine.specs.Machine.{Situation, Volatile, Reaction as MachineReaction, Keep, on_keep, kept_with, snapped_with, has_snapshot, quiet, grows}
+use Rattle.psb_machine.specs.Machine.{Situation, Reaction as MachineReaction, Keep, on_keep, kept_with, snapped_with, has_snapshot, quiet, grows}
 use Rattle.psb_machine.specs.declared.snap_note.SnapNote.{SnapNote}
 use Rattle.psb_machine.proofs.Valid.{kept_may, kept_valid, snapped_may, snap_valid, forgot_may, forgot_valid}
 use Rattle.chunk_store.specs.declared.owner.Owner.TheVariants.{Own}
@@ -37,12 +38,14 @@ use Rattle.chunk_store.specs.declared.error.StoreError.TheVariants.{Already, Cla
 use Rattle.node_core.specs.declared.fault.Fault.{Fault}
 use Rattle.node_core.specs.declared.fault.Fault.TheVariants as fault
 use Rattle.node_core.specs.declared.node.Node.{Node}
+use Rattle.node_core.specs.declared.peer_state.Note.TheVariants as note
 use Rattle.node_core.specs.declared.reaction.Reaction.{Reaction}
-use Rattle.node_core.specs.Letters.{letters_of}
+use Rattle.node_letters.specs.Letters.{letters_of}
+use Rattle.node_core.specs.PeerStates.{note_in}
 use Rattle.node_history.specs.Less.{IsLess}
 use Rattle.node_core.specs.Making.{MayMake}
 use Rattle.node_history.specs.Names.{KnowsNames}
-use Rattle.node_core.specs.Reacting.{told_by, Reacts, MayCome}
+use Rattle.node_core.specs.Reacting.{Reacts, ReactsSo, MayCome}
 use Rattle.node_core.specs.Refusing.{Compared, when_taken}
 use Rattle.node_history.specs.Stands.{AreDecoded}
 use Rattle.node_core.specs.Stored.{Knows, Stored}
@@ -51,7 +54,8 @@ use Rattle.node_core.proofs.Compared.{MeetsBy, look_exact}
 use Rattle.node_history.proofs.Less.{state_less, names_less, last_bytes_less}
 use Rattle.node_history.proofs.Named.{named_there}
 use Rattle.node_core.proofs.Compared.{meets_less}
-use Rattle.node_core.proofs.Offered.{body_short}
+use Rattle.node_core.proofs.Dealt.{body_short}
+use Rattle.node_core.proofs.Heard.{none_spelled}
 
 -- ---- what was found under a name
 
@@ -192,30 +196,37 @@ keep_may_come r node name bytes c makes f known lacks few is =
         (kept_may_make n.history name bytes k.valid.some f (free n k) (subst (λ (s : State). s.changes < 2 ^ 62) k.ledger few)))
 
 -- it is a reaction that makes this change and tells nobody
-made_here : (r : Reaction) (m : MachineReaction) (c d : Change) (v : Volatile) → r.change ≡ Some c → r.sample ≡ None → r.dropped ≡ None → r.out ≡ [] → c ≡ d → m ≡ grows d v → Reacts r m
-made_here r m c d v makes sample dropped out is same = record {
-  change = makes ∙ ap (λ (e : Change). Some e) is ∙ sym (ap (λ (q : MachineReaction). q.grown) same);
-  letters = ap letters_of out ∙ sym (ap (λ (q : MachineReaction). q.letters) same);
-  sample = ap (option_map told_by) sample ∙ sym (ap (λ (q : MachineReaction). q.sample) same);
-  dropped = dropped ∙ sym (ap (λ (q : MachineReaction). q.dropped) same);
-}
+made_here : (r : Reaction) (n : Situation) (m : MachineReaction) (c d : Change) → r.change ≡ Some c → r.note ≡ note.Nothing → r.dropped ≡ None → r.out ≡ [] → c ≡ d → m ≡ grows d → Reacts r n m
+made_here r n m c d makes noted dropped out is same = subst (λ (q : MachineReaction). Reacts r n q) (sym same) (record {
+  change = makes ∙ ap (λ (e : Change). Some e) is;
+  letters = ap letters_of out ∙ none_spelled (state n.history).settings;
+  note = ap note_in noted;
+  dropped = dropped;
+})
 
 -- it is the change that the machine makes, where no others are held
-pub keeps_new : {L : Type 0} (r : Reaction) (node : Node L) (n : Situation) (name bytes : List ℕ) (c : Change) → r.change ≡ Some c → r.sample ≡ None → r.dropped ≡ None → r.out ≡ [] → is_owner node.names Own name ≡ false → Knows node n → meets_others n.history name bytes ≡ false
-    → c ≡ kept_with (state n.history) name bytes → Reacts r (on_keep n name bytes)
-keeps_new r node n name bytes c makes sample dropped out lacks k meets is =
-    let made = grows (kept_with (state n.history) name bytes) n.volatile in
-    made_here r (on_keep n name bytes) c (kept_with (state n.history) name bytes) n.volatile makes sample dropped out is (
-    ap (λ (b : Bool). cond (b || meets_others n.history name bytes) (quiet n.volatile) made) (sym (k.names.owners Own name) ∙ lacks)
-    ∙ ap (λ (b : Bool). cond b (quiet n.volatile) made) meets)
+pub keeps_new : {L : Type 0} (r : Reaction) (node : Node L) (n : Situation) (name bytes : List ℕ) (c : Change) → r.change ≡ Some c → r.note ≡ note.Nothing → r.dropped ≡ None → r.out ≡ [] → is_owner node.names Own name ≡ false → Knows node n → meets_others n.history name bytes ≡ false
+    → c ≡ kept_with (state n.history) name bytes → Reacts r n (on_keep n name bytes)
+keeps_new r node n name bytes c makes noted dropped out lacks k meets is =
+    let made = grows (kept_with (state n.history) name bytes) in
+    made_here r n (on_keep n name bytes) c (kept_with (state n.history) name bytes) makes noted dropped out is (
+    ap (λ (b : Bool). cond (b || meets_others n.history name bytes) quiet made) (sym (k.names.owners Own name) ∙ lacks)
+    ∙ ap (λ (b : Bool). cond b quiet made) meets)
 
 -- and the one that it makes of what is taken
-pub keeps_taken : {L : Type 0} (r : Reaction) (node : Node L) (n : Situation) (name bytes : List ℕ) (c : Change) → r.change ≡ Some c → r.sample ≡ None → r.dropped ≡ None → r.out ≡ [] → is_owner node.names Own name ≡ false → Knows node n
-    → c ≡ kept_with (state n.history) name bytes → Reacts r (when_taken n (Keep name bytes))
-keeps_taken r node n name bytes c makes sample dropped out lacks k is =
-    let made = grows (kept_with (state n.history) name bytes) n.volatile in
-    made_here r (when_taken n (Keep name bytes)) c (kept_with (state n.history) name bytes) n.volatile makes sample dropped out is
-    (ap (λ (b : Bool). cond b (quiet n.volatile) made) (sym (k.names.owners Own name) ∙ lacks))
+pub keeps_taken : {L : Type 0} (r : Reaction) (node : Node L) (n : Situation) (name bytes : List ℕ) (c : Change) → r.change ≡ Some c → r.note ≡ note.Nothing → r.dropped ≡ None → r.out ≡ [] → is_owner node.names Own name ≡ false → Knows node n
+    → c ≡ kept_with (state n.history) name bytes → Reacts r n (when_taken n (Keep name bytes))
+keeps_taken r node n name bytes c makes noted dropped out lacks k is =
+    let made = grows (kept_with (state n.history) name bytes) in
+    made_here r n (when_taken n (Keep name bytes)) c (kept_with (state n.history) name bytes) makes noted dropped out is
+    (ap (λ (b : Bool). cond b quiet made) (sym (k.names.owners Own name) ∙ lacks))
+
+-- on every disk a change is made where the machine makes one, unless bytes are compared
+keep_undropped : (n : Situation) (name bytes : List ℕ) → (on_keep n name bytes).dropped ≡ None
+keep_undropped n name bytes = by_cases (own_has (state n.history).own name || meets_others n.history name bytes) (λ k. rw k refl) (λ k. rw k refl)
+
+pub keep_so : (r : Reaction) (n : Situation) (name bytes : List ℕ) → r.dropped ≡ None → (is_held (state n.history) name ≡ false → Reacts r n (on_keep n name bytes)) → ReactsSo r n (Keep name bytes)
+keep_so r n name bytes dropped it = record { change = λ certain. ap (λ (o : Option Change). is_some o) (it certain).change; dropped = dropped ∙ sym (keep_undropped n name bytes) }
 
 -- what is new here is not held
 pub new_is : (names : Store) (h : List Change) (name : List ℕ) (new : Bool) → KnowsNames names h → (new ≡ true) ↔ (record_of names name ≡ None) → new ≡ not (is_held (state h) name)

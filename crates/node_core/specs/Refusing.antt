@@ -34,7 +34,7 @@ is_refused n (Forget number) = not (has_snapshot (state n.history) number)
 -- What comes of an input of the node's own that is taken, whatever the disk tells: bytes to keep are then no
 -- others than those that are held.
 abbrev pub when_taken : Situation → MachineInput → MachineReaction
-when_taken n (Keep name bytes) = if own_has (state n.history).own name then quiet n.volatile else grows (kept_with (state n.history) name bytes) n.volatile
+when_taken n (Keep name bytes) = if own_has (state n.history).own name then quiet else grows (kept_with (state n.history) name bytes)
 when_taken n (Datagram x) = react n (Datagram x)
 when_taken n (Tick p) = react n (Tick p)
 when_taken n (Snap note) = react n (Snap note)

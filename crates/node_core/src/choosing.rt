@@ -1,9 +1,10 @@
 //! The candidates among whom buddies are chosen.
 
 ghost use Rattle.std.specs.Prelude.{◌≡◌, ◌≤◌, IfOk};
-ghost use Rattle.node_core.specs.Choosing.{candidates_in};
+ghost use Rattle.psb_machine.specs.Sampling.{candidates};
+ghost use Rattle.node_core.specs.PeerStates.{sample_of};
 
-use crate::clocks::{Clock, sample_of};
+use crate::peer_state::{PeerState, sample_of};
 use psb_bytes::Memory;
 use psb_model::Candidate;
 use psb_settings::PeerRow;
@@ -14,15 +15,15 @@ use std::alloc::Global;
 pub(crate) fn candidates_of(
     alloc: Global,
     peers: &[PeerRow],
-    clocks: &[Clock],
+    states: &[PeerState],
     names: u32,
 ) -> Result<Vec<Candidate>, Memory>
     requires few { names ≤ 32 }
-    ensures { IfOk result (λ found. found.items ≡ candidates_in peers.now clocks.now names) }
+    ensures { IfOk result (λ found. found.items ≡ candidates peers.now (sample_of states.now) names) }
 {
     let mut found = Vec::new(alloc);
     for peer in peers {
-        add_candidate(&mut found, peer, sample_of(clocks, peer.id), names)?;
+        add_candidate(&mut found, peer, sample_of(states, peer.id), names)?;
     }
     Ok(found)
 }

@@ -1,4 +1,4 @@
-//! What is looked up before a fresh offer is judged.
+//! What is looked up before a fresh deal is judged.
 
 ghost use Rattle.std.specs.Prelude.{◌≡◌, ◌<◌, ◌⊎◌, List, Bool, ℕ, true, false, not, Some, None, is_some, IsSome, IfSome, IfOk, OnErr};
 ghost use Rattle.psb_bytes.specs.Objects.{name_eq};
@@ -8,17 +8,16 @@ ghost use Rattle.node_journal.specs.Entry.{Entry};
 ghost use Rattle.psb_model.specs.State.{State, is_held};
 ghost use Rattle.psb_model.specs.History.{state};
 ghost use Rattle.psb_model.specs.declared.change.Change.{Change};
-ghost use Rattle.psb_machine.specs.Deals.{meets_others, is_named, is_new};
+ghost use Rattle.psb_machine.specs.Deals.{meets_others, is_named, is_new, clashes};
 ghost use Rattle.deals.specs.Views.{deal_in};
 ghost use Rattle.node_history.specs.Stands.{AreDecoded};
 ghost use Rattle.chunk_store.specs.Store.{record_of, is_owner};
 ghost use Rattle.chunk_store.specs.declared.owner.Owner.TheVariants.{Peer};
 ghost use Rattle.node_history.specs.Names.{KnowsNames, AreThere};
 ghost use Rattle.node_core.specs.Compared.{HasNone};
-ghost use Rattle.node_core.specs.Making.{AreFacts, why_refused, clashes};
+ghost use Rattle.node_core.specs.Making.{AreFacts, why_refused};
 
 use crate::Fault;
-use crate::offer::Offer;
 use chunk_store::{Fit, Owner, Store, StoreError};
 use deals::{DealView, Facts};
 use node_journal::Log;
@@ -118,26 +117,27 @@ fn looked_up<L: Log, D: Disk>(
     log: &mut L,
     disk: &mut D,
     names: &Store,
-    offer: &Offer<'_>,
+    peer: PeerId,
+    deal: &DealView<'_>,
 ) -> Result<Sealed, Fault>
     requires whole { L.is_broken log.old ≡ false }
     requires there { AreThere names.now (L.size log.old) (L.keeps_body log.old) }
-    ensures named { IfOk result (λ f. f.named ≡ is_named (deal_in offer.now.deal)) }
-    ensures new { IfOk result (λ f. (s : State) → ((name : List ℕ) → is_some (record_of names.now name) ≡ is_held s name) → f.new ≡ is_new s (deal_in offer.now.deal)) }
+    ensures named { IfOk result (λ f. f.named ≡ is_named (deal_in deal.now)) }
+    ensures new { IfOk result (λ f. (s : State) → ((name : List ℕ) → is_some (record_of names.now name) ≡ is_held s name) → f.new ≡ is_new s (deal_in deal.now)) }
     ensures exact { IfOk result (λ f. Tells_bytes (D.view disk.new) → (h : List Change) (es : List Entry) → KnowsNames names.now h → AreDecoded h es
-        → Shows (L.holds log.old es) (D.view disk.old) → why_refused (state h) offer.now f.clash ≡ why_refused (state h) offer.now (clashes h offer.now)) }
-    ensures unheld { IfOk result (λ f. HasNone names.now (deal_in offer.now.deal) → f.clash ≡ false) }
+        → Shows (L.holds log.old es) (D.view disk.old) → why_refused (state h) peer (deal_in deal.now) f.clash ≡ why_refused (state h) peer (deal_in deal.now) (clashes h (deal_in deal.now))) }
+    ensures unheld { IfOk result (λ f. HasNone names.now (deal_in deal.now) → f.clash ≡ false) }
     ensures log { log.new ≡ log.old }
     ensures looked { Looked (result ≡ Err Fault.DiskFault) (D.view disk.old) (D.view disk.new) }
     ensures reads { (D.view disk.new).write_faults ≡ (D.view disk.old).write_faults }
     ensures only { OnErr result ((result ≡ Err Fault.DiskFault) ⊎ (result ≡ Err Fault.Memory)) }
 {
-    match &offer.deal {
+    match deal {
         DealView::StoreFresh { name, bytes } => {
-            sealed_facts(alloc, log, disk, names, offer.peer, name, bytes)
+            sealed_facts(alloc, log, disk, names, peer, name, bytes)
         }
         DealView::StoreSwap { name, bytes, .. } => {
-            sealed_facts(alloc, log, disk, names, offer.peer, name, bytes)
+            sealed_facts(alloc, log, disk, names, peer, name, bytes)
         }
         DealView::Cancel { .. } | DealView::PutBack { .. } => Ok(Sealed {
             named: true,
@@ -147,28 +147,29 @@ fn looked_up<L: Log, D: Disk>(
     }
 }
 
-/// The facts that a fresh offer is judged by.
+/// The facts that a fresh deal is judged by.
 pub(crate) fn facts_of<L: Log, D: Disk>(
     alloc: Global,
     log: &mut L,
     disk: &mut D,
     ledger: &Ledger,
     names: &Store,
-    offer: &Offer<'_>,
+    peer: PeerId,
+    deal: &DealView<'_>,
 ) -> Result<Facts, Fault>
     requires whole { L.is_broken log.old ≡ false }
     requires there { AreThere names.now (L.size log.old) (L.keeps_body log.old) }
     requires held { (name : List ℕ) → is_some (record_of names.now name) ≡ is_held ledger.now.state name }
     requires present { IsSome ledger.now.state.settings }
 
-    // On each disk they are the offer's, as if other bytes were held under its name or none were; where the disk
+    // On each disk they are the deal's, as if other bytes were held under its name or none were; where the disk
     // tells its bytes, that is so or has no say.
-    ensures are { IfOk result (λ f. AreFacts f ledger.now.state offer.now) }
+    ensures are { IfOk result (λ f. AreFacts f ledger.now.state (deal_in deal.now)) }
     ensures exact { IfOk result (λ f. Tells_bytes (D.view disk.new) → (h : List Change) (es : List Entry) → KnowsNames names.now h → AreDecoded h es
-        → Shows (L.holds log.old es) (D.view disk.old) → why_refused (state h) offer.now f.clash ≡ why_refused (state h) offer.now (clashes h offer.now)) }
+        → Shows (L.holds log.old es) (D.view disk.old) → why_refused (state h) peer (deal_in deal.now) f.clash ≡ why_refused (state h) peer (deal_in deal.now) (clashes h (deal_in deal.now))) }
 
     // Where nothing is compared, what the disk tells has no say.
-    ensures unheld { IfOk result (λ f. HasNone names.now (deal_in offer.now.deal) → f.clash ≡ false) }
+    ensures unheld { IfOk result (λ f. HasNone names.now (deal_in deal.now) → f.clash ≡ false) }
     ensures log { log.new ≡ log.old }
     ensures looked { Looked (result ≡ Err Fault.DiskFault) (D.view disk.old) (D.view disk.new) }
     ensures reads { (D.view disk.new).write_faults ≡ (D.view disk.old).write_faults }
@@ -177,7 +178,7 @@ pub(crate) fn facts_of<L: Log, D: Disk>(
     let Some(settings) = ledger.settings() else {
         unreachable!()
     };
-    let Sealed { named, clash, new } = looked_up(alloc, log, disk, names, offer)?;
+    let Sealed { named, clash, new } = looked_up(alloc, log, disk, names, peer, deal)?;
     Ok(Facts {
         name_fits: named,
         clash,

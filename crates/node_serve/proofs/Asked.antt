@@ -11,8 +11,8 @@ use Rattle.psb_machine.specs.Course.{Telling, Send, after_all, tellings, sent_of
 use Rattle.psb_machine.specs.Commands.{get_by, gets}
 use Rattle.psb_machine.proofs.Peers.{settings_read}
 use Rattle.psb_settings.specs.Settings.{most_peers}
-use Rattle.node_core.specs.Letters.{letters_of}
-use Rattle.node_core.specs.declared.outcome.Letter.{Letter}
+use Rattle.node_letters.specs.Letters.{letters_of}
+use Rattle.node_letters.specs.declared.letter.Letter.{Letter}
 use Rattle.node_core.specs.declared.node.Node.{Node}
 use Rattle.node_history.specs.Stands.{ReopensTo}
 use Rattle.node_core.specs.Stored.{Knows, Stored}

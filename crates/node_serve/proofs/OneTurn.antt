@@ -10,7 +10,7 @@ use Rattle.psb_station.proofs.Spans.{at_start, rests_on, weakened, then_run, sho
 use Rattle.node_journal.specs.Entry.{Entry}
 use Rattle.psb_model.specs.declared.change.Change.{Change}
 use Rattle.wire_codec.specs.declared.frame.Dropped.{Dropped}
-use Rattle.psb_machine.specs.Machine.{Situation, Input, Datagram, Tick, react, next}
+use Rattle.psb_machine.specs.Machine.{Situation, Input, Datagram, Tick, react, sent_by, next}
 use Rattle.psb_machine.specs.Course.{Telling, Send, Step, Absorb, after_all, tellings, sent_of, said_of, sent_in, said_in, datagrams}
 use Rattle.psb_machine.specs.Commands.{Turn, ticks, came_steps, clock_steps, turn_steps, clock_after, serve_steps}
 use Rattle.node_core.specs.declared.fault.Fault.{Fault as NodeFault}
@@ -234,16 +234,16 @@ module _ {L : Type 0} (holds : L → List Entry → List ℕ → Type 0) (stands
   pub answered : (node node' : Node L) (n : Situation) (v1 v2 v3 : View) (i : Input) (t : Tally) → Knows node n → DiskWorks v1 v2 → Tells_bytes v3
       → Leaves v1 v2 (λ c k. (k ≡ v1.told) × (ReopensTo stands n.history c ⊎ ReopensTo stands (next n i).history c))
       → Knows node' (next n i) → Stored holds node' (next n i).history v2
-      → (letters : List (ℕ × List ℕ)) → letters ≡ (react n i).letters → Sends v2 v3 letters t.lost
+      → (letters : List (ℕ × List ℕ)) → letters ≡ sent_by n i → Sends v2 v3 letters t.lost
       → (d : Option Dropped) → d ≡ (react n i).dropped → t.taken ≡ datagrams i → t.dropped ≡ (if is_some d then 1 else 0)
       → Fed holds stands broken node node' v1 v3 n (Absorb i ∷ []) (Some t) true
   answered node node' n v1 v2 v3 i t known works tells run knows stored letters are s d drop taken dropped =
       let P : List ℕ → ℕ → Type 0 = λ c k. IsPrefixSoon stands n (Absorb i ∷ []) [] v1.told c k in
-      let r = react n i in
-      let all : tellings n (Absorb i ∷ []) ≡ map Send r.letters = append-nil (map Send r.letters) in
-      let sent : sent_in n (Absorb i ∷ []) ≡ letters = ap sent_of all ∙ sent_of-letters r.letters ∙ sym are in
-      let said : said_in n (Absorb i ∷ []) ≡ [] = ap said_of all ∙ said_of-letters r.letters in
-      let many : length (tellings n (Absorb i ∷ [])) ≡ length letters = ap (λ (l : List Telling). length l) all ∙ many_letters r.letters ∙ ap (λ (l : List (ℕ × List ℕ)). length l) (sym are) in
+      let out = sent_by n i in
+      let all : tellings n (Absorb i ∷ []) ≡ map Send out = append-nil (map Send out) in
+      let sent : sent_in n (Absorb i ∷ []) ≡ letters = ap sent_of all ∙ sent_of-letters out ∙ sym are in
+      let said : said_in n (Absorb i ∷ []) ≡ [] = ap said_of all ∙ said_of-letters out in
+      let many : length (tellings n (Absorb i ∷ [])) ≡ length letters = ap (λ (l : List Telling). length l) all ∙ many_letters out ∙ ap (λ (l : List (ℕ × List ℕ)). length l) (sym are) in
       let from_sent : v2.outside.sent ≡ v1.outside.sent = ap (λ (o : Outside). o.sent) works.outside in
       let from_tried : v2.outside.tried ≡ v1.outside.tried = ap (λ (o : Outside). o.tried) works.outside in
       let from_faults : v2.outside.send_faults ≡ v1.outside.send_faults = ap (λ (o : Outside). o.send_faults) works.outside in

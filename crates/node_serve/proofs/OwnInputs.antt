@@ -5,9 +5,9 @@ use Rattle.psb_station.specs.View.{View}
 use Rattle.psb_station.specs.Span.{Leaves, DiskWorks, Tells_bytes}
 use Rattle.node_journal.specs.Entry.{Entry}
 use Rattle.psb_model.specs.State.{State}
-use Rattle.psb_machine.specs.Machine.{Situation, Input as MachineInput, Datagram, Tick, Keep, Snap, Forget, react, next}
+use Rattle.psb_machine.specs.Machine.{Situation, Input as MachineInput, Datagram, Tick, Keep, Snap, Forget, react, sent_by, next}
 use Rattle.psb_machine.specs.Course.{Absorb, datagrams}
-use Rattle.node_core.specs.Letters.{input_of, is_own}
+use Rattle.node_core.specs.Inputs.{input_of, is_own}
 use Rattle.node_core.specs.Refusing.{IsApt, Refuses}
 use Rattle.node_history.specs.Stands.{ReopensTo}
 use Rattle.node_core.specs.Stored.{Knows, Stored}
@@ -50,7 +50,7 @@ module _ {L : Type 0} (holds : L → List Entry → List ℕ → Type 0) (stands
   -- an input that was absorbed, and of which nobody is told
   pub absorbed : (node node' : Node L) (n : Situation) (v1 v2 : View) (i : MachineInput) → Knows node n → DiskWorks v1 v2 → Tells_bytes v2
       → Leaves v1 v2 (λ c k. (k ≡ v1.told) × (ReopensTo stands n.history c ⊎ ReopensTo stands (next n i).history c))
-      → Knows node' (next n i) → Stored holds node' (next n i).history v2 → [] ≡ (react n i).letters
+      → Knows node' (next n i) → Stored holds node' (next n i).history v2 → [] ≡ sent_by n i
       → Fed holds stands broken node node' v1 v2 n (Absorb i ∷ []) None true
   absorbed node node' n v1 v2 i knows works tells run knows' stored none =
       let d = (react n i).dropped in

@@ -11,8 +11,8 @@ sends [] = []
 sends (letter ∷ letters) = Tell (Send letter) ∷ sends letters
 
 -- a Get of the bytes under a name is sent to each peer
-abbrev pub ask_steps : Settings → List ℕ → List Step
-ask_steps settings name = sends (gets settings name)
+abbrev pub get_steps : Settings → List ℕ → List Step
+get_steps settings name = sends (gets settings name)
 
 -- nothing came, and so many letters were lost
 abbrev pub only_lost : ℕ → Tally

@@ -6,7 +6,7 @@ ghost use Rattle.psb_settings.specs.declared.settings.Settings.{Settings};
 ghost use Rattle.psb_model.specs.History.{state};
 ghost use Rattle.psb_machine.specs.Machine.{Situation};
 ghost use Rattle.node_core.specs.Stored.{Knows, Stored};
-ghost use Rattle.node_serve.specs.Asks.{ask_steps, only_lost};
+ghost use Rattle.node_serve.specs.Asks.{get_steps, only_lost};
 ghost use Rattle.node_serve.specs.Spans.{Counts, Fed};
 ghost use Rattle.node_serve.specs.Turns.{OnlySends};
 
@@ -22,7 +22,7 @@ pub fn ask<L: Log, S: Station>(node: &Node<L>, station: &mut S, name: &Digest) -
     requires known { (n : Situation) × Knows node.now n }
     ensures asked { IfOk result (λ lost. Tells_bytes (S.view station.new) → (n : Situation) (settings : Settings) → Knows node.now n → (state n.history).settings ≡ Some settings
         → Stored L.holds node.now n.history (S.view station.old)
-        → Fed L.holds L.stands L.is_broken node.now node.now (S.view station.old) (S.view station.new) n (ask_steps settings name.now) (Some (only_lost lost)) true) }
+        → Fed L.holds L.stands L.is_broken node.now node.now (S.view station.old) (S.view station.new) n (get_steps settings name.now) (Some (only_lost lost)) true) }
     ensures only_sends { OnlySends (S.view station.old) (S.view station.new) }
     ensures tells { Tells_bytes (S.view station.new) → Tells_bytes (S.view station.old) }
     ensures counts { Counts (S.view station.old) (S.view station.new) }

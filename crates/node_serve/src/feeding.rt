@@ -6,7 +6,7 @@ ghost use Rattle.psb_station.specs.Calls.{Rose};
 ghost use Rattle.psb_station.specs.Span.{DiskWorks, Tells_bytes};
 ghost use Rattle.psb_machine.specs.Machine.{Situation, Forget, settled};
 ghost use Rattle.psb_machine.specs.Course.{Absorb, datagrams};
-ghost use Rattle.node_core.specs.Letters.{input_of, is_own};
+ghost use Rattle.node_core.specs.Inputs.{input_of, is_own};
 ghost use Rattle.node_core.specs.Refusing.{IsApt, is_refused, when_taken, IsHeldAs, Refuses};
 ghost use Rattle.node_core.specs.Stored.{Knows, Stored, IsCounted};
 ghost use Rattle.node_core.specs.Unread.{IsCertain};

@@ -6,7 +6,7 @@ ghost use Rattle.psb_machine.specs.Machine.{Situation};
 ghost use Rattle.psb_machine.specs.Course.{Absorb, datagrams};
 ghost use Rattle.psb_machine.specs.Commands.{ticks};
 ghost use Rattle.node_core.specs.declared.fault.Fault.TheVariants as fault;
-ghost use Rattle.node_core.specs.Letters.{input_of};
+ghost use Rattle.node_core.specs.Inputs.{input_of};
 ghost use Rattle.node_core.specs.Stored.{Knows, Stored, IsCounted};
 ghost use Rattle.node_serve.specs.Buffers.{last_of};
 ghost use Rattle.node_serve.specs.Hears.{End, Stopped};

@@ -20,9 +20,10 @@ use Rattle.abstracts.specs.Bits.{coverage}
 use Rattle.abstracts.specs.Least.{under_salt, put_all as put_names}
 use Rattle.buddy_select.specs.Order.{put_all}
 use Rattle.buddy_select.proofs.Ordering.{all_hold, put_long, put_distinct, put_in_order, next_in_order}
-use Rattle.psb_machine.specs.Sampling.{question_at, question_by, question_of, if_some_names, open_question, wanted_names, salt_of, most_asked, sample_in, candidate_by, candidates, is_last, ticks_to_choose, is_ready, choice_by}
+use Rattle.psb_machine.specs.Sampling.{question_at, question_by, question_of, if_some_names, open_question, wanted_names, salt_of, most_asked, candidate_by, candidates, is_last, ticks_to_choose, is_ready, choice_by}
 use Rattle.psb_machine.specs.declared.question.Question.{Question}
-use Rattle.psb_machine.specs.Machine.{Situation, clock_in, later, choice_at}
+use Rattle.psb_machine.specs.Volatile.{of_peer, later}
+use Rattle.psb_machine.specs.Machine.{Situation, sample_of, choice_at}
 use Rattle.psb_machine.proofs.Taken.{MayTake, begun_here}
 use Rattle.psb_machine.proofs.Peers.{peer_in, rows_are_peers, settings_read}
 
@@ -77,12 +78,12 @@ coverage_within bits zero = omega arith
 coverage_within bits (suc n) = omega (arith, coverage_within (bits / 2) n)
 
 -- what each candidate of a row has all that are found have
-found_pass : (test : Candidate → Bool) (of_row : PeerRow → Bool) (peers : List PeerRow) (samples : List (ℕ × ℕ)) (n : ℕ) → ((r : PeerRow) (bits : ℕ) → of_row r ≡ true → test (record { peer = r.id; got = coverage bits n; of = n; hops = r.hops }) ≡ true)
+found_pass : (test : Candidate → Bool) (of_row : PeerRow → Bool) (peers : List PeerRow) (samples : ℕ → Option ℕ) (n : ℕ) → ((r : PeerRow) (bits : ℕ) → of_row r ≡ true → test (record { peer = r.id; got = coverage bits n; of = n; hops = r.hops }) ≡ true)
     → list_all of_row peers ≡ true → list_all test (candidates peers samples n) ≡ true
 found_pass test of_row [] samples n passes h = refl
 found_pass test of_row (r ∷ rs) samples n passes h =
     let two = and_parts (of_row r) (list_all of_row rs) h in
-    by_sample (sample_in samples r.id) two.0 (found_pass test of_row rs samples n passes two.1)
+    by_sample (samples r.id) two.0 (found_pass test of_row rs samples n passes two.1)
   where
     by_sample : (o : Option ℕ) → of_row r ≡ true → list_all test (candidates rs samples n) ≡ true → list_all test (candidate_by r n o ++ candidates rs samples n) ≡ true
     by_sample None one rest = rest
@@ -93,15 +94,15 @@ any_row [] = refl
 any_row (r ∷ rs) = any_row rs
 
 -- each was asked for as many names
-pub found_asked : (peers : List PeerRow) (samples : List (ℕ × ℕ)) (n : ℕ) → 1 ≤ n → list_all (λ (x : Candidate). nat_le 1 x.of) (candidates peers samples n) ≡ true
+pub found_asked : (peers : List PeerRow) (samples : ℕ → Option ℕ) (n : ℕ) → 1 ≤ n → list_all (λ (x : Candidate). nat_le 1 x.of) (candidates peers samples n) ≡ true
 found_asked peers samples n some = found_pass (λ (x : Candidate). nat_le 1 x.of) (λ r. true) peers samples n (λ r bits k. le-leb 1 n some) (any_row peers)
 
-no_other : (id : ℕ) (peers : List PeerRow) (samples : List (ℕ × ℕ)) (n : ℕ) → has_id id peers ≡ false → list_any (λ (y : Candidate). id == y.peer) (candidates peers samples n) ≡ false
+no_other : (id : ℕ) (peers : List PeerRow) (samples : ℕ → Option ℕ) (n : ℕ) → has_id id peers ≡ false → list_any (λ (y : Candidate). id == y.peer) (candidates peers samples n) ≡ false
 no_other id [] samples n h = refl
 no_other id (r ∷ rs) samples n h =
     by_cases (r.id == id)
     (λ k. let wrong : true ≡ false = rw k at h in absurd (false≢true (sym wrong)))
-    (λ k. let rest : has_id id rs ≡ false = rw k at h in by_sample (sample_in samples r.id) k (no_other id rs samples n rest))
+    (λ k. let rest : has_id id rs ≡ false = rw k at h in by_sample (samples r.id) k (no_other id rs samples n rest))
   where
     other : (r.id == id) ≡ false → (id == r.id) ≡ false
     other k = by_cases (id == r.id) (λ j. absurd (false≢true (sym k ∙ eq-eqb r.id id (sym (eqb-true id r.id j))))) (λ j. j)
@@ -111,11 +112,11 @@ no_other id (r ∷ rs) samples n h =
     by_sample (Some bits) k rest = rw (other k) rest
 
 -- no peer is found twice
-pub found_distinct : (peers : List PeerRow) (samples : List (ℕ × ℕ)) (n : ℕ) → have_distinct_ids peers ≡ true → distinct_peers (candidates peers samples n) ≡ true
+pub found_distinct : (peers : List PeerRow) (samples : ℕ → Option ℕ) (n : ℕ) → have_distinct_ids peers ≡ true → distinct_peers (candidates peers samples n) ≡ true
 found_distinct [] samples n h = refl
 found_distinct (r ∷ rs) samples n h =
     let two = and_parts (not (has_id r.id rs)) (have_distinct_ids rs) h in
-    by_sample (sample_in samples r.id) (no_other r.id rs samples n (not_true (has_id r.id rs) two.0)) (found_distinct rs samples n two.1)
+    by_sample (samples r.id) (no_other r.id rs samples n (not_true (has_id r.id rs) two.0)) (found_distinct rs samples n two.1)
   where
     not_true : (b : Bool) → not b ≡ true → b ≡ false
     not_true true e = absurd (false≢true e)
@@ -126,9 +127,9 @@ found_distinct (r ∷ rs) samples n h =
     by_sample (Some bits) none rest = rw none rest
 
 -- they are no more than the peers
-pub found_few : (peers : List PeerRow) (samples : List (ℕ × ℕ)) (n : ℕ) → length (candidates peers samples n) ≤ length peers
+pub found_few : (peers : List PeerRow) (samples : ℕ → Option ℕ) (n : ℕ) → length (candidates peers samples n) ≤ length peers
 found_few [] samples n = omega arith
-found_few (r ∷ rs) samples n = by_sample (sample_in samples r.id) (found_few rs samples n)
+found_few (r ∷ rs) samples n = by_sample (samples r.id) (found_few rs samples n)
   where
     by_sample : (o : Option ℕ) → length (candidates rs samples n) ≤ length rs → length (candidate_by r n o ++ candidates rs samples n) ≤ suc (length rs)
     by_sample None few = omega (arith, few)
@@ -144,7 +145,7 @@ rows_fit (r ∷ rs) all =
     let rest : All IsPeerRow rs = λ k d lt. all (suc k) d (omega (arith, lt)) in
     rw (lt-ltb r.id (2 ^ 32) one.fits, lt-ltb r.hops (2 ^ 32) (omega (arith, one.hops))) (rows_fit rs rest)
 
-found_fit : (peers : List PeerRow) (samples : List (ℕ × ℕ)) (n : ℕ) → All IsPeerRow peers → n ≤ 32 → list_all candidate_fits (candidates peers samples n) ≡ true
+found_fit : (peers : List PeerRow) (samples : ℕ → Option ℕ) (n : ℕ) → All IsPeerRow peers → n ≤ 32 → list_all candidate_fits (candidates peers samples n) ≡ true
 found_fit peers samples n all few =
     found_pass candidate_fits row_fits peers samples n
     (λ r bits k. let two = and_parts (is_u32 r.id) (is_u32 r.hops) k in
@@ -161,7 +162,7 @@ all_known f (r ∷ rs) known =
     or_true true = refl
     or_true false = refl
 
-found_peers : (h : List Change) (settings : Settings) (samples : List (ℕ × ℕ)) (n : ℕ) → (state h).settings ≡ Some settings → list_all (λ (x : Candidate). is_peer (state h) x.peer) (candidates settings.peers samples n) ≡ true
+found_peers : (h : List Change) (settings : Settings) (samples : ℕ → Option ℕ) (n : ℕ) → (state h).settings ≡ Some settings → list_all (λ (x : Candidate). is_peer (state h) x.peer) (candidates settings.peers samples n) ≡ true
 found_peers h settings samples n is =
     found_pass (λ (x : Candidate). is_peer (state h) x.peer) (λ (r : PeerRow). is_peer (state h) r.id) settings.peers samples n (λ r bits k. k)
     (all_known (is_peer (state h)) settings.peers (λ q k. rows_are_peers h q ∙ ap (λ o. peer_in o q) is ∙ k))
@@ -171,20 +172,20 @@ found_peers h settings samples n is =
 -- what is chosen at a tick: those that are found, in their order
 pub record IsFound (settings : Settings) (n : Situation) (q : Question) (cs : List Candidate) : Type 0 where
   pub asked : IsOpen (state n.history) q
-  pub some : 1 ≤ length (candidates settings.peers n.volatile.samples (length q.names))
-  pub order : put_all [] (candidates settings.peers n.volatile.samples (length q.names)) ≡ cs
+  pub some : 1 ≤ length (candidates settings.peers (sample_of n.volatile) (length q.names))
+  pub order : put_all [] (candidates settings.peers (sample_of n.volatile) (length q.names)) ≡ cs
 
 pub choice_cases : (P : Type 0) (settings : Settings) (n : Situation) (p : ℕ) (cs : List Candidate) → choice_at settings n p ≡ Some cs → ((q : Question) → IsFound settings n q cs → P) → P
 choice_cases P settings n p cs is found_so =
     by_cases (is_last settings.peers p)
-    (λ k. let chosen : choice_by settings.peers n.volatile.samples (later (clock_in n.volatile.clocks p)) (open_question (state n.history)) ≡ Some cs = rw k at is in
-    by_question (later (clock_in n.volatile.clocks p)) (open_question (state n.history)) refl chosen)
+    (λ k. let chosen : choice_by settings.peers (sample_of n.volatile) (later (of_peer n.volatile p).clock) (open_question (state n.history)) ≡ Some cs = rw k at is in
+    by_question (later (of_peer n.volatile p).clock) (open_question (state n.history)) refl chosen)
     (λ k. let none : None ≡ Some cs = rw k at is in absurd (cc (none)))
   where
-    by_question : (clock : ℕ) (o : Option Question) → open_question (state n.history) ≡ o → choice_by settings.peers n.volatile.samples clock o ≡ Some cs → P
+    by_question : (clock : ℕ) (o : Option Question) → open_question (state n.history) ≡ o → choice_by settings.peers (sample_of n.volatile) clock o ≡ Some cs → P
     by_question clock None o k = absurd (cc (k))
     by_question clock (Some q) o k =
-        let found = candidates settings.peers n.volatile.samples (length q.names) in
+        let found = candidates settings.peers (sample_of n.volatile) (length q.names) in
         by_cases (is_ready (length settings.peers) (length found) clock)
         (λ j. let one : Some (put_all [] found) ≡ Some cs = rw j at k in
         let order : put_all [] found ≡ cs = cc (one) in
@@ -193,7 +194,7 @@ choice_cases P settings n p cs is found_so =
         (λ j. let none : None ≡ Some cs = rw j at k in absurd (cc (none)))
 
 -- those that are found may be chosen, in their order
-found_may : (settings : Settings) (h : List Change) (samples : List (ℕ × ℕ)) (n : ℕ) → IsValid h → (state h).settings ≡ Some settings → 1 ≤ n → n ≤ 32 → 1 ≤ length (candidates settings.peers samples n) → MayTake (state h) (Chose (record { candidates = put_all [] (candidates settings.peers samples n) }))
+found_may : (settings : Settings) (h : List Change) (samples : ℕ → Option ℕ) (n : ℕ) → IsValid h → (state h).settings ≡ Some settings → 1 ≤ n → n ≤ 32 → 1 ≤ length (candidates settings.peers samples n) → MayTake (state h) (Chose (record { candidates = put_all [] (candidates settings.peers samples n) }))
 found_may settings h samples n v is some few found =
     let s = state h in
     let read = settings_read h settings is in
@@ -224,4 +225,4 @@ pub choice_may : (settings : Settings) (n : Situation) (p : ℕ) (cs : List Cand
 choice_may settings n p cs v is chosen =
     choice_cases (MayTake (state n.history) (Chose (record { candidates = cs }))) settings n p cs chosen
     (λ q f. subst (λ (l : List Candidate). MayTake (state n.history) (Chose (record { candidates = l }))) f.order
-    (found_may settings n.history n.volatile.samples (length q.names) v is f.asked.some_names (few_asked (state n.history) q f.asked.asked) f.some))
+    (found_may settings n.history (sample_of n.volatile) (length q.names) v is f.asked.some_names (few_asked (state n.history) q f.asked.asked) f.some))

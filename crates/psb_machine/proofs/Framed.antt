@@ -5,7 +5,7 @@ use Rattle.std.proofs.lemmas.Bool.{and_parts, leb-true, lt-ltb}
 use Rattle.std.proofs.lemmas.List.{length-map}
 use Rattle.psb_bytes.specs.declared.lists.SlotClaim.{SlotClaim}
 use Rattle.psb_model.specs.Grammar.{ascend, is_u8, is_u32, is_u64}
-use Rattle.wire_codec.specs.Fields.{within, ascends, is_digest, is_claim, are_slots, are_claims, is_text, are_bytes}
+use Rattle.wire_codec.specs.Fields.{within, ascends, is_digest, is_claim, are_slots, are_claims, are_names, is_text, are_bytes}
 use Rattle.wire_codec.specs.Frames.{fits}
 use Rattle.wire_codec.specs.declared.frame.Frame.{Frame}
 use Rattle.wire_codec.specs.declared.frame.Frame.TheVariants as frame
@@ -13,7 +13,8 @@ use Rattle.wire_codec.specs.declared.limits.TheConstants.{MOST_SLOTS, CLAIM_BYTE
 use Rattle.psb_bytes.specs.declared.limits.TheConstants.{LAST_REASON}
 use Rattle.psb_machine.specs.Deals.{Deal, StoreFresh, StoreSwap, Cancel, PutBack, deal_of, slots_of}
 use Rattle.psb_machine.specs.Settling.{Reply, Accepts, Refuses, replied_by}
-use Rattle.psb_machine.specs.Judging.{SlotsFit, SwapFits, CancelFits, PutBackFits, DealFits, ReplyFits}
+use Rattle.psb_machine.specs.Messages.{Message, Deals, Replies, Asks, message_of}
+use Rattle.psb_machine.specs.Judging.{SlotsFit, SwapFits, CancelFits, PutBackFits, DealFits, ReplyFits, MessageFits}
 
 -- a frame that was read
 pub record FrameFits (p number : ℕ) (frame : Frame) : Type 0 where
@@ -111,3 +112,40 @@ reply_fits p number (frame.Accepted claims) reply f is =
 reply_fits p number (frame.Refused why detail) reply f is =
     let same : Refuses why detail ≡ reply = cc in subst ReplyFits same (refused_fits p number why detail f)
 reply_fits p number _ reply f is = absurd (cc)
+
+-- ---- by the message that it is
+
+pub message_deal : (f : Frame) (deal : Deal) → message_of f ≡ Some (Deals deal) → deal_of f ≡ Some deal
+message_deal (frame.Store name numbers bytes) deal is = cc (is)
+message_deal (frame.Cancel name numbers) deal is = cc (is)
+message_deal (frame.PutBack name claims) deal is = cc (is)
+message_deal _ deal is = absurd (cc (is))
+
+pub message_reply : (f : Frame) (reply : Reply) → message_of f ≡ Some (Replies reply) → replied_by f ≡ Some reply
+message_reply (frame.Accepted claims) reply is = cc (is)
+message_reply (frame.Refused why detail) reply is = cc (is)
+message_reply _ reply is = absurd (cc (is))
+
+pub deal_message : (p number : ℕ) (f : Frame) (deal : Deal) → FrameFits p number f → message_of f ≡ Some (Deals deal) → DealFits p number deal
+deal_message p number f deal fit is = deal_fits p number f deal fit (message_deal f deal is)
+
+pub reply_message : (p number : ℕ) (f : Frame) (reply : Reply) → FrameFits p number f → message_of f ≡ Some (Replies reply) → ReplyFits reply
+reply_message p number f reply fit is = reply_fits p number f reply fit (message_reply f reply is)
+
+few_names : (names : List (List ℕ)) → are_names names ≡ true → length names ≤ 32
+few_names names h =
+    let a = and_parts (within 1 32 (length names)) (list_all is_digest names) h in
+    leb-true (length names) 32 (and_parts (nat_le 1 (length names)) (nat_le (length names) 32) a.0).1
+
+ask_names : (f : Frame) (salt : List ℕ) (names : List (List ℕ)) → fits f ≡ true → message_of f ≡ Some (Asks salt names) → are_names names ≡ true
+ask_names (frame.Ask s ns) salt names fit is =
+    let same : Asks s ns ≡ Asks salt names = cc (is) in
+    let names_are : ns ≡ names = ap (λ (m : Message). elim m [ Asks a b ↦ b | _ ↦ ns ]) same in
+    subst (λ l. are_names l ≡ true) names_are (and_parts (is_digest s) (are_names ns) fit).1
+ask_names _ salt names fit is = absurd (cc (is))
+
+pub message_fits : (p number : ℕ) (f : Frame) (m : Message) → FrameFits p number f → message_of f ≡ Some m → MessageFits (record { peer = p; number = number }) m
+message_fits p number f (Deals deal) fit is = deal_message p number f deal fit is
+message_fits p number f (Replies reply) fit is = (fit.peer, fit.number_fits, reply_message p number f reply fit is)
+message_fits p number f (Asks salt names) fit is = few_names names (ask_names f salt names (fit.frame_is) is)
+message_fits p number f _ fit is = tt

@@ -1,18 +1,15 @@
 -- Each change that the machine makes is of one of its kinds, whatever the history and the input.
-use Rattle.std.proofs.Common.{◌≡◌, ℕ, ◌+◌, nat_le, Bool, true, false, ◌||◌, ◌==◌, if◌then◌else◌, option_map, List, [], ◌∷◌, Option, Some, None, Result, Ok, Err, refl, ◌∙◌}
+use Rattle.std.proofs.Common.{◌≡◌, ℕ, ◌+◌, nat_le, Bool, true, false, ◌==◌, if◌then◌else◌, cond, option_map, option_to_list, List, [], ◌∷◌, Option, Some, None, refl, sym, ap, subst, ◌∙◌}
 use Rattle.std.specs.Prelude.{find}
 use Rattle.std.specs.List.{list_any, list_all}
 use Rattle.std.specs.Option.{option_or}
-use Rattle.std.proofs.lemmas.Bool.{false≢true}
 use Rattle.std.proofs.lemmas.List.Folds.{list_all-append}
 use Rattle.psb_bytes.specs.Units.{units}
 use Rattle.psb_bytes.specs.declared.ids.Object.{Object}
 use Rattle.psb_bytes.specs.declared.ids.Object.TheVariants.{Chunk, Slot}
 use Rattle.psb_settings.specs.declared.settings.Settings.{Settings}
-use Rattle.psb_model.specs.declared.entries.Candidate.{Candidate}
 use Rattle.psb_model.specs.declared.entries.OutEntry.{OutEntry}
 use Rattle.psb_model.specs.declared.entries.OwnEntry.{OwnEntry}
-use Rattle.psb_model.specs.declared.deals.Deal.{Deal as OwnDeal}
 use Rattle.psb_model.specs.declared.deals.DealWhat.{DealWhat}
 use Rattle.psb_model.specs.declared.deals.DealWhat.TheVariants as own
 use Rattle.psb_model.specs.declared.change.Change.{Change}
@@ -22,22 +19,14 @@ use Rattle.psb_model.specs.State.{State, row, own_has, used}
 use Rattle.psb_model.specs.Conditions.{most_claims, tests}
 use Rattle.psb_model.specs.Proposing.{ProposeFacts, as_many, slots_to_give, may_release, cancel, put_back, release_of, release, slots_to_fill, is_missing, swap, fresh, place_of, first_place, place, proposal}
 use Rattle.psb_model.specs.History.{state}
-use Rattle.psb_model.specs.Needed.{last_brought}
 use Rattle.psb_model.proofs.ByObject.{by_cases}
-use Rattle.wire_codec.specs.Frames.{Incoming, read_frame, key_in}
-use Rattle.wire_codec.specs.declared.frame.Dropped.{Dropped}
-use Rattle.wire_codec.specs.declared.frame.Frame.{Frame}
+use Rattle.psb_machine.proofs.Causes.{caused}
 use Rattle.psb_machine.specs.Made.{is_made_deal, is_made}
-use Rattle.psb_machine.specs.Deals.{standing, Deal, StoreFresh, StoreSwap, Cancel, PutBack, deal_of, takes, judged, judged_at, facts_at, clashes, reasons, first_that_holds, meets_others}
-use Rattle.psb_machine.specs.Gets.{got_of, has_chunk}
-use Rattle.psb_machine.specs.Settling.{Reply, Accepts, Refuses, replied_by, answers_deal, wait_in}
-use Rattle.psb_machine.specs.Proposals.{Asking, propose_facts, next_asking, is_even}
-use Rattle.psb_machine.specs.Sampling.{Sampling, Asks, Tells, sampling_of, open_question, questions, answers}
-use Rattle.psb_machine.specs.Machine.{Situation, Input, Datagram, Tick, Keep, Snap, Forget, Reaction, changes_of, clock_in, later, keys_of, quiet, tells_again, by_standing, on_deal, here, on_get, on_reply, on_sampling, on_last, on_rest, on_other, on_frame, on_keyed, on_read, on_datagram, by_asking, asking_by, asking_at, choice_at, by_choice, by_key, on_tick, has_snapshot, react, next}
-use Rattle.psb_machine.specs.declared.deals.Standing.{Standing}
-use Rattle.psb_machine.specs.declared.deals.Standing.TheVariants.{Fresh, Repeat, Stale, Gap}
+use Rattle.psb_machine.specs.Deals.{Deal, StoreFresh, StoreSwap, Cancel, PutBack, takes, judged, judged_at, facts_at, clashes, reasons, first_that_holds}
+use Rattle.psb_machine.specs.Settling.{Reply, Accepts, Refuses, answers_deal, settle}
+use Rattle.psb_machine.specs.Proposals.{propose_facts}
+use Rattle.psb_machine.specs.Machine.{Situation, Input, Reaction, changes_of, react, next}
 use Rattle.psb_machine.specs.declared.deals.Refusal.{Refusal}
-use Rattle.psb_machine.proofs.Steps.{too_same}
 
 -- the change that a reaction makes, if it makes one, is of these kinds
 abbrev pub MakesSuch : Reaction → Type 0
@@ -104,52 +93,7 @@ proposal_made s p probed facts =
     either (release s p probed facts.issued) (place s p probed facts.capacity) (release_made s p probed facts.issued)
     (one_of (list_any (λ q. q == p) s.chosen) placed None (first_place_made s p probed facts.capacity s.own) refl)
 
--- what a tick asks for was proposed before, or is of a kind that the machine makes
-abbrev AsksSuch : Option Asking → Type 0
-AsksSuch None = Unit {0}
-AsksSuch (Some a) = a.is_new ≡ true → is_made_deal a.deal.what ≡ true
-
-proposed_such : (s : State) (p : ℕ) (o : Option DealWhat) → is_made_what o ≡ true → AsksSuch (option_map (next_asking s p) o)
-proposed_such s p None b = tt
-proposed_such s p (Some what) b = λ new. b
-
-asking_such : (settings : Settings) (n : Situation) (p : ℕ) → AsksSuch (asking_at settings n p)
-asking_such settings n p = by_pending (row (state n.history) p).pending
-  where
-    facts : ProposeFacts
-    facts = propose_facts settings (state n.history)
-
-    by_pending : (o : Option OwnDeal) → AsksSuch (asking_by settings n p o)
-    by_pending None = by_cases (wait_in n.volatile.waits p == 0)
-        (λ k. rw k (proposed_such (state n.history) p (proposal (state n.history) p [] facts) (proposal_made (state n.history) p [] facts)))
-        (λ k. rw k tt)
-    by_pending (Some d) = by_cases (is_even (later (clock_in n.volatile.clocks p)))
-        (λ k. rw k (λ new. absurd (false≢true new)))
-        (λ k. rw k tt)
-
-asking_made : (settings : Settings) (n : Situation) (p : ℕ) (key : List ℕ) (o : Option Asking) → AsksSuch o → MakesSuch (by_asking settings n p key o)
-asking_made settings n p key None such = refl
-asking_made settings n p key (Some a) such = by_cases a.is_new
-    (λ k. rw k (one_made (Proposed (record { peer = p; deal = a.deal.number; what = a.deal.what })) (such k)))
-    (λ k. rw k refl)
-
--- ---- ticks
-
-choice_made : (settings : Settings) (n : Situation) (p : ℕ) (key : List ℕ) (o : Option (List Candidate)) → MakesSuch (by_choice settings n p key o)
-choice_made settings n p key (Some candidates) = refl
-choice_made settings n p key None =
-    let made = asking_made settings n p key (asking_at settings n p) (asking_such settings n p) in
-    too_same MakesSuch (questions settings (state n.history) p key) (by_asking settings n p key (asking_at settings n p)) made made
-
-key_made : (settings : Settings) (n : Situation) (p : ℕ) (o : Option (List ℕ)) → MakesSuch (by_key settings n p o)
-key_made settings n p None = refl
-key_made settings n p (Some key) = choice_made settings n p key (choice_at settings n p)
-
-tick_made : (o : Option Settings) (n : Situation) (p : ℕ) → MakesSuch (on_tick o n p)
-tick_made None n p = refl
-tick_made (Some settings) n p = key_made settings n p (key_in (keys_of settings) p)
-
--- ---- datagrams
+-- ---- deals of a peer, and replies
 
 takes_made : (issued : ℕ) (new : Bool) (p number : ℕ) (deal : Deal) → is_made (takes issued new p number deal) ≡ true
 takes_made issued new p number (StoreFresh name bytes) = refl
@@ -166,70 +110,33 @@ deal_made settings h p number deal =
     let facts = facts_at settings (state h) deal (clashes h deal) in
     judged_made p number (takes facts.issued facts.new_body p number deal) (first_that_holds (reasons facts (state h) p deal)) (takes_made facts.issued facts.new_body p number deal)
 
-standing_made : (how : Standing) (settings : Settings) (n : Situation) (p number : ℕ) (key : List ℕ) (c : Change) → is_made c ≡ true → MakesSuch (by_standing how settings n p number key c)
-standing_made Fresh settings n p number key c m = one_made c m
-standing_made Repeat settings n p number key c m = refl
-standing_made Stale settings n p number key c m = refl
-standing_made Gap settings n p number key c m = refl
-
 answers_made : (p number : ℕ) (reply : Reply) → is_made (answers_deal p number reply) ≡ true
 answers_made p number (Accepts claims) = refl
 answers_made p number (Refuses why detail) = refl
 
-reply_made : (n : Situation) (p number : ℕ) (reply : Reply) → MakesSuch (on_reply n p number reply)
-reply_made n p number reply =
-    let c = answers_deal p number reply in
-    by_cases (all_of (tests (state n.history) c))
-    (λ k. rw k (one_made c (answers_made p number reply)))
-    (λ k. rw k refl)
-
-sampling_made : (settings : Settings) (n : Situation) (p number : ℕ) (key : List ℕ) (x : Sampling) → MakesSuch (on_sampling settings n p number key x)
-sampling_made settings n p number key (Asks salt names) = refl
-sampling_made settings n p number key (Tells salt bits) = by_cases (answers (open_question (state n.history)) salt bits) (λ k. rw k refl) (λ k. rw k refl)
-
-frame_made : (settings : Settings) (n : Situation) (p number : ℕ) (key : List ℕ) (frame : Frame) → MakesSuch (on_frame settings n p number key frame)
-frame_made settings n p number key frame = got (got_of frame)
-  where
-    last : (o : Option Sampling) → MakesSuch (elim o [ None ↦ quiet n.volatile | Some x ↦ on_sampling settings n p number key x ])
-    last None = refl
-    last (Some x) = sampling_made settings n p number key x
-
-    rest : (o : Option Reply) → MakesSuch (elim o [ None ↦ on_last settings n p number key frame | Some r ↦ on_reply n p number r ])
-    rest None = last (sampling_of frame)
-    rest (Some r) = reply_made n p number r
-
-    asked : (o : Option Deal) → MakesSuch (elim o [ None ↦ on_rest settings n p number key frame | Some d ↦ on_deal settings n p number key d ])
-    asked None = rest (replied_by frame)
-    asked (Some d) = standing_made (standing (row (state n.history) p).last.number number) settings n p number key (judged_at settings n.history p number d) (deal_made settings n.history p number d)
-
-    given : (name : List ℕ) (b : Bool) → MakesSuch (if b then tells_again (option_map (here settings key p number name) (last_brought name n.history)) n.volatile else quiet n.volatile)
-    given name true = refl
-    given name false = refl
-
-    got : (o : Option (List ℕ)) → MakesSuch (elim o [ None ↦ on_other settings n p number key frame | Some name ↦ on_get settings n p number key name ])
-    got None = asked (deal_of frame)
-    got (Some name) = given name (has_chunk (state n.history) p name)
-
-keyed_made : (settings : Settings) (n : Situation) (i : Incoming) (o : Option (List ℕ)) → MakesSuch (on_keyed settings n i o)
-keyed_made settings n i None = refl
-keyed_made settings n i (Some key) = frame_made settings n i.from i.number key i.frame
-
-read_made : (settings : Settings) (n : Situation) (r : Result Incoming Dropped) → MakesSuch (on_read settings n r)
-read_made settings n (Err why) = refl
-read_made settings n (Ok i) = keyed_made settings n i (key_in (keys_of settings) i.from)
-
-datagram_made : (o : Option Settings) (n : Situation) (x : List ℕ) → MakesSuch (on_datagram o n x)
-datagram_made None n x = refl
-datagram_made (Some settings) n x = read_made settings n (read_frame settings.id (keys_of settings) x)
+-- a reply that fits makes what answers the deal
+pub settles_by : (s : State) (p number : ℕ) (reply : Reply) (c : Change) → settle s p number reply ≡ Some c → answers_deal p number reply ≡ c
+settles_by s p number reply c is =
+    by_cases (all_of (tests s (answers_deal p number reply)))
+    (λ k. cc (ap (λ (b : Bool). cond b (Some (answers_deal p number reply)) None) (sym k) ∙ is))
+    (λ k. let bad : None ≡ Some c = ap (λ (b : Bool). cond b (Some (answers_deal p number reply)) None) (sym k) ∙ is in absurd (cc (bad)))
 
 -- ---- any input
 
+abbrev are_made : Option Change → Type 0
+are_made o = list_all is_made (option_to_list o) ≡ true
+
 pub makes_such : (n : Situation) (x : Input) → MakesSuch (react n x)
-makes_such n (Datagram x) = datagram_made (state n.history).settings n x
-makes_such n (Tick p) = tick_made (state n.history).settings n p
-makes_such n (Keep name bytes) = by_cases (own_has (state n.history).own name || meets_others n.history name bytes) (λ k. rw k refl) (λ k. rw k refl)
-makes_such n (Snap note) = refl
-makes_such n (Forget number) = by_cases (has_snapshot (state n.history) number) (λ k. rw k refl) (λ k. rw k refl)
+makes_such n x = caused are_made n x (record {
+  none = refl;
+  deal = λ settings bytes i deal came present read is fresh. one_made (judged_at settings n.history i.from i.number deal) (deal_made settings n.history i.from i.number deal);
+  reply = λ settings bytes i reply c came present read is made. one_made c (subst (λ (d : Change). is_made d ≡ true) (settles_by (state n.history) i.from i.number reply c made) (answers_made i.from i.number reply));
+  choice = λ settings p key candidates came present keyed chosen. refl;
+  propose = λ settings p key what came present keyed idle found. one_made (Proposed (record { peer = p; deal = (row (state n.history) p).mine + 1; what = what })) (subst (λ (o : Option DealWhat). is_made_what o ≡ true) found (proposal_made (state n.history) p [] (propose_facts settings (state n.history))));
+  keep = λ name bytes came lacks same. refl;
+  snap = λ note came. refl;
+  forget = λ number came has. refl;
+})
 
 -- so a history of these kinds grows by these kinds
 pub keeps_made : (n : Situation) (x : Input) → list_all is_made n.history ≡ true → list_all is_made (next n x).history ≡ true

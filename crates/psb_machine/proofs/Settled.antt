@@ -1,7 +1,7 @@
 -- A reply that fits the pending deal makes a change that may be made.
-use Rattle.std.proofs.Common.{◌≡◌, ℕ, ◌*◌, ◌≤◌, Bool, cond, None, true, ◌==◌, nat_lt, List, ◌++◌, length, Some, refl, sym, ap, ◌∙◌, subst, arith}
+use Rattle.std.proofs.Common.{◌≡◌, ℕ, ◌*◌, ◌≤◌, Bool, cond, None, true, ◌==◌, nat_lt, List, [], ◌∷◌, ◌++◌, length, Some, refl, sym, ap, ◌∙◌, subst, arith}
 use Rattle.std.proofs.lemmas.Bool.{eq-eqb}
-use Rattle.std.proofs.lemmas.List.{length-map, append-nil}
+use Rattle.std.proofs.lemmas.List.{length-map}
 use Rattle.psb_bytes.specs.declared.lists.SlotClaim.{SlotClaim}
 use Rattle.psb_model.specs.Words.{all_of}
 use Rattle.psb_model.specs.State.{State, is_peer}
@@ -15,7 +15,7 @@ use Rattle.psb_model.proofs.ByObject.{by_cases}
 use Rattle.model_laws.proofs.Bodies.{valid_snoc}
 use Rattle.psb_machine.specs.Deals.{slots_of, claims_joined}
 use Rattle.psb_machine.specs.Settling.{Reply, Accepts, Refuses, answers_deal, settle}
-use Rattle.psb_machine.specs.Machine.{Situation, changes_of, on_reply}
+use Rattle.psb_machine.specs.Machine.{Situation}
 use Rattle.psb_machine.specs.Judging.{ReplyFits}
 use Rattle.psb_machine.proofs.Taken.{MayTake, begun_here, counted, joined_long, joined_bytes}
 
@@ -57,10 +57,7 @@ settle_may h p number reply c some peer p_fits number_fits f makes =
     subst (MayTake (state h)) same (reply_may h p number reply some peer p_fits number_fits f k))
     (λ k. let here : None ≡ Some c = ap (λ (b : Bool). cond b (Some made) None) (sym k) ∙ makes in absurd (cc (here)))
 
-pub reply_valid : (n : Situation) (p number : ℕ) (reply : Reply) → IsValid n.history → is_peer (state n.history) p ≡ true → is_u32 p ≡ true → is_u64 number ≡ true → ReplyFits reply → IsValid (n.history ++ changes_of (on_reply n p number reply))
-reply_valid n p number reply v peer p_fits number_fits f =
-    let c = answers_deal p number reply in
-    by_cases (all_of (tests (state n.history) c))
-    (λ k. let m = reply_may n.history p number reply v.some peer p_fits number_fits f k in
-    rw k (valid_snoc n.history c v m.grammar m.may m.widths m.brings))
-    (λ k. rw k (subst IsValid (sym (append-nil n.history)) v))
+pub reply_valid : (n : Situation) (p number : ℕ) (reply : Reply) (c : Change) → IsValid n.history → is_peer (state n.history) p ≡ true → is_u32 p ≡ true → is_u64 number ≡ true → ReplyFits reply → settle (state n.history) p number reply ≡ Some c → IsValid (n.history ++ c ∷ [])
+reply_valid n p number reply c v peer p_fits number_fits f made =
+    let m = settle_may n.history p number reply c v.some peer p_fits number_fits f made in
+    valid_snoc n.history c v m.grammar m.may m.widths m.brings

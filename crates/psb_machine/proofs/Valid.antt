@@ -21,29 +21,19 @@ use Rattle.psb_model.specs.declared.change.Change.TheVariants.{Kept, Forgot, Ref
 use Rattle.psb_model.proofs.Steady.{steady_state, use_within}
 use Rattle.model_laws.proofs.Bodies.{valid_snoc}
 use Rattle.psb_model.proofs.ByObject.{by_cases}
-use Rattle.wire_codec.specs.Frames.{Incoming, read_frame, key_in}
-use Rattle.wire_codec.specs.declared.frame.Dropped.{Dropped}
-use Rattle.wire_codec.specs.declared.frame.Frame.{Frame}
 use Rattle.psb_machine.specs.Laws.{KeepFits, SnapFits}
-use Rattle.psb_machine.specs.Deals.{standing, code_of, first_that_holds, judged, Deal, StoreFresh, StoreSwap, Cancel, PutBack, deal_of, slots_of, is_engaged, chunk_units, clashes, judged_at, meets_others}
-use Rattle.psb_machine.specs.Machine.{Situation, changes_of, kept_with, snapped_with, has_snapshot, on_keep, on_snap, on_forget, keys_of, quiet, tells_again, by_standing, on_deal, on_get, on_reply, on_sampling, on_last, on_rest, on_other, here, on_frame, on_read, on_keyed, on_datagram}
-use Rattle.psb_machine.specs.Gets.{got_of, has_chunk}
-use Rattle.psb_machine.specs.Settling.{Reply, replied_by}
-use Rattle.psb_machine.specs.Sampling.{Sampling, Asks, Tells, sampling_of, open_question, answers}
-use Rattle.psb_machine.specs.declared.deals.Standing.{Standing}
-use Rattle.psb_machine.specs.declared.deals.Standing.TheVariants.{Fresh, Repeat, Stale, Gap}
+use Rattle.psb_machine.specs.Deals.{code_of, first_that_holds, judged, Deal, StoreFresh, StoreSwap, Cancel, PutBack, slots_of, is_engaged, chunk_units}
+use Rattle.psb_machine.specs.Machine.{Situation, kept_with, snapped_with, has_snapshot}
 use Rattle.psb_machine.specs.declared.deals.Reason.{Reason}
 use Rattle.psb_machine.specs.declared.deals.Reason.TheVariants.{Busy, BadName, Already, Clash, NotThere, Unequal, Indebted, Full, Spent}
 use Rattle.psb_machine.specs.declared.deals.Refusal.{Refusal}
 use Rattle.psb_machine.specs.declared.snap_note.SnapNote.{SnapNote}
 use Rattle.psb_machine.specs.Judging.{DealFits, reasons_at, taken_at, judged_with}
-use Rattle.psb_machine.proofs.Standings.{fresh_is_next, detail_fits, first_fits}
+use Rattle.psb_machine.proofs.Standings.{detail_fits, first_fits}
 use Rattle.psb_machine.proofs.Slots.{found_fits}
-use Rattle.psb_machine.proofs.Framed.{FrameFits, deal_fits, reply_fits}
-use Rattle.psb_machine.proofs.Taken.{MayTake, begun_here, either_none, flag_same, body_in_grammar, body_of_bytes, deal_may}
+use Rattle.psb_machine.proofs.Taken.{MayTake, begun_here, flag_same, body_in_grammar, body_of_bytes, deal_may}
 use Rattle.psb_machine.proofs.Lasts.{drawn}
-use Rattle.psb_machine.proofs.Peers.{keyed_is_peer, settings_read}
-use Rattle.psb_machine.proofs.Settled.{reply_valid}
+use Rattle.psb_machine.proofs.Peers.{settings_read}
 
 pub unchanged : (h : List Change) → IsValid h → IsValid (h ++ [])
 unchanged h v = subst IsValid (sym (append-nil h)) v
@@ -144,60 +134,6 @@ judged_deal_valid settings h p number deal clash v present peer f next_deal = by
         let sent = sender_fits p number deal f in
         refused_valid h p number r v peer sent.0 sent.1 next_deal (first_fits (reasons_at settings (state h) p deal clash) r (details_fit settings (state h) p number deal clash (numbers_fit h p v) f) is)
 
-deal_valid : (settings : Settings) (n : Situation) (p number : ℕ) (key : List ℕ) (deal : Deal) → IsValid n.history → (is_next_deal (state n.history) p number ≡ true → IsValid (n.history ++ judged_at settings n.history p number deal ∷ [])) → IsValid (n.history ++ changes_of (on_deal settings n p number key deal))
-deal_valid settings n p number key deal v made = by_how (standing (row (state n.history) p).last.number number) refl
-  where
-    by_how : (how : Standing) → standing (row (state n.history) p).last.number number ≡ how → IsValid (n.history ++ changes_of (by_standing how settings n p number key (judged_at settings n.history p number deal)))
-    by_how Fresh is = made (fresh_is_next (row (state n.history) p).last.number number is)
-    by_how Repeat is = unchanged n.history v
-    by_how Stale is = unchanged n.history v
-    by_how Gap is = unchanged n.history v
-
-sampling_valid : (settings : Settings) (n : Situation) (p number : ℕ) (key : List ℕ) (x : Sampling) → IsValid n.history → IsValid (n.history ++ changes_of (on_sampling settings n p number key x))
-sampling_valid settings n p number key (Asks salt names) v = unchanged n.history v
-sampling_valid settings n p number key (Tells salt bits) v = by_cases (answers (open_question (state n.history)) salt bits) (λ k. rw k (unchanged n.history v)) (λ k. rw k (unchanged n.history v))
-
-frame_valid : (settings : Settings) (n : Situation) (p number : ℕ) (key : List ℕ) (frame : Frame) → IsValid n.history → (state n.history).settings ≡ Some settings → is_peer (state n.history) p ≡ true
-    → FrameFits p number frame → IsValid (n.history ++ changes_of (on_frame settings n p number key frame))
-frame_valid settings n p number key frame v present peer f = got (got_of frame)
-  where
-    last : (o : Option Sampling) → IsValid (n.history ++ changes_of (elim o [ None ↦ quiet n.volatile | Some x ↦ on_sampling settings n p number key x ]))
-    last None = unchanged n.history v
-    last (Some x) = sampling_valid settings n p number key x v
-
-    rest : (o : Option Reply) → replied_by frame ≡ o → IsValid (n.history ++ changes_of (elim o [ None ↦ on_last settings n p number key frame | Some r ↦ on_reply n p number r ]))
-    rest None is = last (sampling_of frame)
-    rest (Some r) is = reply_valid n p number r v peer f.peer f.number_fits (reply_fits p number frame r f is)
-
-    either : (o : Option Deal) → deal_of frame ≡ o → IsValid (n.history ++ changes_of (elim o [ None ↦ on_rest settings n p number key frame | Some d ↦ on_deal settings n p number key d ]))
-    either None is = rest (replied_by frame) refl
-    either (Some d) is =
-        deal_valid settings n p number key d v
-        (λ next_deal. judged_deal_valid settings n.history p number d (clashes n.history d) v present peer (deal_fits p number frame d f is) next_deal)
-
-    given : (name : List ℕ) (b : Bool) → IsValid (n.history ++ changes_of (if b then tells_again (option_map (here settings key p number name) (last_brought name n.history)) n.volatile else quiet n.volatile))
-    given name true = unchanged n.history v
-    given name false = unchanged n.history v
-
-    got : (o : Option (List ℕ)) → IsValid (n.history ++ changes_of (elim o [ None ↦ on_other settings n p number key frame | Some name ↦ on_get settings n p number key name ]))
-    got None = either (deal_of frame) refl
-    got (Some name) = given name (has_chunk (state n.history) p name)
-
-keyed_valid : (settings : Settings) (n : Situation) (i : Incoming) (o : Option (List ℕ)) → o ≡ key_in (keys_of settings) i.from → IsValid n.history → (state n.history).settings ≡ Some settings
-    → FrameFits i.from i.number i.frame → IsValid (n.history ++ changes_of (on_keyed settings n i o))
-keyed_valid settings n i None is v present f = unchanged n.history v
-keyed_valid settings n i (Some key) is v present f = frame_valid settings n i.from i.number key i.frame v present (keyed_is_peer n.history settings i.from key present (sym is)) f
-
-read_valid : (settings : Settings) (n : Situation) (r : Result Incoming Dropped) → IsValid n.history → (state n.history).settings ≡ Some settings
-    → ((i : Incoming) → r ≡ Ok i → FrameFits i.from i.number i.frame) → IsValid (n.history ++ changes_of (on_read settings n r))
-read_valid settings n (Err why) v present f = unchanged n.history v
-read_valid settings n (Ok i) v present f = keyed_valid settings n i (key_in (keys_of settings) i.from) refl v present (f i refl)
-
-pub datagram_valid : (n : Situation) (x : List ℕ) (o : Option Settings) → o ≡ (state n.history).settings → IsValid n.history
-    → ((own : ℕ) (keys : List (ℕ × List ℕ)) (i : Incoming) → read_frame own keys x ≡ Ok i → FrameFits i.from i.number i.frame) → IsValid (n.history ++ changes_of (on_datagram o n x))
-datagram_valid n x None is v f = unchanged n.history v
-datagram_valid n x (Some settings) is v f = read_valid settings n (read_frame settings.id (keys_of settings) x) v (sym is) (λ i e. f settings.id (keys_of settings) i e)
-
 -- ---- the node's own chunks and snapshots
 
 brings_kept : (name bytes : List ℕ) (held : Bool) → name_eq (sha bytes) name ≡ true → brings_right (Kept (record { name = name; len = length bytes; new = not held; body = Some (cond (not held) bytes []) })) ≡ true
@@ -223,11 +159,6 @@ kept_valid h name bytes v f lacks =
     (rw (f.name_fits, len, body_of_bytes (is_held s name) bytes f.bytes_fit) refl)
     (brings_kept name bytes (is_held s name) f.named)
 
-pub keep_valid : (n : Situation) (name bytes : List ℕ) → IsValid n.history → KeepFits name bytes → IsValid (n.history ++ changes_of (on_keep n name bytes))
-keep_valid n name bytes v f = by_cases (own_has (state n.history).own name || meets_others n.history name bytes)
-    (λ k. rw k (unchanged n.history v))
-    (λ k. rw k (kept_valid n.history name bytes v f (either_none (own_has (state n.history).own name) (meets_others n.history name bytes) k).0))
-
 pub snapped_may : (h : List Change) (note : SnapNote) → 1 ≤ length h → SnapFits (state h) note → (in_grammar (snapped_with (state h) note) ≡ true) × (allowed (state h) (snapped_with (state h) note) ≡ true)
 snapped_may h note some f =
     let s = state h in
@@ -237,7 +168,7 @@ snapped_may h note some f =
       rw (begun_here h some, same, f.ascend, f.own) refl,
     )
 
-pub snap_valid : (n : Situation) (note : SnapNote) → IsValid n.history → SnapFits (state n.history) note → IsValid (n.history ++ changes_of (on_snap n note))
+pub snap_valid : (n : Situation) (note : SnapNote) → IsValid n.history → SnapFits (state n.history) note → IsValid (n.history ++ snapped_with (state n.history) note ∷ [])
 snap_valid n note v f =
     let s = state n.history in
     let number : is_u32 (snaps_made s + 1) ≡ true = lt-ltb (snaps_made s + 1) (2 ^ 32) (omega (arith, f.more)) in
@@ -249,8 +180,3 @@ forgot_may h number some k = rw (begun_here h some, k) refl
 
 pub forgot_valid : (h : List Change) (number : ℕ) → IsValid h → is_u32 number ≡ true → has_snapshot (state h) number ≡ true → IsValid (h ++ Forgot (record { number = number }) ∷ [])
 forgot_valid h number v fit k = valid_snoc h (Forgot (record { number = number })) v refl (forgot_may h number v.some k) fit refl
-
-pub forget_valid : (n : Situation) (number : ℕ) → IsValid n.history → is_u32 number ≡ true → IsValid (n.history ++ changes_of (on_forget n number))
-forget_valid n number v fit = by_cases (has_snapshot (state n.history) number)
-    (λ k. rw k (forgot_valid n.history number v fit k))
-    (λ k. rw k (unchanged n.history v))

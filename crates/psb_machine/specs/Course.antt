@@ -1,6 +1,6 @@
 -- A course: what a command makes a node absorb, and what it tells, in order.
 use Rattle.std.specs.Prelude.{ℕ, zero, suc, ◌+◌, ◌-◌, if◌then◌else◌, is_some, List, [], ◌∷◌, ◌++◌, length, map}
-use Rattle.psb_machine.specs.Machine.{Situation, Input, Datagram, Tick, Keep, Snap, Forget, changes_of, react, next}
+use Rattle.psb_machine.specs.Machine.{Situation, Input, Datagram, Tick, Keep, Snap, Forget, changes_of, react, sent_by, next}
 
 -- what is told outside: a frame that is sent to a peer (a letter or a Get), or a line
 pub data Telling : Type 0 where
@@ -23,7 +23,7 @@ after_all n (s ∷ ss) = after_all (after_step n s) ss
 
 -- all that is told in them, in order
 abbrev pub tellings_of : Situation → Step → List Telling
-tellings_of n (Absorb x) = map Send (react n x).letters
+tellings_of n (Absorb x) = map Send (sent_by n x)
 tellings_of n (Tell t) = t ∷ []
 
 abbrev pub tellings : Situation → List Step → List Telling

@@ -11,6 +11,8 @@ use Rattle.wire_codec.specs.Fields.{is_claim}
 use Rattle.wire_codec.specs.declared.limits.TheConstants.{MOST_SLOTS}
 use Rattle.psb_machine.specs.Deals.{Deal, StoreFresh, StoreSwap, Cancel, PutBack, slots_of, is_new, reasons, takes, judge, facts_at}
 use Rattle.psb_machine.specs.Settling.{Reply, Accepts, Refuses}
+use Rattle.psb_machine.specs.Messages.{Sender, Message, Deals, Replies, Asks}
+use Rattle.psb_machine.specs.Sampling.{most_asked}
 use Rattle.psb_machine.specs.declared.deals.Refusal.{Refusal}
 
 -- ---- what a deal that was read has: its parts are within their bounds
@@ -61,6 +63,13 @@ DealFits p number (PutBack name claims) = PutBackFits p number name claims
 abbrev pub ReplyFits : Reply → Type 0
 ReplyFits (Accepts claims) = SlotsFit (slots_of claims) × (list_all is_claim claims ≡ true)
 ReplyFits (Refuses why detail) = (is_u8 why ≡ true) × (is_u64 detail ≡ true)
+
+-- what a message has whose parts matter to what is made of it; a question has at most so many names
+abbrev pub MessageFits : Sender → Message → Type 0
+MessageFits from (Deals deal) = DealFits from.peer from.number deal
+MessageFits from (Replies reply) = (is_u32 from.peer ≡ true) × (is_u64 from.number ≡ true) × ReplyFits reply
+MessageFits from (Asks salt names) = length names ≤ most_asked
+MessageFits from _ = Unit {0}
 
 -- the chunk that it brings, if it brings one, is no longer than a chunk may be
 abbrev pub IsShort : Deal → Type 0

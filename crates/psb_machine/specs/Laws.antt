@@ -1,15 +1,22 @@
 -- The laws of the machine, for each history and each input.
-use Rattle.std.specs.Prelude.{◌≡◌, ℕ, ◌≤◌, ◌<◌, ◌&&◌, true, List, [], length, is_some}
+use Rattle.std.specs.Prelude.{◌≡◌, ℕ, ◌≤◌, ◌<◌, ◌^◌, ◌&&◌, true, List, [], length, is_some, Some}
 use Rattle.std.specs.List.{list_all}
 use Rattle.psb_bytes.specs.Numbers.{AreBytes}
 use Rattle.psb_bytes.specs.Objects.{name_eq}
 use Rattle.psb_bytes.specs.Units.{longest_chunk}
 use Rattle.psb_digest.specs.Hashes.{sha}
+use Rattle.psb_settings.specs.declared.settings.Settings.{Settings}
+use Rattle.psb_model.specs.Words.{In}
 use Rattle.psb_model.specs.State.{State, row, own_has, snaps_made}
 use Rattle.psb_model.specs.Conditions.{names_ascend}
 use Rattle.psb_model.specs.Grammar.{is_u8, is_u32, is_u64, is_digest, is_ticket, ticket_fits}
 use Rattle.psb_model.specs.History.{state}
 use Rattle.psb_model.specs.Needed.{IsValid}
+use Rattle.psb_model.specs.declared.change.Change.{Change}
+use Rattle.wire_codec.specs.Laws.{IsFrame}
+use Rattle.wire_codec.specs.declared.frame.Frame.{Frame}
+use Rattle.wire_codec.specs.declared.frame.Frame.TheVariants as frame
+use Rattle.psb_machine.specs.Letters.{Letter}
 use Rattle.psb_machine.specs.Machine.{Situation, Input, Datagram, Tick, Keep, Snap, Forget, react, next}
 use Rattle.psb_machine.specs.declared.snap_note.SnapNote.{SnapNote}
 
@@ -64,3 +71,12 @@ pub record TellsLittle (n : Situation) (x : Input) : Type 0 where
 
 abbrev pub AllTellLittle : Type 0
 AllTellLittle = (n : Situation) (x : Input) → TellsLittle n x
+
+-- A question has the number of a change, for which there must be room in its field.
+abbrev pub HasRoom : List Change → Frame → Type 0
+HasRoom h (frame.Ask salt names) = length h ≤ 2 ^ 64
+HasRoom h _ = Unit {0}
+
+-- each letter is a frame of the grammar, so that its receiver can read it
+abbrev pub AllAreFrames : Type 0
+AllAreFrames = (n : Situation) (x : Input) (settings : Settings) (l : Letter) → IsValid n.history → (state n.history).settings ≡ Some settings → Fits n x → In l (react n x).letters → HasRoom n.history l.frame → IsFrame settings.id l.to l.number l.frame

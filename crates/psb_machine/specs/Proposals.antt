@@ -1,5 +1,6 @@
 -- The node's own deals as a peer hears of them.
 use Rattle.std.specs.Prelude.{ℕ, ◌+◌, ◌%◌, nat_le, Bool, true, false, ◌&&◌, ◌==◌, List, [], option_map, option_to_list, Option, Some, None}
+use Rattle.psb_bytes.specs.declared.ids.Object.{Object}
 use Rattle.psb_bytes.specs.declared.ids.Object.TheVariants.{Chunk}
 use Rattle.psb_settings.specs.declared.settings.Settings.{Settings}
 use Rattle.psb_model.specs.Words.{units_at}
@@ -14,12 +15,12 @@ use Rattle.psb_model.specs.declared.deals.DealWhat.TheVariants.{Fresh, Swap, Can
 use Rattle.psb_model.specs.declared.change.Change.{Change}
 use Rattle.wire_codec.specs.Fields.{within, are_slots}
 use Rattle.wire_codec.specs.declared.limits.TheConstants.{MOST_SLOTS}
-use Rattle.wire_codec.specs.Frames.{datagram}
 use Rattle.wire_codec.specs.declared.frame.Frame.{Frame}
 use Rattle.wire_codec.specs.declared.frame.Frame.TheVariants as frame
+use Rattle.psb_machine.specs.Letters.{Letter}
 use Rattle.psb_machine.specs.Replies.{claims_from}
 
--- what a proposal is made by: so far no probe runs, and claims are never forwarded
+-- what a proposal is made by: claims are never forwarded so far
 abbrev pub propose_facts : Settings → State → ProposeFacts
 propose_facts settings s = record { issued = s.issued; capacity = settings.capacity; forward = settings.forward }
 
@@ -52,23 +53,24 @@ is_askable s p (PutBack name first) = within 1 MOST_SLOTS (units_there s p name)
 is_askable s p _ = true
 
 -- the letter that asks the peer for it, under the deal's number
-abbrev pub letter_of : Settings → ℕ → List ℕ → ℕ → Frame → ℕ × List ℕ
-letter_of settings p key number f = (p, datagram key settings.id p number f)
+abbrev pub letter_of : ℕ → ℕ → Frame → Letter
+letter_of p number f = record { to = p; number = number; frame = f }
 
-abbrev pub asks : Settings → List Change → ℕ → List ℕ → Deal → List (ℕ × List ℕ)
-asks settings h p key d = option_to_list (option_map (letter_of settings p key d.number) (frame_of settings h p d.what))
+abbrev pub deal_letters : Settings → List Change → ℕ → Deal → List Letter
+deal_letters settings h p d = option_to_list (option_map (letter_of p d.number) (frame_of settings h p d.what))
 
--- A deal that is asked for at a tick, and whether it is proposed now or was before.
-pub record Asking : Type 0 where
+-- A deal that is offered to a peer at a tick, and whether it is proposed now or was before.
+pub record Offer : Type 0 where
   pub deal : Deal
   pub is_new : Bool
 
 -- the one that is proposed next, with the next number
-abbrev pub next_asking : State → ℕ → DealWhat → Asking
-next_asking s p what = record { deal = record { number = (row s p).mine + 1; what = what }; is_new = true }
+abbrev pub next_offer : State → ℕ → DealWhat → Offer
+next_offer s p what = record { deal = record { number = (row s p).mine + 1; what = what }; is_new = true }
 
-abbrev pub proposed_at : Settings → State → ℕ → Option Asking
-proposed_at settings s p = option_map (next_asking s p) (proposal s p [] (propose_facts settings s))
+-- what it is proposed beside: the objects that a probe which is under way lists
+abbrev pub proposed_at : Settings → State → ℕ → List Object → Option Offer
+proposed_at settings s p listed = option_map (next_offer s p) (proposal s p listed (propose_facts settings s))
 
 abbrev pub is_even : ℕ → Bool
 is_even n = n % 2 == 0

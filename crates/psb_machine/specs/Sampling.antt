@@ -15,8 +15,8 @@ use Rattle.psb_model.specs.declared.entries.SnapMark.{SnapMark}
 use Rattle.abstracts.specs.Bits.{coverage}
 use Rattle.abstracts.specs.Least.{abstract_of}
 use Rattle.buddy_select.specs.Order.{put_all}
-use Rattle.wire_codec.specs.declared.frame.Frame.{Frame}
 use Rattle.wire_codec.specs.declared.frame.Frame.TheVariants as frame
+use Rattle.psb_machine.specs.Letters.{Letter}
 use Rattle.psb_machine.specs.Proposals.{letter_of}
 use Rattle.psb_machine.specs.declared.question.Question.{Question}
 
@@ -67,23 +67,13 @@ abbrev pub open_question : State → Option Question
 open_question s = if length s.chosen == 0 then if_some_names (question_of s) else None
 
 -- the letter that asks a peer
-abbrev pub question_to : Settings → ℕ → List ℕ → Question → ℕ × List ℕ
-question_to settings p key q = letter_of settings p key q.number (frame.Ask q.salt q.names)
+abbrev pub question_to : ℕ → Question → Letter
+question_to p q = letter_of p q.number (frame.Ask q.salt q.names)
 
-abbrev pub questions : Settings → State → ℕ → List ℕ → List (ℕ × List ℕ)
-questions settings s p key = option_to_list (option_map (question_to settings p key) (open_question s))
+abbrev pub questions : State → ℕ → List Letter
+questions s p = option_to_list (option_map (question_to p) (open_question s))
 
 -- ---- what is answered
-
--- a frame of a peer: it asks which names are held, or tells of those that it was asked for
-pub data Sampling : Type 0 where
-  Asks : List ℕ → List (List ℕ) → Sampling
-  Tells : List ℕ → ℕ → Sampling
-
-abbrev pub sampling_of : Frame → Option Sampling
-sampling_of (frame.Ask salt names) = Some (Asks salt names)
-sampling_of (frame.Sample salt bits) = Some (Tells salt bits)
-sampling_of _ = None
 
 -- bit j, counted from the least, is 1 where name j passes the test
 abbrev pub bit_of : Bool → ℕ
@@ -101,25 +91,15 @@ abbrev pub answers : Option Question → List ℕ → ℕ → Bool
 answers None salt bits = false
 answers (Some q) salt bits = is_answer_to q salt bits
 
--- ---- what is kept of it: of each peer that answered, the bits of its last answer
-
-abbrev pub sample_in : List (ℕ × ℕ) → ℕ → Option ℕ
-sample_in [] p = None
-sample_in (x ∷ xs) p = if x.0 == p then Some x.1 else sample_in xs p
-
-abbrev pub with_sample : ℕ → ℕ → List (ℕ × ℕ) → List (ℕ × ℕ)
-with_sample p bits [] = (p, bits) ∷ []
-with_sample p bits (x ∷ xs) = if x.0 == p then (p, bits) ∷ xs else x ∷ with_sample p bits xs
-
--- ---- who is chosen
+-- ---- who is chosen, by the bits of each peer's last answer
 
 -- A peer that answered is a candidate: it holds so many of the names that were asked for.
 abbrev pub candidate_by : PeerRow → ℕ → Option ℕ → List Candidate
 candidate_by p n None = []
 candidate_by p n (Some bits) = record { peer = p.id; got = coverage bits n; of = n; hops = p.hops } ∷ []
 
-abbrev pub candidates : List PeerRow → List (ℕ × ℕ) → ℕ → List Candidate
-candidates peers samples n = flat_map (λ (p : PeerRow). candidate_by p n (sample_in samples p.id)) peers
+abbrev pub candidates : List PeerRow → (ℕ → Option ℕ) → ℕ → List Candidate
+candidates peers sample n = flat_map (λ (p : PeerRow). candidate_by p n (sample p.id)) peers
 
 -- the last of the peers in the settings' order
 abbrev pub is_last : List PeerRow → ℕ → Bool
@@ -136,6 +116,6 @@ abbrev pub choice_among : ℕ → ℕ → List Candidate → Option (List Candid
 choice_among peers clock found = if is_ready peers (length found) clock then Some (put_all [] found) else None
 
 -- the candidates in their order, where a choice is to be made by the clock of the last peer
-abbrev pub choice_by : List PeerRow → List (ℕ × ℕ) → ℕ → Option Question → Option (List Candidate)
-choice_by peers samples clock None = None
-choice_by peers samples clock (Some q) = choice_among (length peers) clock (candidates peers samples (length q.names))
+abbrev pub choice_by : List PeerRow → (ℕ → Option ℕ) → ℕ → Option Question → Option (List Candidate)
+choice_by peers sample clock None = None
+choice_by peers sample clock (Some q) = choice_among (length peers) clock (candidates peers sample (length q.names))

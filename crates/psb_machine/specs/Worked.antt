@@ -10,7 +10,8 @@ use Rattle.psb_model.specs.declared.change.Change.{Change}
 use Rattle.psb_model.specs.declared.change.Change.TheVariants.{TookFresh, LetGo, LetGoBack, Refused, Settled, Turned}
 use Rattle.psb_bytes.specs.declared.lists.SlotClaim.{SlotClaim}
 use Rattle.psb_model.specs.declared.entries.InEntry.{InEntry}
-use Rattle.psb_machine.specs.Settling.{Accepts, Refuses, settle, ticks_to_wait}
+use Rattle.psb_machine.specs.Settling.{Accepts, Refuses, settle}
+use Rattle.psb_machine.specs.Volatile.{ticks_to_wait}
 use Rattle.psb_machine.specs.Deals.{Facts, Deal, StoreFresh, StoreSwap, Cancel, PutBack, judge}
 
 -- a chunk of right bytes that nobody holds, where so many claims were issued and so much may be held

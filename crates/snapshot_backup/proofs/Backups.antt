@@ -40,7 +40,7 @@ use Rattle.snapshot_backup.proofs.Meant.{snapped_stays, kept_means}
 
 -- ---- the changes
 
-kept_change : (n : Situation) (name bytes : List ℕ) (b : Bool) → (l : List Change) × All IsKeptChange l × (changes_of (cond b (quiet n.volatile) (grows (kept_with (state n.history) name bytes) n.volatile)) ≡ l)
+kept_change : (n : Situation) (name bytes : List ℕ) (b : Bool) → (l : List Change) × All IsKeptChange l × (changes_of (cond b quiet (grows (kept_with (state n.history) name bytes))) ≡ l)
 kept_change n name bytes true = ([], All-nil IsKeptChange, refl)
 kept_change n name bytes false =
     let new = not (is_held (state n.history) name) in

@@ -1,11 +1,10 @@
 -- The bodies that a backup meets: those that the history brought before it, and its own pieces.
-use Rattle.std.proofs.Common.{◌≡◌, ◌⊎◌, inl, inr, ⊎_elim, ℕ, Bool, true, false, not, ◌&&◌, ◌||◌, cond, List, [], ◌∷◌, ◌++◌, length, Some, None, Option, refl, sym, ◌∙◌, ap, subst}
+use Rattle.std.proofs.Common.{◌≡◌, ◌⊎◌, inl, inr, ⊎_elim, ℕ, Bool, true, false, not, ◌||◌, cond, List, [], ◌∷◌, ◌++◌, length, Some, refl, sym, ◌∙◌, ap}
 use Rattle.std.proofs.lemmas.List.{append-nil}
 use Rattle.psb_model.specs.Words.{name_eq}
 use Rattle.psb_model.specs.State.{is_held, own_has}
-use Rattle.psb_model.specs.Heads.{body_of}
 use Rattle.psb_model.specs.History.{state}
-use Rattle.psb_model.specs.Needed.{brings_name, last_brought}
+use Rattle.psb_model.specs.Needed.{last_brought}
 use Rattle.psb_model.specs.declared.change.Change.{Change}
 use Rattle.psb_model.specs.declared.change.Change.TheVariants.{Kept}
 use Rattle.psb_machine.specs.Deals.{meets_others}
@@ -28,7 +27,7 @@ kept_brings false name bytes q x h is =
     (λ other. inl (sym (last_stays q h c other) ∙ is))
 
 -- so the bytes of a name behind a piece are those before it, or its own
-one_brings : (n : Situation) (name bytes q x : List ℕ) (b : Bool) → last_brought q (n.history ++ changes_of (cond b (quiet n.volatile) (grows (kept_with (state n.history) name bytes) n.volatile))) ≡ Some x → (last_brought q n.history ≡ Some x) ⊎ (x ≡ bytes)
+one_brings : (n : Situation) (name bytes q x : List ℕ) (b : Bool) → last_brought q (n.history ++ changes_of (cond b quiet (grows (kept_with (state n.history) name bytes)))) ≡ Some x → (last_brought q n.history ≡ Some x) ⊎ (x ≡ bytes)
 one_brings n name bytes q x true is = inl (ap (last_brought q) (sym (append-nil n.history)) ∙ is)
 one_brings n name bytes q x false is = kept_brings (is_held (state n.history) name) name bytes q x n.history is
 

@@ -1,5 +1,5 @@
 -- Where a disk holds what a node knows, no piece that it is asked for is altered: also behind pieces that were kept.
-use Rattle.std.proofs.Common.{◌≡◌, ℕ, Bool, true, List, None, refl, sym, ◌∙◌, subst}
+use Rattle.std.proofs.Common.{◌≡◌, ℕ, Bool, List, None, refl, sym, ◌∙◌, subst}
 use Rattle.psb_station.specs.View.{View}
 use Rattle.psb_station.specs.Span.{DiskWorks}
 use Rattle.node_journal.specs.Entry.{Entry}

@@ -161,10 +161,10 @@ held_brought names h name knows v held = by_place (record_of names name) refl
 
 kept_step : (n : Situation) (name bytes : List ℕ) (own : Bool) → own_has (state n.history).own name ≡ own → meets_others n.history name bytes ≡ false → (next n (Keep name bytes)).history ≡ n.history ++ cond own [] (kept_with (state n.history) name bytes ∷ [])
 kept_step n name bytes true is none =
-    ap (λ (b : Bool). n.history ++ changes_of (cond (b || meets_others n.history name bytes) (quiet n.volatile) (grows (kept_with (state n.history) name bytes) n.volatile))) is
+    ap (λ (b : Bool). n.history ++ changes_of (cond (b || meets_others n.history name bytes) quiet (grows (kept_with (state n.history) name bytes)))) is
 kept_step n name bytes false is none =
-    ap (λ (b : Bool). n.history ++ changes_of (cond (b || meets_others n.history name bytes) (quiet n.volatile) (grows (kept_with (state n.history) name bytes) n.volatile))) is
-    ∙ ap (λ (b : Bool). n.history ++ changes_of (cond b (quiet n.volatile) (grows (kept_with (state n.history) name bytes) n.volatile))) none
+    ap (λ (b : Bool). n.history ++ changes_of (cond (b || meets_others n.history name bytes) quiet (grows (kept_with (state n.history) name bytes)))) is
+    ∙ ap (λ (b : Bool). n.history ++ changes_of (cond b quiet (grows (kept_with (state n.history) name bytes)))) none
 
 -- the bytes of a name that is its own already are there
 kept_already : (h : List Change) (name bytes : List ℕ) → meets_others h name bytes ≡ false → (is_held (state h) name ≡ true → is_some (last_brought name h) ≡ true) → own_has (state h).own name ≡ true → IsKept h name bytes
@@ -220,7 +220,7 @@ owns_piece n plain v = at (own_has (state n.history).own name) refl
     c = kept_with (state n.history) name (sealed plain)
 
     led : Bool → List Change
-    led own = n.history ++ changes_of (cond own (quiet n.volatile) (grows c n.volatile))
+    led own = n.history ++ changes_of (cond own quiet (grows c))
 
     one : (s : State) → own_has s.own name ≡ true → list_all (own_has s.own) (name ∷ []) ≡ true
     one s is = rw is refl

@@ -1,5 +1,5 @@
 -- What a node is made to keep in a run, and what that leaves.
-use Rattle.std.specs.Prelude.{◌≡◌, ◌⊎◌, ℕ, Bool, true, false, List, ◌++◌, [], None, Result}
+use Rattle.std.specs.Prelude.{◌≡◌, ◌⊎◌, ℕ, Bool, true, List, ◌++◌, [], None, Result}
 use Rattle.psb_station.specs.View.{View}
 use Rattle.psb_station.specs.Calls.{Rose}
 use Rattle.convergent_seal.specs.Sealing.{sealed, sealed_ref}

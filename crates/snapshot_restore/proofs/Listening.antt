@@ -15,7 +15,7 @@ use Rattle.psb_machine.specs.Course.{Step, after_all}
 use Rattle.psb_machine.specs.Commands.{Turn}
 use Rattle.psb_machine.proofs.SettingsStay.{all_stay}
 use Rattle.node_core.specs.declared.node.Node.{Node}
-use Rattle.node_core.specs.Peers.{PeersView, peers_of}
+use Rattle.node_letters.specs.Peers.{PeersView, peers_of}
 use Rattle.node_core.specs.Stored.{Knows}
 use Rattle.node_serve.specs.Hears.{heard_of, of_turn, of_turns, steps_of, clock_of, Hears, End, Whole, Stopped, EndsAs, is_fed}
 use Rattle.node_serve.specs.Spans.{Counts, Tally, Fed, FedBy, MadeTurn}

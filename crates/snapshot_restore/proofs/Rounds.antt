@@ -18,7 +18,7 @@ use Rattle.node_serve.specs.Spans.{Counts, no_tally, Fed, FedBy}
 use Rattle.node_serve.specs.Turns.{OnlySends}
 use Rattle.node_serve.proofs.Tries.{grows_none}
 use Rattle.node_serve.proofs.Runs.{counts_same, counts_then, hears_none, hears_then, fed_none, fed_then, uncounted, by_whole, by_then, by_as}
-use Rattle.snapshot_restore.specs.Course.{asks, round_steps}
+use Rattle.snapshot_restore.specs.Course.{gets_at, round_steps}
 use Rattle.snapshot_restore.specs.Fetching.{Begins, Runs, Asks, HearsTurn, HearsPart, MakesRound, StopsRound}
 use Rattle.snapshot_restore.specs.declared.fault.RestoreFault.{RestoreFault}
 use Rattle.snapshot_restore.specs.declared.fault.RestoreFault.TheVariants as restore_fault
@@ -67,10 +67,10 @@ module _ {L : Type 0} (holds : L → List Entry → List ℕ → Type 0) (stands
 
   -- a course after Gets
   after_asks : (peers : List ℕ) (n0 n1 : Node L) (v0 v1 v2 : View) (name : List ℕ) (i : ℕ) (n : Situation) (st : Settings) → broken n0.log ≡ false → Begins holds peers n0 v0 n st → Asks holds stands broken n0 v0 v1 name i → Tells_bytes v1
-      → (r : Fed holds stands broken n0 n0 v0 v1 n (asks st name i) None true) × Begins holds peers n0 v1 (after_all n r.done) st
+      → (r : Fed holds stands broken n0 n0 v0 v1 n (gets_at st name i) None true) × Begins holds peers n0 v1 (after_all n r.done) st
   after_asks peers n0 n1 v0 v1 v2 name i n st sound b a told =
       let r = a.fed told n st b.knows b.settings_are b.stored in
-      (r, begins_then peers peers n0 n0 v0 v1 n st (asks st name i) true refl sound b r)
+      (r, begins_then peers peers n0 n0 v0 v1 n st (gets_at st name i) true refl sound b r)
 
   pub makes_round : (w0 w1 : Waiting) (n0 n1 : Node L) (v0 v1 v2 : View) (r : Ref) (i : ℕ) (b : Brought) → broken n0.log ≡ false → Asks holds stands broken n0 v0 v1 r.name i → HearsTurn holds stands broken w0 w1 n0 n1 v1 v2 r b
       → MakesRound holds stands broken w0 w1 n0 n1 v0 v2 r i b
@@ -82,7 +82,7 @@ module _ {L : Type 0} (holds : L → List Entry → List ℕ → Type 0) (stands
     fed = λ told n st begins.
         let first = after_asks w0.peers n0 n1 v0 v1 v2 r.name i n st sound begins a (h.run.tells told) in
         let then_ = h.fed told (after_all n first.0.done) st first.1 in
-        (fed_then holds stands broken law n0 n0 n1 v0 v1 v2 n (asks st r.name i) (steps_of (peer_ids st) w0.clock (of_turn h.turn)) None None true first.0 then_.0, then_.1);
+        (fed_then holds stands broken law n0 n0 n1 v0 v1 v2 n (gets_at st r.name i) (steps_of (peer_ids st) w0.clock (of_turn h.turn)) None None true first.0 then_.0, then_.1);
   }
 
   pub stops_round : (w0 w1 : Waiting) (n0 n1 : Node L) (v0 v1 v2 : View) (r : Ref) (i : ℕ) (e : RestoreFault) → broken n0.log ≡ false → Asks holds stands broken n0 v0 v1 r.name i → HearsPart holds stands broken w0 w1 n0 n1 v1 v2 e
@@ -99,7 +99,7 @@ module _ {L : Type 0} (holds : L → List Entry → List ℕ → Type 0) (stands
         let steps = round_steps st r.name w0.clock i h.heard in
         subst (λ (l : List Heard). FedBy holds stands broken n0 n1 v0 v2 n (peer_ids st) w0.clock l (steps ++ []) None h.ok) (sym (append-nil h.heard))
         (by_as holds stands broken law n0 n1 v0 v2 n (peer_ids st) w0.clock h.heard steps (steps ++ []) None h.ok (sym (append-nil steps))
-        (by_then holds stands broken law n0 n0 n1 v0 v1 v2 n (peer_ids st) w0.clock [] h.heard (asks st r.name i) (steps_of (peer_ids st) w0.clock h.heard) None None h.ok first.0 then_));
+        (by_then holds stands broken law n0 n0 n1 v0 v1 v2 n (peer_ids st) w0.clock [] h.heard (gets_at st r.name i) (steps_of (peer_ids st) w0.clock h.heard) None None h.ok first.0 then_));
   }
 
   -- there was no memory for the Gets

@@ -7,7 +7,7 @@ use Rattle.wire_codec.specs.Frames.{Incoming, read_frame}
 use Rattle.wire_codec.specs.declared.frame.Frame.{Frame as AFrame}
 use Rattle.wire_codec.specs.declared.frame.Frame.TheVariants as frame
 use Rattle.wire_codec.specs.declared.frame.Dropped.{Dropped}
-use Rattle.node_core.specs.Peers.{PeersView, peers_of}
+use Rattle.node_letters.specs.Peers.{PeersView, peers_of}
 
 -- the bytes that a frame has for a name: those of a Here frame, whatever its number is
 abbrev pub here_in : List ℕ → AFrame → Option (List ℕ)

@@ -5,16 +5,16 @@ use Rattle.psb_station.specs.View.{Heard}
 use Rattle.psb_settings.specs.declared.settings.Settings.{Settings}
 use Rattle.psb_machine.specs.Course.{Step}
 use Rattle.psb_machine.specs.Commands.{peer_ids}
-use Rattle.node_serve.specs.Asks.{ask_steps}
+use Rattle.node_serve.specs.Asks.{get_steps}
 use Rattle.node_serve.specs.Hears.{steps_of, clock_of}
 
 -- the Gets in front of the turn with this index
-abbrev pub asks : Settings → List ℕ → ℕ → List Step
-asks settings name i = if i % 8 == 0 then ask_steps settings name else []
+abbrev pub gets_at : Settings → List ℕ → ℕ → List Step
+gets_at settings name i = if i % 8 == 0 then get_steps settings name else []
 
 -- a turn in which this was heard, with the Gets in front of it
 abbrev pub round_steps : Settings → List ℕ → ℕ → ℕ → List Heard → List Step
-round_steps settings name clock i heard = asks settings name i ++ steps_of (peer_ids settings) clock heard
+round_steps settings name clock i heard = gets_at settings name i ++ steps_of (peer_ids settings) clock heard
 
 -- all that was heard in turns
 abbrev pub all_of : List (List Heard) → List Heard

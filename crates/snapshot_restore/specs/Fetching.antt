@@ -12,14 +12,14 @@ use Rattle.psb_machine.specs.Machine.{Situation}
 use Rattle.psb_machine.specs.Course.{after_all}
 use Rattle.psb_machine.specs.Commands.{Turn, peer_ids}
 use Rattle.node_core.specs.declared.node.Node.{Node}
-use Rattle.node_core.specs.Peers.{PeersView}
+use Rattle.node_letters.specs.Peers.{PeersView}
 use Rattle.node_core.specs.Stored.{Knows, Stored}
 use Rattle.node_serve.specs.Hears.{Hears, steps_of, clock_of, of_turn}
 use Rattle.node_serve.specs.Spans.{Counts, Fed, FedBy}
 use Rattle.node_serve.specs.Turns.{OnlySends}
 use Rattle.snapshots.specs.Meaning.{opens}
 use Rattle.snapshot_restore.specs.Answers.{answer_by, answers, listed}
-use Rattle.snapshot_restore.specs.Course.{Fetch, all_of, asks, heard_in, fetch_steps, restore_steps, round_steps}
+use Rattle.snapshot_restore.specs.Course.{Fetch, all_of, gets_at, heard_in, fetch_steps, restore_steps, round_steps}
 use Rattle.snapshot_restore.specs.Taken.{Taken, fetches, AllOpen, OwnOpens, NoneOwn, NoneOpens, AreWhole, last_of, IsAnswered, AreTaken, IsSpent, IsVain}
 use Rattle.snapshot_restore.specs.Faults.{TheDisk, failed_in}
 use Rattle.snapshot_restore.specs.declared.fault.RestoreFault.{RestoreFault}
@@ -81,7 +81,7 @@ pub record Asks {L : Type 0} (holds : L → List Entry → List ℕ → Type 0) 
   pub tells : Tells_bytes now → Tells_bytes before
   pub counts : Counts before now
   pub fed : Tells_bytes now → (n : Situation) (settings : Settings) → Knows node n → (state n.history).settings ≡ Some settings → Stored holds node n.history before
-      → Fed holds stands broken node node before now n (asks settings name i) None true
+      → Fed holds stands broken node node before now n (gets_at settings name i) None true
 
 -- a whole turn, and what it brought
 pub record HearsTurn {L : Type 0} (holds : L → List Entry → List ℕ → Type 0) (stands : List Entry → List ℕ → Type 0) (broken : L → Bool) (w0 w1 : Waiting) (old new : Node L) (before now : View) (r : Ref) (b : Brought) : Type 0 where

@@ -1,28 +1,28 @@
 //! What a node asks before it chooses its buddies, and its choice. Nothing is written here.
 
-ghost use Rattle.std.specs.Prelude.{◌≡◌, List, ℕ, Some, option_to_list, IfOk, OnOk};
+ghost use Rattle.std.specs.Prelude.{◌≡◌, List, ℕ, map, Some, option_to_list, IfOk, OnOk};
 ghost use Rattle.std.specs.Option.{option_map, option_copied};
 ghost use Rattle.psb_settings.specs.declared.settings.Settings.{Settings};
 ghost use Rattle.psb_model.specs.History.{state};
 ghost use Rattle.wire_codec.specs.Frames.{key_in};
 ghost use Rattle.psb_machine.specs.Sampling.{question_of, open_question, questions};
 ghost use Rattle.psb_machine.specs.Machine.{Situation, choice_at, choice_of};
-ghost use Rattle.node_core.specs.Clocks.{clock_of};
+ghost use Rattle.psb_machine.specs.Letters.{spelled};
+ghost use Rattle.node_core.specs.PeerStates.{state_of};
 
 use super::Node;
-use crate::Letter;
 use crate::choosing::candidates_of;
-use crate::clocks::{Clock, after_tick};
-use crate::replies::{ask_frame, letter_to};
+use crate::peer_state::PeerState;
 use node_journal::Log;
+use node_letters::{Letter, ask_frame, letter_to};
 use psb_bytes::{Memory, PeerId};
 use psb_model::Change;
 use sampling::{Question, choose, has_names, is_ready, question_of};
 
 impl<L: Log> Node<L> {
-    ghost use Rattle.node_core.specs.Letters.{letters_of};
+    ghost use Rattle.node_letters.specs.Letters.{letters_of};
     ghost use Rattle.node_core.specs.Stored.{Knows};
-    ghost use Rattle.node_core.specs.Choosing.{IsWorkedOut};
+    ghost use Rattle.node_core.specs.Ticking.{IsWorkedOut};
     ghost use Rattle.node_core.specs.Reacting.{IsSame};
 
     /// Works out what peers are asked, while nothing was chosen: once for each snapshot.
@@ -54,11 +54,11 @@ impl<L: Log> Node<L> {
         Some(question)
     }
 
-    /// The change that chooses buddies at a tick of a peer, by its clock before the tick.
-    pub(super) fn choice_at(&self, peer: PeerId, clock: &Clock) -> Result<Option<Change>, Memory>
+    /// The change that chooses buddies at a tick of a peer, by what is kept of it before the tick.
+    pub(super) fn choice_at(&self, peer: PeerId, at: &PeerState) -> Result<Option<Change>, Memory>
         requires known { (n : Situation) × Knows self.now n }
         requires worked { IsWorkedOut self.now.question self.now.ledger.state }
-        requires clock { clock_of self.now.clocks.items peer ≡ Some clock.now }
+        requires kept { state_of self.now.states.items peer ≡ Some at.now }
         ensures choice { IfOk result (λ o. (n : Situation) (settings : Settings) → Knows self.now n → (state n.history).settings ≡ Some settings → o ≡ option_map choice_of (choice_at settings n peer)) }
     {
         let Some(question) = self.open_question() else {
@@ -71,8 +71,8 @@ impl<L: Log> Node<L> {
             return Ok(None);
         };
         let names = question.names.as_slice().len() as u32;
-        let found = candidates_of(self.alloc, self.peers.rows(), &self.clocks, names)?;
-        if !is_ready(self.peers.count(), found.len(), after_tick(clock).ticks) {
+        let found = candidates_of(self.alloc, self.peers.rows(), &self.states, names)?;
+        if !is_ready(self.peers.count(), found.len(), at.next_tick()) {
             return Ok(None);
         }
         Ok(Some(choose(self.alloc, &found, settings.buddies)?))
@@ -83,7 +83,7 @@ impl<L: Log> Node<L> {
         requires known { (n : Situation) × Knows self.now n }
         requires worked { IsWorkedOut self.now.question self.now.ledger.state }
         ensures asks { IfOk result (λ o. (n : Situation) (settings : Settings) (key : List ℕ) → Knows self.now n → (state n.history).settings ≡ Some settings → key_in self.now.peers.keys peer ≡ Some key
-            → letters_of (option_to_list o) ≡ questions settings (state n.history) peer key) }
+            → letters_of (option_to_list o) ≡ map (spelled settings) (questions (state n.history) peer)) }
     {
         let alloc = self.alloc;
         let Some(question) = self.open_question() else {

@@ -18,7 +18,7 @@ ghost use Rattle.node_core.specs.Refusing.{Compared, Refuses, when_taken};
 
 use super::Node;
 use crate::Fault;
-use crate::reaction::{Reaction, quiet, untold};
+use crate::reaction::{Reaction, made, no_letter, quiet};
 use chunk_store::{Fit, Owner, Store, StoreError};
 use node_journal::Log;
 use psb_bytes::{Digest, Items, Memory};
@@ -113,10 +113,10 @@ impl<L: Log> Node<L> {
         requires some { 1 ≤ length bytes.now }
         requires short { length bytes.now ≤ longest_chunk }
         requires few { self.old.ledger.state.changes < 2 ^ 62 }
-        ensures exact { IfOk result (λ r. Tells_bytes (D.view disk.new) → (n : Situation) → Knows self.old n → Stored L.holds self.old n.history (D.view disk.old) → Reacts r (on_keep n name.now bytes.now)) }
+        ensures exact { IfOk result (λ r. Tells_bytes (D.view disk.new) → (n : Situation) → Knows self.old n → Stored L.holds self.old n.history (D.view disk.old) → Reacts r n (on_keep n name.now bytes.now)) }
         ensures compared { Tells_bytes (D.view disk.new) → (n : Situation) → Knows self.old n → Stored L.holds self.old n.history (D.view disk.old) → Compared n.history name.now bytes.now result }
-        ensures unheld { IfOk result (λ r. (n : Situation) → Knows self.old n → is_held (state n.history) name.now ≡ false → Reacts r (on_keep n name.now bytes.now)) }
-        ensures taken { IfOk result (λ r. (n : Situation) → Knows self.old n → Reacts r (when_taken n (Keep name.now bytes.now))) }
+        ensures unheld { IfOk result (λ r. (n : Situation) → Knows self.old n → is_held (state n.history) name.now ≡ false → Reacts r n (on_keep n name.now bytes.now)) }
+        ensures taken { IfOk result (λ r. (n : Situation) → Knows self.old n → Reacts r n (when_taken n (Keep name.now bytes.now))) }
         ensures unread { (n : Situation) → Knows self.old n → is_held (state n.history) name.now ≡ false → disk.new ≡ disk.old }
         ensures dropped { IfOk result (λ r. r.dropped ≡ None) }
         ensures may { IfOk result (λ r. IfSome r.change (MayCome Knows self.old)) }
@@ -134,27 +134,27 @@ impl<L: Log> Node<L> {
             return Ok(quiet(self.alloc, None));
         }
         let change = kept(self.alloc, name, bytes, fit == Fit::New)?;
-        Ok(untold(self.alloc, change))
+        Ok(made(Some(change), no_letter(self.alloc)))
     }
     /// Notes a snapshot of chunks that the node keeps for itself.
     pub(super) fn on_snap(&self, note: &SnapNote) -> Result<Reaction, Fault>
         requires known { (n : Situation) × Knows self.now n }
         requires few { self.now.ledger.state.changes < 2 ^ 62 }
         requires fits { SnapFits self.now.ledger.state note.now }
-        ensures exact { IfOk result (λ r. (n : Situation) → Knows self.now n → Reacts r (on_snap n note.now)) }
+        ensures exact { IfOk result (λ r. (n : Situation) → Knows self.now n → Reacts r n (on_snap n note.now)) }
         ensures may { IfOk result (λ r. IfSome r.change (MayCome Knows self.now)) }
         ensures out { IfOk result (λ r. r.out ≡ []) }
         ensures only { OnErr result (result ≡ Err Fault.Memory) }
     {
         let change = snapped(self.alloc, self.ledger.ledger(), note)?;
-        Ok(untold(self.alloc, change))
+        Ok(made(Some(change), no_letter(self.alloc)))
     }
 
     /// Gives a snapshot up.
     pub(super) fn on_forget(&self, number: u32) -> Result<Reaction, Fault>
         requires known { (n : Situation) × Knows self.now n }
         requires few { self.now.ledger.state.changes < 2 ^ 62 }
-        ensures exact { IfOk result (λ r. (n : Situation) → Knows self.now n → Reacts r (on_forget n number)) }
+        ensures exact { IfOk result (λ r. (n : Situation) → Knows self.now n → Reacts r n (on_forget n number)) }
         ensures there { OnOk result (has_snapshot self.now.ledger.state number ≡ true) }
         ensures absent { OnErr result (has_snapshot self.now.ledger.state number ≡ false) }
         ensures may { IfOk result (λ r. IfSome r.change (MayCome Knows self.now)) }
@@ -164,6 +164,9 @@ impl<L: Log> Node<L> {
         if !self.ledger.ledger().has_snapshot(number) {
             return Err(Fault::NoSnapshot(number));
         }
-        Ok(untold(self.alloc, Change::Forgot(Forgot { number })))
+        Ok(made(
+            Some(Change::Forgot(Forgot { number })),
+            no_letter(self.alloc),
+        ))
     }
 }

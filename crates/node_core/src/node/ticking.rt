@@ -1,6 +1,6 @@
 //! What a node makes of a tick of a peer. Nothing is written here.
 
-ghost use Rattle.std.specs.Prelude.{◌≡◌, ◌⊎◌, ◌≤◌, ◌<◌, ◌^◌, List, ℕ, true, false, length, Some, None, IfSome, IfOk, OnErr};
+ghost use Rattle.std.specs.Prelude.{◌≡◌, ◌⊎◌, ◌≤◌, ◌<◌, ◌^◌, List, ℕ, map, true, false, length, Some, None, IfSome, IfOk, OnErr};
 ghost use Rattle.std.specs.Option.{option_map};
 ghost use Rattle.psb_station.specs.Span.{Tells_bytes, Looked};
 ghost use Rattle.psb_settings.specs.declared.settings.Settings.{Settings};
@@ -11,81 +11,106 @@ ghost use Rattle.psb_model.specs.Needed.{last_brought};
 ghost use Rattle.wire_codec.specs.Fields.{are_slots};
 ghost use Rattle.wire_codec.specs.Frames.{fits, key_in};
 ghost use Rattle.wire_codec.specs.declared.frame.Frame.TheVariants.{Store, PutBack};
+ghost use Rattle.psb_machine.specs.Letters.{spelled};
 ghost use Rattle.psb_machine.specs.Replies.{claims_from};
-ghost use Rattle.psb_machine.specs.Proposals.{brings_bytes, is_askable, units_there, frame_of, asks};
+ghost use Rattle.psb_machine.specs.Proposals.{brings_bytes, is_askable, units_there, frame_of, deal_letters};
 ghost use Rattle.psb_machine.specs.Machine.{Situation, Tick, grown_by, react};
 
 use super::Node;
-use crate::asking::{Asking, asking_at, proposed};
-use crate::clocks::{Clock, clock_of};
-use crate::reaction::{Reaction, ask_too, no_letter, one_letter, quiet, untold};
-use crate::replies::{cancel_of, letter_to, put_back_of, store_of};
-use crate::{Fault, Outbox};
+use crate::Fault;
+use crate::offering::{Offer, offer_at, proposed};
+use crate::peer_state::{PeerState, state_of};
+use crate::reaction::{Reaction, made, no_letter, one_letter, quiet, ticked, with_letter};
 use node_journal::Log;
+use node_letters::{Outbox, cancel_of, letter_to, put_back_of, store_of};
 use psb_bytes::{Digest, Memory, Object, PeerId};
 use psb_model::{Deal, DealWhat};
 use psb_station::Disk;
 use wire_codec::{Frame, MOST_BYTES};
 
 impl<L: Log> Node<L> {
-    ghost use Rattle.node_core.specs.Letters.{letters_of};
-    ghost use Rattle.node_core.specs.Asking.{asking_in, IsBare};
-    ghost use Rattle.node_core.specs.Clocks.{clock_of};
-    ghost use Rattle.node_core.specs.Choosing.{AsksDeal, AsksDealSo};
+    ghost use Rattle.node_letters.specs.Letters.{letters_of};
+    ghost use Rattle.node_core.specs.PeerStates.{state_of};
+    ghost use Rattle.node_core.specs.Ticking.{offer_in, IsBare, Follows, FollowsSo, OffersDeal, OffersDealSo};
     ghost use Rattle.node_core.specs.Stored.{Knows, Stored, IsCounted};
     ghost use Rattle.node_core.specs.Unread.{IsUnread};
     ghost use Rattle.node_core.specs.Reacting.{Reacts, ReactsSo, MayCome, IsSame};
 
-    /// What the machine makes of a tick of a peer: a choice of buddies, or a deal that is asked for, and what is asked
-    /// of a peer before the choice, or nothing but that a clock goes on.
+    /// What the machine makes of a tick of a peer, which is noted.
     pub(super) fn on_tick<D: Disk>(&mut self, disk: &mut D, peer: PeerId) -> Result<Reaction, Fault>
         requires whole { L.is_broken self.old.log ≡ false }
         requires known { (n : Situation) × Knows self.old n }
         requires counted { IsCounted L.size L.keeps_body self.old }
         requires few { self.old.ledger.state.changes < 2 ^ 62 }
-        ensures exact { IfOk result (λ r. Tells_bytes (D.view disk.new) → (n : Situation) → Knows self.old n → Stored L.holds self.old n.history (D.view disk.old) → Reacts r (react n (Tick peer))) }
-        ensures unread { IfOk result (λ r. (n : Situation) → Knows self.old n → IsUnread n (Tick peer) → Reacts r (react n (Tick peer))) }
+        ensures exact { IfOk result (λ r. Tells_bytes (D.view disk.new) → (n : Situation) → Knows self.old n → Stored L.holds self.old n.history (D.view disk.old) → Reacts r n (react n (Tick peer))) }
+        ensures unread { IfOk result (λ r. (n : Situation) → Knows self.old n → IsUnread n (Tick peer) → Reacts r n (react n (Tick peer))) }
         ensures so { IfOk result (λ r. (n : Situation) → Knows self.old n → ReactsSo r n (Tick peer)) }
         ensures may { IfOk result (λ r. IfSome r.change (MayCome Knows self.old)) }
         ensures few { IfOk result (λ r. length r.out ≤ 2) }
-        ensures rests { (n : Situation) → Knows self.old n → IsUnread n (Tick peer) → (react n (Tick peer)).grown ≡ None → disk.new ≡ disk.old }
+        ensures rests { (n : Situation) → Knows self.old n → IsUnread n (Tick peer) → disk.new ≡ disk.old }
         ensures same { IsSame self.old self.new }
         ensures looked { Looked (result ≡ Err Fault.DiskFault) (D.view disk.old) (D.view disk.new) }
         ensures reads { (D.view disk.new).write_faults ≡ (D.view disk.old).write_faults }
         ensures only { OnErr result ((result ≡ Err Fault.DiskFault) ⊎ (result ≡ Err Fault.Memory)) }
     {
-        let Some(clock) = clock_of(&self.clocks, peer) else {
+        match self.follow_rules(disk, peer) {
+            Ok(reaction) => Ok(ticked(reaction, peer)),
+            Err(fault) => Err(fault),
+        }
+    }
+
+    /// What the rules of a tick come to, in their order: a choice of buddies, or a deal that is offered, and where
+    /// no change is made the question that is asked before the choice. Of one that is no peer nothing comes.
+    fn follow_rules<D: Disk>(&mut self, disk: &mut D, peer: PeerId) -> Result<Reaction, Fault>
+        requires whole { L.is_broken self.old.log ≡ false }
+        requires known { (n : Situation) × Knows self.old n }
+        requires counted { IsCounted L.size L.keeps_body self.old }
+        requires few { self.old.ledger.state.changes < 2 ^ 62 }
+        ensures exact { IfOk result (λ r. Tells_bytes (D.view disk.new) → (n : Situation) → Knows self.old n → Stored L.holds self.old n.history (D.view disk.old) → Follows r n peer) }
+        ensures unread { IfOk result (λ r. (n : Situation) → Knows self.old n → IsBare n peer → Follows r n peer) }
+        ensures so { IfOk result (λ r. (n : Situation) → Knows self.old n → FollowsSo r n peer) }
+        ensures may { IfOk result (λ r. IfSome r.change (MayCome Knows self.old)) }
+        ensures few { IfOk result (λ r. length r.out ≤ 2) }
+        ensures rests { (n : Situation) → Knows self.old n → IsBare n peer → disk.new ≡ disk.old }
+        ensures same { IsSame self.old self.new }
+        ensures looked { Looked (result ≡ Err Fault.DiskFault) (D.view disk.old) (D.view disk.new) }
+        ensures reads { (D.view disk.new).write_faults ≡ (D.view disk.old).write_faults }
+        ensures only { OnErr result ((result ≡ Err Fault.DiskFault) ⊎ (result ≡ Err Fault.Memory)) }
+    {
+        let Some(at) = state_of(&self.states, peer) else {
             return Ok(quiet(self.alloc, None));
         };
         self.work_out_question()?;
-        if let Some(change) = self.choice_at(peer, &clock)? {
-            return Ok(untold(self.alloc, change));
+        if let Some(change) = self.choice_at(peer, &at)? {
+            return Ok(made(Some(change), no_letter(self.alloc)));
         }
-        let question = self.question_to(peer)?;
-        let reaction = match self.deal_at(disk, peer, &clock) {
+        let reaction = match self.deal_at(disk, peer, &at) {
             Ok(reaction) => reaction,
             Err(fault) => return Err(fault),
         };
-        Ok(ask_too(reaction, question)?)
+        if reaction.change.is_some() {
+            return Ok(reaction);
+        }
+        let question = self.question_to(peer)?;
+        Ok(with_letter(reaction, question)?)
     }
 
-    /// What comes of a tick of a peer beside a choice and a question: a deal that is asked for, or nothing.
+    /// The deal that a tick of a peer offers, or nothing.
     fn deal_at<D: Disk>(
         &mut self,
         disk: &mut D,
         peer: PeerId,
-        clock: &Clock,
+        at: &PeerState,
     ) -> Result<Reaction, Fault>
         requires whole { L.is_broken self.old.log ≡ false }
         requires known { (n : Situation) × Knows self.old n }
         requires counted { IsCounted L.size L.keeps_body self.old }
         requires few { self.old.ledger.state.changes < 2 ^ 62 }
-        requires clock { clock_of self.old.clocks.items peer ≡ Some clock.now }
-        ensures exact { IfOk result (λ r. Tells_bytes (D.view disk.new) → (n : Situation) → Knows self.old n → Stored L.holds self.old n.history (D.view disk.old) → AsksDeal r self.old n peer) }
-        ensures unread { IfOk result (λ r. (n : Situation) → Knows self.old n → IsBare n peer → AsksDeal r self.old n peer) }
-        ensures so { IfOk result (λ r. (n : Situation) → Knows self.old n → AsksDealSo r self.old n peer) }
+        requires kept { state_of self.old.states.items peer ≡ Some at.now }
+        ensures exact { IfOk result (λ r. Tells_bytes (D.view disk.new) → (n : Situation) → Knows self.old n → Stored L.holds self.old n.history (D.view disk.old) → OffersDeal r self.old n peer) }
+        ensures unread { IfOk result (λ r. (n : Situation) → Knows self.old n → IsBare n peer → OffersDeal r self.old n peer) }
+        ensures so { IfOk result (λ r. (n : Situation) → Knows self.old n → OffersDealSo r n peer) }
         ensures may { IfOk result (λ r. IfSome r.change (MayCome Knows self.old)) }
-        ensures unsampled { IfOk result (λ r. r.sample ≡ None) }
         ensures few { IfOk result (λ r. length r.out ≤ 1) }
         ensures rests { (n : Situation) → Knows self.old n → IsBare n peer → disk.new ≡ disk.old }
         ensures same { IsSame self.old self.new }
@@ -93,48 +118,43 @@ impl<L: Log> Node<L> {
         ensures reads { (D.view disk.new).write_faults ≡ (D.view disk.old).write_faults }
         ensures only { OnErr result ((result ≡ Err Fault.DiskFault) ⊎ (result ≡ Err Fault.Memory)) }
     {
-        match asking_at(self.alloc, &mut self.ledger, peer, clock)? {
+        match offer_at(self.alloc, &mut self.ledger, peer, at)? {
             None => Ok(quiet(self.alloc, None)),
-            Some(asking) => self.ask(disk, peer, asking),
+            Some(offer) => self.offer(disk, peer, offer),
         }
     }
 
-    /// Asks a peer for a deal, which is proposed where it is new.
-    fn ask<D: Disk>(
+    /// Offers a deal to a peer, which is proposed where it is new.
+    fn offer<D: Disk>(
         &mut self,
         disk: &mut D,
         peer: PeerId,
-        asking: Asking,
+        offer: Offer,
     ) -> Result<Reaction, Fault>
         requires whole { L.is_broken self.old.log ≡ false }
         requires known { (n : Situation) × Knows self.old n }
         requires counted { IsCounted L.size L.keeps_body self.old }
-        requires askable { is_askable self.old.ledger.state peer asking.deal.what ≡ true }
-        ensures asks { IfOk result (λ r. (n : Situation) (settings : Settings) (key : List ℕ) → Knows self.old n → (state n.history).settings ≡ Some settings → key_in self.old.peers.keys peer ≡ Some key
-            → (Tells_bytes (D.view disk.new) × Stored L.holds self.old n.history (D.view disk.old)) ⊎ (brings_bytes asking.deal.what ≡ false)
-            → letters_of r.out ≡ asks settings n.history peer key asking.deal) }
-        ensures change { IfOk result (λ r. r.change ≡ grown_by peer (asking_in asking)) }
-        ensures plain { IfOk result (λ r. (r.sample ≡ None) × (r.dropped ≡ None)) }
+        requires askable { is_askable self.old.ledger.state peer offer.deal.what ≡ true }
+        ensures letters { IfOk result (λ r. (n : Situation) (settings : Settings) (key : List ℕ) → Knows self.old n → (state n.history).settings ≡ Some settings → key_in self.old.peers.keys peer ≡ Some key
+            → (Tells_bytes (D.view disk.new) × Stored L.holds self.old n.history (D.view disk.old)) ⊎ (brings_bytes offer.deal.what ≡ false)
+            → letters_of r.out ≡ map (spelled settings) (deal_letters settings n.history peer offer.deal)) }
+        ensures change { IfOk result (λ r. r.change ≡ grown_by peer (offer_in offer)) }
+        ensures plain { IfOk result (λ r. r.dropped ≡ None) }
         ensures few { IfOk result (λ r. length r.out ≤ 1) }
-        ensures unread { brings_bytes asking.deal.what ≡ false → disk.new ≡ disk.old }
+        ensures unread { brings_bytes offer.deal.what ≡ false → disk.new ≡ disk.old }
         ensures same { IsSame self.old self.new }
         ensures looked { Looked (result ≡ Err Fault.DiskFault) (D.view disk.old) (D.view disk.new) }
         ensures reads { (D.view disk.new).write_faults ≡ (D.view disk.old).write_faults }
         ensures only { OnErr result ((result ≡ Err Fault.DiskFault) ⊎ (result ≡ Err Fault.Memory)) }
     {
-        let out = match self.letters_for(disk, peer, &asking.deal) {
+        let out = match self.letters_for(disk, peer, &offer.deal) {
             Ok(out) => out,
             Err(fault) => return Err(fault),
         };
-        Ok(Reaction {
-            change: proposed(peer, asking),
-            sample: None,
-            dropped: None,
-            out,
-        })
+        Ok(made(proposed(peer, offer), out))
     }
 
-    /// The letter that asks a peer for a deal. There is none for one that is no peer.
+    /// The letter that offers a deal to a peer. There is none for one that is no peer.
     fn letters_for<D: Disk>(
         &mut self,
         disk: &mut D,
@@ -145,9 +165,9 @@ impl<L: Log> Node<L> {
         requires known { (n : Situation) × Knows self.old n }
         requires counted { IsCounted L.size L.keeps_body self.old }
         requires askable { is_askable self.old.ledger.state peer deal.now.what ≡ true }
-        ensures asks { IfOk result (λ out. (n : Situation) (settings : Settings) (key : List ℕ) → Knows self.old n → (state n.history).settings ≡ Some settings → key_in self.old.peers.keys peer ≡ Some key
+        ensures letters { IfOk result (λ out. (n : Situation) (settings : Settings) (key : List ℕ) → Knows self.old n → (state n.history).settings ≡ Some settings → key_in self.old.peers.keys peer ≡ Some key
             → (Tells_bytes (D.view disk.new) × Stored L.holds self.old n.history (D.view disk.old)) ⊎ (brings_bytes deal.now.what ≡ false)
-            → letters_of out ≡ asks settings n.history peer key deal.now) }
+            → letters_of out ≡ map (spelled settings) (deal_letters settings n.history peer deal.now)) }
         ensures few { IfOk result (λ out. length out ≤ 1) }
         ensures unread { brings_bytes deal.now.what ≡ false → disk.new ≡ disk.old }
         ensures same { IsSame self.old self.new }
@@ -172,7 +192,7 @@ impl<L: Log> Node<L> {
         Ok(one_letter(alloc, letter)?)
     }
 
-    /// The frame that asks a peer for a deal.
+    /// The frame that offers a deal to a peer.
     fn frame_of<D: Disk>(
         &mut self,
         disk: &mut D,

@@ -1,6 +1,7 @@
 use Rattle.std.proofs.Common.{◌≡◌, take}
-use Rattle.node_core.specs.Choosing.{candidates_in}
+use Rattle.psb_machine.specs.Sampling.{candidates}
+use Rattle.node_core.specs.PeerStates.{sample_of}
 use Rattle.node_core.proofs.choosing.candidates_of.Given as goal
 
 abbrev pub invariant-loop-peer : goal.invariant-loop-peer
-invariant-loop-peer l = l.found.items ≡ candidates_in (take l.peer-index l.peers) l.clocks l.names
+invariant-loop-peer l = l.found.items ≡ candidates (take l.peer-index l.peers) (sample_of l.states) l.names

@@ -11,7 +11,7 @@ use Rattle.node_core.proofs.facts.looked_up.Goals as goal
 pub returns-in-StoreFresh-clause-exact : goal.returns-in-StoreFresh-clause-exact
 returns-in-StoreFresh-clause-exact g c =
     ok_map c.sealed_facts.result _ _ (λ f exact tells h es knows are shows.
-    let p = c.args.offer.now.peer in
+    let p = c.args.peer in
     let name = c.in-StoreFresh.name in
     let bytes = c.in-StoreFresh.bytes.now in
     subst (λ (d : DealView). refused_by (state h).settings (state h) p (deal_in d) f.clash ≡ refused_by (state h).settings (state h) p (deal_in d) (clashes h (deal_in d))) (sym c.in-StoreFresh.is)
@@ -22,7 +22,7 @@ returns-in-StoreFresh-clause-exact g c =
 pub returns-in-StoreSwap-clause-exact : goal.returns-in-StoreSwap-clause-exact
 returns-in-StoreSwap-clause-exact g c =
     ok_map c.sealed_facts-in-StoreSwap.result _ _ (λ f exact tells h es knows are shows.
-    let p = c.args.offer.now.peer in
+    let p = c.args.peer in
     let name = c.in-StoreSwap.name in
     let bytes = c.in-StoreSwap.bytes.now in
     subst (λ (d : DealView). refused_by (state h).settings (state h) p (deal_in d) f.clash ≡ refused_by (state h).settings (state h) p (deal_in d) (clashes h (deal_in d))) (sym c.in-StoreSwap.is)

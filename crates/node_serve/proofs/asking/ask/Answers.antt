@@ -1,6 +1,6 @@
 use Rattle.std.proofs.Common.{◌≡◌, ◌∙◌, List, ℕ, Some, true, ap, subst, arith}
 use Rattle.psb_machine.specs.Commands.{gets}
-use Rattle.node_core.specs.Letters.{letters_of}
+use Rattle.node_letters.specs.Letters.{letters_of}
 use Rattle.node_serve.specs.Asks.{sends, only_lost}
 use Rattle.node_serve.specs.Spans.{Fed}
 use Rattle.node_serve.proofs.Asked.{asked, few_gets}

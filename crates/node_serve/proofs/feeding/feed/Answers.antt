@@ -1,7 +1,8 @@
 use Rattle.std.proofs.Common.{◌≡◌, true, false, refl, ap, sym, ◌∙◌, rules}
 use Rattle.std.proofs.lemmas.Bool.{true≢false}
 use Rattle.psb_station.specs.Span.{Tells_bytes}
-use Rattle.node_core.specs.Letters.{letters_of, input_of}
+use Rattle.node_letters.specs.Letters.{letters_of}
+use Rattle.node_core.specs.Inputs.{input_of}
 use Rattle.node_serve.proofs.OneTurn.{Now, refused, answered}
 use Rattle.node_serve.proofs.Runs.{ready_after}
 use Rattle.node_serve.proofs.Tries.{sends_tells}

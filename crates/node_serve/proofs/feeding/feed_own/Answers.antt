@@ -1,5 +1,6 @@
 use Rattle.std.proofs.Common.{◌≡◌, false, ap, sym, ◌∙◌, rules}
-use Rattle.node_core.specs.Letters.{letters_of, input_of}
+use Rattle.node_letters.specs.Letters.{letters_of}
+use Rattle.node_core.specs.Inputs.{input_of}
 use Rattle.node_history.proofs.Presence.{err_as}
 use Rattle.node_serve.proofs.OneTurn.{Now, refused}
 use Rattle.node_serve.proofs.OwnInputs.{absorbed}

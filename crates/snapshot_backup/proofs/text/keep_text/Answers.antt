@@ -1,4 +1,4 @@
-use Rattle.std.proofs.Common.{◌≡◌, ◌+◌, List, ℕ, true, map, take, drop, Result, Err, refl, sym, ◌∙◌, subst, rules}
+use Rattle.std.proofs.Common.{◌≡◌, ◌+◌, List, ℕ, map, take, drop, Result, Err, refl, sym, ◌∙◌, subst, rules}
 use Rattle.psb_bytes.specs.declared.ids.Ref.{Ref}
 use Rattle.node_core.specs.declared.fault.Fault.{Fault}
 use Rattle.node_core.specs.declared.fault.Fault.TheVariants as fault

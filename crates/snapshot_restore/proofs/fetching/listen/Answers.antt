@@ -1,6 +1,6 @@
 use Rattle.std.proofs.Common.{◌∙◌, ◌++◌, inl, inr, ⊎_elim, ℕ, true, List, Option, Err, refl, sym, ap, subst}
 use Rattle.std.proofs.lemmas.Bool.{false≢true}
-use Rattle.node_core.specs.Peers.{PeersView}
+use Rattle.node_letters.specs.Peers.{PeersView}
 use Rattle.node_serve.specs.Buffers.{last_of}
 use Rattle.node_serve.specs.Hears.{Whole, of_turns, is_fed}
 use Rattle.node_serve.specs.Turns.{fault_end}

@@ -1,9 +1,9 @@
 use Rattle.std.proofs.Common.{◌≡◌, true, false, Some, length, rules, sym, ◌∙◌, ap, subst, arith}
 use Rattle.psb_model.specs.declared.change.Change.{Change}
-use Rattle.psb_machine.specs.Sampling.{open_question, is_last, is_ready}
-use Rattle.psb_machine.specs.Machine.{later}
+use Rattle.psb_machine.specs.Sampling.{open_question, is_last, is_ready, candidates}
+use Rattle.psb_machine.specs.Volatile.{later}
 use Rattle.psb_machine.proofs.Choosing.{few_asked, open_is}
-use Rattle.node_core.specs.Choosing.{candidates_in}
+use Rattle.node_core.specs.PeerStates.{sample_of}
 use Rattle.node_core.proofs.Choices.{can_choose, CanChoose, chooses, chooses_none}
 use Rattle.node_core.proofs.node.Node.choice_at.Goals as goal
 
@@ -28,10 +28,10 @@ returns-then-not-is_ready g c = record {
       let q = c.in-Some.question.now in
       let opened : open_question node.ledger.state ≡ Some q = search rules in
       let last : is_last node.peers.rows c.args.peer ≡ true = search rules in
-      let found : c.in_ok-found.found.items ≡ candidates_in node.peers.rows node.clocks.items (length q.names) = search rules in
-      let not_ready : is_ready (length node.peers.rows) (length c.in_ok-found.found.items) (later c.args.clock.now.ticks) ≡ false = search rules in
-      chooses_none node n settings c.args.peer c.args.clock.now q k present c.requires.clock opened last
-      (subst (λ l. is_ready (length node.peers.rows) (length l) (later c.args.clock.now.ticks) ≡ false) found not_ready);
+      let found : c.in_ok-found.found.items ≡ candidates node.peers.rows (sample_of node.states.items) (length q.names) = search rules in
+      let not_ready : is_ready (length node.peers.rows) (length c.in_ok-found.found.items) (later c.args.at.now.clock) ≡ false = search rules in
+      chooses_none node n settings c.args.peer c.args.at.now q k present c.requires.kept opened last
+      (subst (λ l. is_ready (length node.peers.rows) (length l) (later c.args.at.now.clock) ≡ false) found not_ready);
 }
 
 pub choose-requires-clause-asked : goal.choose-requires-clause-asked
@@ -39,7 +39,7 @@ choose-requires-clause-asked g c =
     let node = c.args.self.now in
     let q = c.in-Some.question.now in
     let opened : open_question node.ledger.state ≡ Some q = search rules in
-    let found : c.deref-2.result.now ≡ candidates_in node.peers.rows node.clocks.items (length q.names) = search rules in
+    let found : c.deref-2.result.now ≡ candidates node.peers.rows (sample_of node.states.items) (length q.names) = search rules in
     (subst CanChoose (sym found) (can_choose node c.requires.known.0 q c.requires.known.1 opened)).asked
 
 pub choose-requires-clause-distinct : goal.choose-requires-clause-distinct
@@ -47,7 +47,7 @@ choose-requires-clause-distinct g c =
     let node = c.args.self.now in
     let q = c.in-Some.question.now in
     let opened : open_question node.ledger.state ≡ Some q = search rules in
-    let found : c.deref-2.result.now ≡ candidates_in node.peers.rows node.clocks.items (length q.names) = search rules in
+    let found : c.deref-2.result.now ≡ candidates node.peers.rows (sample_of node.states.items) (length q.names) = search rules in
     (subst CanChoose (sym found) (can_choose node c.requires.known.0 q c.requires.known.1 opened)).distinct
 
 pub returns : goal.returns
@@ -57,9 +57,9 @@ returns g c = record {
       let q = c.in-Some.question.now in
       let opened : open_question node.ledger.state ≡ Some q = search rules in
       let last : is_last node.peers.rows c.args.peer ≡ true = search rules in
-      let found : c.in_ok-found.found.items ≡ candidates_in node.peers.rows node.clocks.items (length q.names) = search rules in
-      let ready : is_ready (length node.peers.rows) (length c.in_ok-found.found.items) (later c.args.clock.now.ticks) ≡ true = search rules in
+      let found : c.in_ok-found.found.items ≡ candidates node.peers.rows (sample_of node.states.items) (length q.names) = search rules in
+      let ready : is_ready (length node.peers.rows) (length c.in_ok-found.found.items) (later c.args.at.now.clock) ≡ true = search rules in
       ap (λ (d : Change). Some d) (search rules)
-      ∙ chooses node n settings c.args.peer c.args.clock.now q k present c.requires.clock opened last
-      (subst (λ l. is_ready (length node.peers.rows) (length l) (later c.args.clock.now.ticks) ≡ true) found ready);
+      ∙ chooses node n settings c.args.peer c.args.at.now q k present c.requires.kept opened last
+      (subst (λ l. is_ready (length node.peers.rows) (length l) (later c.args.at.now.clock) ≡ true) found ready);
 }

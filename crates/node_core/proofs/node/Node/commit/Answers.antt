@@ -1,5 +1,6 @@
 use Rattle.std.proofs.Common.{◌≡◌, inl, inr, ◌≤◌, ℕ, ◌+◌, true, refl, sym, ◌∙◌, ap, subst, arith, rules}
 use Rattle.std.proofs.lemmas.Bool.{false≢true}
+use Rattle.psb_settings.specs.declared.settings.PeerRow.{PeerRow}
 use Rattle.psb_model.specs.State.{State}
 use Rattle.psb_ledger.specs.View.{LedgerView}
 use Rattle.node_history.specs.Names.{Enters, Enter}
@@ -8,6 +9,8 @@ use Rattle.node_history.proofs.Ordering.{IsOrdered, ordered_state}
 use Rattle.psb_station.proofs.Spans.{shows_wider}
 use Rattle.psb_model.specs.Effects.{after}
 use Rattle.psb_model.specs.Heads.{head_of}
+use Rattle.psb_machine.specs.Volatile.{Note}
+use Rattle.node_core.specs.PeerStates.{states_noted, states_changed}
 use Rattle.node_core.proofs.Committing.{knows_still, counted_still, step_knows, step_stored, step_leaves, stored_room}
 use Rattle.node_history.proofs.Presence.{on_err}
 use Rattle.node_core.proofs.LogFaults.{log_failed}
@@ -48,12 +51,12 @@ returns-in_err-number-clause-any_moment g c = λ tells n m valid step s.
     (c.in_err-number.ensures.any_moment (c.ready.ensures.broken ∙ c.requires.whole) tells s.records (shows_wider (g.L.Log.holds c.args.self.now.log s.records) (g.L.Log.holds c.ready.new.log s.records) _ (λ i held. c.ready.ensures.holds s.records i held) s.shows))
 
 pub returns-clause-step : goal.returns-clause-step
-returns-clause-step g c = λ n m k step.
+returns-clause-step g c = λ n m k step note.
     let grown : c.apply.new.self.state ≡ after c.args.self.now.ledger.state c.args.change = search rules in
     let issued : c.apply.new.self.state.issued ≤ c.issue_to.new.claims.issued = omega (arith, c.issued.ensures, ap (λ (v : LedgerView). v.state.issued) c.ledger-left.ensures, c.issue_to.ensures.issued) in
     let entered = enters_after c.args.self.now.ledger.state c.apply.new.self.state n.history c.ready.new.names c.enter.new.names c.args.change c.in_ok-entering.entering c.in_ok-number.number k.ledger k.valid.lawful grown c.in_ok-entering.ensures.entering (subst (λ (v : LedgerView). Enter v.state.own c.ready.new.names c.enter.new.names c.in_ok-entering.entering c.in_ok-number.number) c.ledger-left.ensures c.enter.ensures) in
     step_knows c.args.self.now _ n m c.args.change c.ready.new.names c.in_ok-number.number c.requires.may k step grown (c.ready.ensures.names) entered
-    (c.requires.counted.changes ∙ sym c.ready.ensures.size ∙ sym c.in_ok-number.ensures.number) (record { peers = refl; seed = c.issue_to.ensures.seed; issued = c.issue_to.ensures.stay }) issued (search rules) c.note_question.ensures
+    (c.requires.counted.changes ∙ sym c.ready.ensures.size ∙ sym c.in_ok-number.ensures.number) (record { peers = refl; seed = c.issue_to.ensures.seed; issued = c.issue_to.ensures.stay }) issued (c.note_change.ensures ∙ ap (λ (r : PeerRow). states_changed r.id c.args.change c.take_note.new.states.items) c.own.ensures ∙ ap (λ l. states_changed c.args.self.now.peers.own.id c.args.change l) (c.take_note.ensures ∙ ap (λ (q : Note). states_noted q c.args.self.now.states.items) note)) c.note_question.ensures
 
 pub returns-clause-counted : goal.returns-clause-counted
 returns-clause-counted g c =

@@ -25,16 +25,16 @@ returns-clause-compared g c = λ tells n k s.
 
 pub returns-clause-exact : goal.returns-clause-exact
 returns-clause-exact g c = λ tells n k s.
-    keeps_new c.untold.result c.args.self.now n c.args.name.now c.args.bytes.now c.in_ok-change.change (search rules) (search rules) (search rules) (search rules) (search rules) k
+    keeps_new c.made.result c.args.self.now n c.args.name.now c.args.bytes.now c.in_ok-change.change (search rules) (search rules) (search rules) (search rules) (search rules) k
     (returns-clause-compared g c tells n k s)
     (c.in_ok-change.ensures (state n.history) (new_is c.args.self.now.names n.history c.args.name.now c.eq.result k.names (search rules)))
 
 pub returns-clause-may : goal.returns-clause-may
 returns-clause-may g c =
-    keep_may_come c.untold.result c.args.self.now c.args.name.now c.args.bytes.now c.in_ok-change.change (search rules) (keep_fits c.args.name.now c.args.bytes.now c.requires.named c.requires.some c.requires.short (λ k. omega (arith, c.type_inv.bytes k))) c.requires.known (search rules) c.requires.few
+    keep_may_come c.made.result c.args.self.now c.args.name.now c.args.bytes.now c.in_ok-change.change (search rules) (keep_fits c.args.name.now c.args.bytes.now c.requires.named c.requires.some c.requires.short (λ k. omega (arith, c.type_inv.bytes k))) c.requires.known (search rules) c.requires.few
     (λ n k. c.in_ok-change.ensures (state n.history) (new_is c.args.self.now.names n.history c.args.name.now c.eq.result k.names (search rules)))
 
 pub returns-clause-taken : goal.returns-clause-taken
 returns-clause-taken g c = λ n k.
-    keeps_taken c.untold.result c.args.self.now n c.args.name.now c.args.bytes.now c.in_ok-change.change (search rules) (search rules) (search rules) (search rules) (search rules) k
+    keeps_taken c.made.result c.args.self.now n c.args.name.now c.args.bytes.now c.in_ok-change.change (search rules) (search rules) (search rules) (search rules) (search rules) k
     (c.in_ok-change.ensures (state n.history) (new_is c.args.self.now.names n.history c.args.name.now c.eq.result k.names (search rules)))

@@ -1,0 +1,67 @@
+-- What a tick of a peer comes to, as a node finds it by what it keeps.
+use Rattle.std.specs.Prelude.{◌≡◌, ℕ, true, false, ◌==◌, if◌then◌else◌, List, length, Option, Some, None}
+use Rattle.psb_settings.specs.declared.settings.Settings.{Settings}
+use Rattle.psb_model.specs.State.{State}
+use Rattle.psb_model.specs.History.{state}
+use Rattle.psb_model.specs.declared.deals.Deal.{Deal}
+use Rattle.psb_model.specs.declared.change.Change.{Change}
+use Rattle.psb_model.specs.declared.change.Change.TheVariants.{Proposed}
+use Rattle.wire_codec.specs.Frames.{key_in}
+use Rattle.psb_machine.specs.Letters.{all_spelled}
+use Rattle.psb_machine.specs.Volatile.{later}
+use Rattle.psb_machine.specs.Proposals.{Offer as MachineOffer, brings_bytes, is_even}
+use Rattle.psb_machine.specs.Sampling.{question_of}
+use Rattle.psb_machine.specs.Machine.{Situation, Rule, by_offer, offer_at, on_tick}
+use Rattle.psb_machine.specs.declared.question.Question.{Question}
+use Rattle.node_letters.specs.Letters.{letters_of}
+use Rattle.node_core.specs.declared.node.Node.{Node}
+use Rattle.node_core.specs.declared.offering.Offer.{Offer}
+use Rattle.node_core.specs.declared.peer_state.PeerState.{PeerState}
+use Rattle.node_core.specs.declared.reaction.Reaction.{Reaction}
+
+-- ---- the deal that is offered
+
+abbrev pub offer_in : Offer → MachineOffer
+offer_in o = record { deal = o.deal; is_new = o.is_new }
+
+-- the deal that a change proposes
+abbrev pub offer_of : Change → Option MachineOffer
+offer_of (Proposed x) = Some (record { deal = record { number = x.deal; what = x.what }; is_new = true })
+offer_of _ = None
+
+-- one without a reply at each second tick
+abbrev pub offered_again : PeerState → Deal → Option MachineOffer
+offered_again x d = if is_even (later x.clock) then Some (record { deal = d; is_new = false }) else None
+
+-- no bytes are read for what a tick of the peer offers
+abbrev pub IsBare : Situation → ℕ → Type 0
+IsBare n p = (settings : Settings) (o : MachineOffer) → (state n.history).settings ≡ Some settings → offer_at settings n p ≡ Some o → brings_bytes o.deal.what ≡ false
+
+-- while nothing was chosen the question is that of the state
+abbrev pub IsWorkedOut : Option Question → State → Type 0
+IsWorkedOut o s = (length s.chosen == 0) ≡ true → o ≡ question_of s
+
+-- ---- what it comes to
+
+-- a rule comes to this; letters are those that go out
+pub record IsRule (r : Reaction) (n : Situation) (m : Rule) : Type 0 where
+  pub change : r.change ≡ m.grown
+  pub letters : letters_of r.out ≡ all_spelled (state n.history).settings m.letters
+  pub dropped : r.dropped ≡ None
+
+-- the rules of a tick come to this
+abbrev pub Follows : Reaction → Situation → ℕ → Type 0
+Follows r n p = IsRule r n (on_tick (state n.history).settings n p)
+
+-- on every disk they come to the same change
+abbrev pub FollowsSo : Reaction → Situation → ℕ → Type 0
+FollowsSo r n p = (r.change ≡ (on_tick (state n.history).settings n p).grown) × (r.dropped ≡ None)
+
+-- the rule of the deal that is offered comes to this, where the peer has a key
+abbrev pub OffersDeal : {L : Type 0} → Reaction → Node L → Situation → ℕ → Type 0
+OffersDeal r node n p =
+    (settings : Settings) (key : List ℕ) → (state n.history).settings ≡ Some settings → key_in node.peers.keys p ≡ Some key → IsRule r n (by_offer settings n.history p (offer_at settings n p))
+
+-- on every disk it comes to the same change
+abbrev pub OffersDealSo : Reaction → Situation → ℕ → Type 0
+OffersDealSo r n p = (settings : Settings) → (state n.history).settings ≡ Some settings → (r.change ≡ (by_offer settings n.history p (offer_at settings n p)).grown) × (r.dropped ≡ None)
