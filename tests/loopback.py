@@ -5,12 +5,13 @@
     tests/loopback.py --image FILE        writes the image of the program's stored run
 
 This script begins nodes from crates/psb/data/node.toml, and is the node's one peer. It stores 512 bytes
-with the node, sends a forged frame and the longest ones, compares the answers byte for byte, the lines said, the exit
-status and the file afterwards, and opens the node again. It counts the questions that a node asks in some seconds. It
-backs up folders with links, empty files, names of other scripts and the node's own file, and compares tickets, records
-and the folders. It runs each command with standard descriptors closed, and where strace is installed it counts the
-syncs of a backup. It works all values out by itself, from the formats of docs/FORMATS.md. It ends within about a
-minute for each program, with status 0 where all is well and 1 where something is not.
+with the node, sends a forged frame and the longest ones, and asks for a proof of what it stored; it compares the
+answers byte for byte, the lines said, the exit status and the file afterwards, and opens the node again. It counts the
+questions that a node asks in some seconds. It backs up folders with links, empty files, names of other scripts and the
+node's own file, and compares tickets, records and the folders. It runs each command with standard descriptors closed,
+and where strace is installed it counts the syncs of a backup. It works all values out by itself, from the formats of
+docs/FORMATS.md. It ends within about a minute for each program, with status 0 where all is well and 1 where something
+is not.
 """
 
 import contextlib
@@ -41,7 +42,7 @@ SEED = bytes(range(32))
 KEY = bytes(range(32, 64))
 LONGEST = 32768
 BODY = bytes(i % 251 for i in range(512))
-STORE, ACCEPTED, REFUSED, ASK = 1, 4, 5, 11
+STORE, ACCEPTED, REFUSED, DECLINED, PROBE, PROOF, ASK = 1, 4, 5, 6, 9, 10, 11
 NOT_THERE = 5
 MASK = 0xFFFFFFFF
 
@@ -123,6 +124,23 @@ def accepted(deal, slot):
 
 
 # Claims: sixteen links of a chain of hashes, under a keystream of ChaCha20.
+
+
+def probe(number, nonce, names):
+    """Asks for a proof that the node has the chunks of these names."""
+    body = nonce + struct.pack(">H", len(names)) + b"".join(b"\0" + name for name in names)
+    return frame(PROBE, PEER, NODE, number, body)
+
+
+def proof(number, nonce, pieces):
+    value = nonce
+    for piece in pieces:
+        value = sha(value + piece)
+    return frame(PROOF, NODE, PEER, number, nonce + value)
+
+
+def declined(number, nonce, places):
+    return frame(DECLINED, NODE, PEER, number, nonce + struct.pack(f">H{len(places)}H", len(places), *places))
 
 
 def rotated(word, by):
@@ -538,7 +556,15 @@ def serving(program, folder, deadline):
             peer.sendto(longest_store(2), ("127.0.0.1", port))
             peer.settimeout(left(deadline))
             same("the answer to the longest", peer.recvfrom(65536), (refused(2, NOT_THERE, 1), ("127.0.0.1", port)))
-            said = b"peer 2 held 1 back 1 debt 0\nturns 40 taken 4 dropped 2 lost 0\n"
+            # It proves that it has what it took, and tells what it does not have.
+            nonce = sha(b"a question")
+            peer.sendto(probe(7, nonce, [sha(BODY)]), ("127.0.0.1", port))
+            peer.settimeout(left(deadline))
+            same("the proof", peer.recvfrom(65536), (proof(7, nonce, [BODY]), ("127.0.0.1", port)))
+            peer.sendto(probe(8, nonce, [sha(BODY), sha(nonce)]), ("127.0.0.1", port))
+            peer.settimeout(left(deadline))
+            same("what is missing", peer.recvfrom(65536), (declined(8, nonce, [1]), ("127.0.0.1", port)))
+            said = b"peer 2 held 1 back 1 debt 0\nturns 40 taken 6 dropped 2 lost 0\n"
             end(node, deadline, 0, said)
         except socket.timeout:
             raise Wrong("no answer came") from None
@@ -611,7 +637,7 @@ def main(words):
     return try_all("loopback", words, __doc__, course,
         "nodes began once each, in files that nobody else may read; folders were backed up, with the tickets and records"
         " that were worked out here, and without the node's own file; no command wrote a line into that, whatever was"
-        " closed; a second program was refused; a Store was taken, answered byte for byte and found again; a forged frame"
+        " closed; a second program was refused; a Store was taken, answered byte for byte, proved and found again; a forged frame"
         " and one that is too long were dropped")
 
 

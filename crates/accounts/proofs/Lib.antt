@@ -1,3 +1,4 @@
 pub mod Places
 pub mod Loosened
 pub mod Settled
+pub mod Taken

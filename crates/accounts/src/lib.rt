@@ -1,9 +1,12 @@
-//! The accounts of all peers, and what a change of one of them does to the states of entries in others.
+//! The accounts of all peers: what a change of one of them does to the states of entries in others, and which
+//! entries a discard takes.
 #![tactic(auto)]
 
+mod discards;
 mod freeing;
 mod table;
 
+pub use discards::are_taken;
 pub use freeing::{
     free, free_one, free_slots, reserve_outs, room_for_objects, room_for_slots, set_states,
 };

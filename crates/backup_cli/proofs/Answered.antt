@@ -1,9 +1,9 @@
 -- The answers for which a node was opened, one by one.
 use Rattle.std.proofs.Common.{◌≡◌, ℕ, refl, subst}
 use Rattle.psb_digest.specs.Clashes.{Pair}
-use Rattle.backup_cli.specs.Status.{IsElsewhere, IsOpened}
-use Rattle.backup_cli.specs.declared.status.Status.{Status}
-use Rattle.backup_cli.specs.declared.status.Status.TheVariants.{Done, Usage, DiskFault, LinkFault, FolderFault, SayFault, NotNode, Already, BadSettings, NoSnapshot, TooLarge, Missing, Altered, Clash, NotEmpty, BadSkeleton, Memory}
+use Rattle.said_lines.specs.Status.{IsElsewhere, IsOpened}
+use Rattle.said_lines.specs.declared.status.Status.{Status}
+use Rattle.said_lines.specs.declared.status.Status.TheVariants.{Done, Usage, DiskFault, LinkFault, FolderFault, SayFault, NotNode, Already, BadSettings, NoSnapshot, TooLarge, Missing, Altered, Clash, NotEmpty, BadSkeleton, Memory}
 
 -- of a command that restores nothing
 pub opened_as : (status : Status) (P : Type 0) → IsElsewhere status → (status ≡ Done → P) → (status ≡ LinkFault → P) → (status ≡ SayFault → P) → ((k : ℕ) → status ≡ NoSnapshot k → P) → (status ≡ FolderFault → P) → (status ≡ TooLarge → P) → ((c : Pair) → status ≡ Clash c → P) → IsOpened status → P

@@ -38,12 +38,13 @@ use Rattle.snapshot_backup.specs.Files.{IsFront}
 use Rattle.snapshot_backup.proofs.Brought.{brought_by}
 use Rattle.snapshot_backup.specs.declared.fault.BackupFault.{BackupFault}
 use Rattle.snapshot_backup.specs.declared.fault.BackupFault.TheVariants as backup_fault
-use Rattle.backup_cli.specs.Commanded.{IfThrough, UnlessHarmed, joined_lines}
-use Rattle.backup_cli.specs.Says.{Utters, IsRefusal, NotOpened}
+use Rattle.backup_cli.specs.Commanded.{IfThrough, UnlessHarmed}
+use Rattle.said_lines.specs.Lines.{joined_lines}
+use Rattle.said_lines.specs.Says.{Utters, IsRefusal, NotOpened}
 use Rattle.backup_cli.specs.Served.{ending_of, refused_of}
 use Rattle.backup_cli.specs.BackedUp.{status_of, noted_line, Made, HasRoom, Unmade, IsOwnStep, FailsToBackUp, IsLineLeft, IsEnd, BacksUpTo, BacksUpOn, CanBeBackedUp, IsBodyOf, MeetsNone}
-use Rattle.backup_cli.specs.declared.status.Status.{Status}
-use Rattle.backup_cli.specs.declared.status.Status.TheVariants.{Done, DiskFault, FolderFault, SayFault, NotNode, TooLarge, Clash, Memory}
+use Rattle.said_lines.specs.declared.status.Status.{Status}
+use Rattle.said_lines.specs.declared.status.Status.TheVariants.{Done, DiskFault, FolderFault, SayFault, NotNode, TooLarge, Clash, Memory}
 use Rattle.backup_cli.proofs.Commanding.{NoOther, long_says, ended, lines_behind, lines_left, from_before}
 use Rattle.backup_cli.proofs.Ends.{refused_since, quiet_since, unopened_command}
 use Rattle.backup_cli.proofs.Forgettings.{quiet_then}

@@ -20,14 +20,14 @@ use Rattle.node_core.specs.declared.node.Node.{Node}
 use Rattle.node_core.proofs.Reopened.{image_reopens}
 use Rattle.node_serve.proofs.Tries.{told_from}
 use Rattle.backup_cli.specs.Files.{IsFrontOf, OnlyReads}
-use Rattle.backup_cli.specs.Lines.{node_line}
-use Rattle.backup_cli.specs.Says.{Utters, IsRefusal}
-use Rattle.backup_cli.specs.Status.{refusal_line}
+use Rattle.said_lines.specs.Lines.{node_line}
+use Rattle.said_lines.specs.Says.{Utters, IsRefusal}
+use Rattle.said_lines.specs.Status.{refusal_line}
 use Rattle.backup_cli.specs.Begun.{IsEmpty, HasSettings, HasNoSettings, Stays, HasBegun, MayBegin, IsEnd, Begins, Completes, Stops}
-use Rattle.backup_cli.specs.declared.status.Status.{Status}
-use Rattle.backup_cli.specs.declared.status.Status.TheVariants.{Done, Usage, DiskFault, LinkFault, FolderFault, SayFault, NotNode, Already, BadSettings, NoSnapshot, TooLarge, Clash, Memory}
+use Rattle.said_lines.specs.declared.status.Status.{Status}
+use Rattle.said_lines.specs.declared.status.Status.TheVariants.{Done, Usage, DiskFault, LinkFault, FolderFault, SayFault, NotNode, Already, BadSettings, NoSnapshot, TooLarge, Clash, Memory}
 use Rattle.backup_cli.proofs.Commanding.{NoOther}
-use Rattle.backup_cli.proofs.Utterances.{utters_tells}
+use Rattle.said_lines.proofs.Utterances.{utters_tells}
 use Rattle.backup_cli.proofs.FileReads.{if_one}
 
 -- ---- the text

@@ -22,8 +22,9 @@ use Rattle.node_serve.specs.Spans.{IsPrefix, IsPrefixSoon, Tally, Counted, Fed}
 use Rattle.node_serve.proofs.Runs.{said_append, all_done, none_failed}
 use Rattle.node_serve.proofs.Prefixes.{all_is_prefix}
 use Rattle.node_serve.proofs.Tries.{grows_then, told_as, told_then}
-use Rattle.backup_cli.specs.Commanded.{Ending, Through, Halted, Harmed, UnlessHarmed, IfThrough, joined_lines, told_in, IsMoment, Commanded, CommandedOn}
-use Rattle.backup_cli.specs.Says.{Utters}
+use Rattle.backup_cli.specs.Commanded.{Ending, Through, Halted, Harmed, UnlessHarmed, IfThrough, told_in, IsMoment, Commanded, CommandedOn}
+use Rattle.said_lines.specs.Lines.{joined_lines}
+use Rattle.said_lines.specs.Says.{Utters}
 
 -- since this moment there is no other
 abbrev pub NoOther : View → Type 0

@@ -15,10 +15,10 @@ use Rattle.node_history.specs.Stands.{HoldsHistory}
 use Rattle.backup_cli.specs.Begun.{Begins}
 use Rattle.backup_cli.specs.Completeness.{Holds, CanBegin, NoDiskFault, NoFolderFault, NoSayFault}
 use Rattle.backup_cli.specs.Forgotten.{Finds}
-use Rattle.backup_cli.specs.Status.{IsElsewhere}
+use Rattle.said_lines.specs.Status.{IsElsewhere}
 use Rattle.backup_cli.specs.Words.{IsCommand, IsServe, IsLedger, IsSnapshots, IsForget, IsInit, IsBackup, IsRestore, IsKind, IsNoCommand, Kind, OfServe, OfLedger, OfInit, OfSnapshots, OfForget, OfBackup, OfRestore}
-use Rattle.backup_cli.specs.declared.status.Status.{Status}
-use Rattle.backup_cli.specs.declared.status.Status.TheVariants.{Done, Usage, DiskFault, LinkFault, FolderFault, SayFault, NotNode, Already, BadSettings, NoSnapshot, TooLarge, Missing, Altered, Clash, NotEmpty, BadSkeleton, Memory}
+use Rattle.said_lines.specs.declared.status.Status.{Status}
+use Rattle.said_lines.specs.declared.status.Status.TheVariants.{Done, Usage, DiskFault, LinkFault, FolderFault, SayFault, NotNode, Already, BadSettings, NoSnapshot, TooLarge, Missing, Altered, Clash, NotEmpty, BadSkeleton, Memory}
 use Rattle.backup_cli.specs.declared.words.Command.{Command}
 use Rattle.backup_cli.specs.declared.words.Command.TheVariants.{Serve, Ledger, Init, Snapshots, Forget, Backup, Restore}
 use Rattle.backup_cli.specs.declared.words.Which.{Which}

@@ -2,11 +2,11 @@
 use Rattle.std.proofs.Common.{◌≡◌, inl, inr, ℕ, sym, subst}
 use Rattle.backup_cli.specs.Begun.{IsEnd}
 use Rattle.backup_cli.specs.Forgotten.{StopsForget}
-use Rattle.backup_cli.specs.Says.{IsUnopened}
+use Rattle.said_lines.specs.Says.{IsUnopened}
 use Rattle.backup_cli.specs.Served.{Stops}
-use Rattle.backup_cli.specs.Status.{IsElsewhere}
-use Rattle.backup_cli.specs.declared.status.Status.{Status}
-use Rattle.backup_cli.specs.declared.status.Status.TheVariants.{Done, DiskFault, LinkFault, FolderFault, SayFault, NotNode, Already, BadSettings, NoSnapshot, Memory}
+use Rattle.said_lines.specs.Status.{IsElsewhere}
+use Rattle.said_lines.specs.declared.status.Status.{Status}
+use Rattle.said_lines.specs.declared.status.Status.TheVariants.{Done, DiskFault, LinkFault, FolderFault, SayFault, NotNode, Already, BadSettings, NoSnapshot, Memory}
 use Rattle.backup_cli.specs.BackedUp.{status_of_node, status_of}
 use Rattle.node_core.specs.declared.fault.Fault.{Fault}
 use Rattle.node_core.specs.declared.fault.Fault.TheVariants as fault

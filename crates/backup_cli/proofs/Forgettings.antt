@@ -11,13 +11,14 @@ use Rattle.psb_machine.specs.Machine.{Forget, fresh, has_snapshot}
 use Rattle.psb_machine.specs.Course.{Step, Absorb}
 use Rattle.node_core.specs.declared.node.Node.{Node}
 use Rattle.node_serve.specs.Spans.{Fed}
-use Rattle.backup_cli.specs.Commanded.{IfThrough, UnlessHarmed, joined_lines}
-use Rattle.backup_cli.specs.Lines.{forgot_line}
-use Rattle.backup_cli.specs.Says.{Utters, IsRefusal, NotOpened}
+use Rattle.backup_cli.specs.Commanded.{IfThrough, UnlessHarmed}
+use Rattle.said_lines.specs.Lines.{joined_lines}
+use Rattle.said_lines.specs.Lines.{forgot_line}
+use Rattle.said_lines.specs.Says.{Utters, IsRefusal, NotOpened}
 use Rattle.backup_cli.specs.Served.{ending_of, refused_of}
 use Rattle.backup_cli.specs.Forgotten.{forget_course, FailsToForget, Finds, Forgets, ForgetsOn, StopsForget}
-use Rattle.backup_cli.specs.declared.status.Status.{Status}
-use Rattle.backup_cli.specs.declared.status.Status.TheVariants.{Done, DiskFault, SayFault, NoSnapshot, Memory}
+use Rattle.said_lines.specs.declared.status.Status.{Status}
+use Rattle.said_lines.specs.declared.status.Status.TheVariants.{Done, DiskFault, SayFault, NoSnapshot, Memory}
 use Rattle.backup_cli.proofs.Commanding.{NoOther, long_says, ended, lines_behind, lines_left, from_before}
 use Rattle.backup_cli.proofs.Ends.{refused_since, quiet_since, unopened_command}
 use Rattle.backup_cli.proofs.Outcomes.{utters_as}

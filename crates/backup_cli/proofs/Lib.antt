@@ -1,8 +1,5 @@
-pub mod LineLemmas
 pub mod TicketTexts
 pub mod WordLemmas
-pub mod Utterances
-pub mod LinesSaid
 pub mod Commanding
 pub mod Ends
 pub mod Opened

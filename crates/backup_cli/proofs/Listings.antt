@@ -14,17 +14,18 @@ use Rattle.node_core.specs.declared.node.Node.{Node}
 use Rattle.node_core.specs.Stored.{Knows, Stored}
 use Rattle.node_serve.specs.Spans.{no_tally}
 use Rattle.node_serve.proofs.Runs.{fed_none, uncounted}
-use Rattle.backup_cli.specs.Commanded.{IfThrough, UnlessHarmed, joined_lines}
-use Rattle.backup_cli.specs.Says.{Utters, IsRefusal, SaysLines, NotOpened}
+use Rattle.backup_cli.specs.Commanded.{IfThrough, UnlessHarmed}
+use Rattle.said_lines.specs.Lines.{joined_lines}
+use Rattle.said_lines.specs.Says.{Utters, IsRefusal, SaysLines, NotOpened}
 use Rattle.backup_cli.specs.Served.{ending_of, refused_of}
 use Rattle.backup_cli.specs.Listed.{FailsToSay, Lists}
-use Rattle.backup_cli.specs.declared.saying.SayError.TheVariants as say_error
-use Rattle.backup_cli.specs.declared.status.Status.{Status}
-use Rattle.backup_cli.specs.declared.status.Status.TheVariants.{Done, DiskFault, SayFault, Memory}
+use Rattle.said_lines.specs.declared.saying.SayError.TheVariants as say_error
+use Rattle.said_lines.specs.declared.status.Status.{Status}
+use Rattle.said_lines.specs.declared.status.Status.TheVariants.{Done, DiskFault, SayFault, Memory}
 use Rattle.backup_cli.proofs.Commanding.{NoOther, long_says, ended, lines_behind, from_before}
 use Rattle.backup_cli.proofs.Ends.{refused_since, kept_since, images_since, unopened_command}
 use Rattle.backup_cli.proofs.Outcomes.{one_at, front_back, long_front, some_behind, some_undone, utters_as}
-use Rattle.backup_cli.proofs.Utterances.{utters_tells, utters_then}
+use Rattle.said_lines.proofs.Utterances.{utters_tells, utters_then}
 
 -- the node was not opened
 pub nothing_listed : (stands : List Entry → List ℕ → Type 0) (h : List Change) (lines : List (List ℕ)) (v0 v3 : View) (status : Status)

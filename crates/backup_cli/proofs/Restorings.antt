@@ -28,15 +28,16 @@ use Rattle.psb_station.specs.Calls.{Grows}
 use Rattle.psb_machine.specs.Commands.{peer_ids, says}
 use Rattle.node_serve.proofs.Runs.{hears_none, fed_none}
 use Rattle.node_serve.proofs.Tries.{grows_none}
-use Rattle.backup_cli.specs.Commanded.{Halted, IfThrough, UnlessHarmed, joined_lines}
-use Rattle.backup_cli.specs.Lines.{restored_line}
-use Rattle.backup_cli.specs.Says.{Utters, IsRefusal, NotOpened}
+use Rattle.backup_cli.specs.Commanded.{Halted, IfThrough, UnlessHarmed}
+use Rattle.said_lines.specs.Lines.{joined_lines}
+use Rattle.said_lines.specs.Lines.{restored_line}
+use Rattle.said_lines.specs.Says.{Utters, IsRefusal, NotOpened}
 use Rattle.backup_cli.specs.Served.{ending_of, refused_of}
 use Rattle.backup_cli.specs.RestoredTo.{status_of, kept_ticket, ticket_at, FallsShort, EndsSaying, AnyOutcome, Fares, RestoresTo, RestoresOn}
 use Rattle.backup_cli.specs.declared.words.Which.{Which}
 use Rattle.backup_cli.specs.declared.words.Which.TheVariants.{Number}
-use Rattle.backup_cli.specs.declared.status.Status.{Status}
-use Rattle.backup_cli.specs.declared.status.Status.TheVariants.{Done, DiskFault, LinkFault, SayFault, NoSnapshot, Memory}
+use Rattle.said_lines.specs.declared.status.Status.{Status}
+use Rattle.said_lines.specs.declared.status.Status.TheVariants.{Done, DiskFault, LinkFault, SayFault, NoSnapshot, Memory}
 use Rattle.backup_cli.proofs.Commanding.{NoOther, long_says, ended, lines_behind, lines_left, from_before}
 use Rattle.backup_cli.proofs.Ends.{refused_since, unopened_command}
 use Rattle.backup_cli.proofs.Outcomes.{hears_still, last_input, by_joined, utters_as}

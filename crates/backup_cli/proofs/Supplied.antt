@@ -28,8 +28,8 @@ use Rattle.snapshot_restore.specs.declared.fault.RestoreFault.{RestoreFault}
 use Rattle.snapshot_restore.specs.declared.fault.RestoreFault.TheVariants as restore_fault
 use Rattle.backup_cli.specs.RestoredTo.{status_of, kept_ticket, ticket_at, HearsThen, FindsNone, FallsShort, EndsSaying, Outcome, RestoresTo, IsSuppliedAt, IsSupplied, AnyOpens, HasBodies}
 use Rattle.backup_cli.specs.declared.words.Which.{Which}
-use Rattle.backup_cli.specs.declared.status.Status.{Status}
-use Rattle.backup_cli.specs.declared.status.Status.TheVariants.{Done, DiskFault, LinkFault, FolderFault, SayFault, NotEmpty, Memory}
+use Rattle.said_lines.specs.declared.status.Status.{Status}
+use Rattle.said_lines.specs.declared.status.Status.TheVariants.{Done, DiskFault, LinkFault, FolderFault, SayFault, NotEmpty, Memory}
 
 -- ---- the plain premise
 

@@ -10,7 +10,7 @@ use Rattle.psb_bytes.specs.declared.ids.Ticket.{Ticket}
 use Rattle.backup_cli.specs.Words.{IsTicketText, IsWhich}
 use Rattle.backup_cli.specs.declared.words.Which.{Which}
 use Rattle.backup_cli.specs.declared.words.Which.TheVariants.{Number, Of}
-use Rattle.backup_cli.proofs.LineLemmas.{few_digits}
+use Rattle.said_lines.proofs.LineLemmas.{few_digits}
 
 -- ---- the digits fix the bytes
 

@@ -28,11 +28,11 @@ use Rattle.snapshot_backup.specs.Kept.{own_bodies}
 use Rattle.snapshot_backup.specs.declared.fault.BackupFault.{BackupFault}
 use Rattle.snapshot_backup.specs.declared.fault.BackupFault.TheVariants as backup_fault
 use Rattle.backup_cli.specs.Commanded.{Commanded, IsMoment}
-use Rattle.backup_cli.specs.Lines.{snapshot_line}
-use Rattle.backup_cli.specs.Says.{IsRefusal}
+use Rattle.said_lines.specs.Lines.{snapshot_line}
+use Rattle.said_lines.specs.Says.{IsRefusal}
 use Rattle.backup_cli.specs.Served.{IsNode, ending_of, refused_of}
-use Rattle.backup_cli.specs.declared.status.Status.{Status}
-use Rattle.backup_cli.specs.declared.status.Status.TheVariants.{Done, DiskFault, FolderFault, SayFault, NotNode, TooLarge, Clash, Memory}
+use Rattle.said_lines.specs.declared.status.Status.{Status}
+use Rattle.said_lines.specs.declared.status.Status.TheVariants.{Done, DiskFault, FolderFault, SayFault, NotNode, TooLarge, Clash, Memory}
 
 -- how the program ends for a fault of the node, and for one of a backup
 abbrev pub status_of_node : Fault → Status

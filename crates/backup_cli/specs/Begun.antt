@@ -11,10 +11,10 @@ use Rattle.node_core.specs.Begun.{begun_with}
 use Rattle.node_history.specs.Stands.{ReopensTo}
 use Rattle.node_serve.specs.Sends.{ToldMore}
 use Rattle.backup_cli.specs.Files.{OnlyReads}
-use Rattle.backup_cli.specs.Lines.{node_line}
-use Rattle.backup_cli.specs.Says.{IsRefusal}
-use Rattle.backup_cli.specs.declared.status.Status.{Status}
-use Rattle.backup_cli.specs.declared.status.Status.TheVariants.{Done, DiskFault, FolderFault, SayFault, Already, BadSettings, Memory}
+use Rattle.said_lines.specs.Lines.{node_line}
+use Rattle.said_lines.specs.Says.{IsRefusal}
+use Rattle.said_lines.specs.declared.status.Status.{Status}
+use Rattle.said_lines.specs.declared.status.Status.TheVariants.{Done, DiskFault, FolderFault, SayFault, Already, BadSettings, Memory}
 
 -- the disk has no bytes, as far as it tells them
 abbrev pub IsEmpty : View → Type 0

@@ -1,5 +1,5 @@
 -- A command on a disk that holds a history: one record for the course of any command.
-use Rattle.std.specs.Prelude.{◌≡◌, ◌⊎◌, ℕ, ◌+◌, ◌≤◌, Bool, true, false, List, [], ◌++◌, length, flat_map, Option}
+use Rattle.std.specs.Prelude.{◌≡◌, ◌⊎◌, ℕ, ◌+◌, ◌≤◌, Bool, true, false, List, [], ◌++◌, length, Option}
 use Rattle.psb_station.specs.View.{View}
 use Rattle.psb_station.specs.Calls.{Grows}
 use Rattle.psb_station.specs.Span.{Shows, Leaves}
@@ -10,6 +10,7 @@ use Rattle.psb_machine.specs.Course.{Step, after_all, tellings, sent_in, said_in
 use Rattle.node_history.specs.Stands.{ReopensTo}
 use Rattle.node_serve.specs.Sends.{ToldMore, AreSent, LostFor}
 use Rattle.node_serve.specs.Spans.{IsPrefix, Tally, Counted}
+use Rattle.said_lines.specs.Lines.{joined_lines}
 
 -- How a command ended: all of its course was done; it stopped, and the node stands behind what was done
 -- (want of memory, a fault of the link, of a folder or of the output); or it stopped at a fault of the disk.
@@ -28,10 +29,6 @@ abbrev pub IfThrough : Ending → Type 0 → Type 0
 IfThrough Through P = P
 IfThrough Halted P = Unit {0}
 IfThrough Harmed P = Unit {0}
-
--- lines, one after another
-abbrev pub joined_lines : List (List ℕ) → List ℕ
-joined_lines lines = flat_map (λ line. line) lines
 
 -- how much was told in so much of a course, and a refusal that took so many sayings
 abbrev pub told_in : List Change → List Step → List Step → ℕ → ℕ

@@ -19,8 +19,8 @@ use Rattle.backup_cli.specs.Begun.{HasSettings}
 use Rattle.backup_cli.specs.RestoredTo.{IsSupplied, ticket_at}
 use Rattle.backup_cli.specs.Served.{IsNode}
 use Rattle.backup_cli.specs.Words.{IsCommand}
-use Rattle.backup_cli.specs.declared.status.Status.{Status}
-use Rattle.backup_cli.specs.declared.status.Status.TheVariants.{Done, Memory}
+use Rattle.said_lines.specs.declared.status.Status.{Status}
+use Rattle.said_lines.specs.declared.status.Status.TheVariants.{Done, Memory}
 use Rattle.backup_cli.specs.declared.words.Command.{Command}
 use Rattle.backup_cli.specs.declared.words.Command.TheVariants.{Serve, Ledger, Init, Snapshots, Forget, Backup, Restore}
 use Rattle.backup_cli.specs.declared.words.Which.{Which}

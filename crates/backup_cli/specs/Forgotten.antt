@@ -9,11 +9,11 @@ use Rattle.psb_machine.specs.Machine.{Forget, has_snapshot}
 use Rattle.psb_machine.specs.Course.{Step, Absorb, Tell, Say}
 use Rattle.psb_machine.specs.Commands.{says}
 use Rattle.backup_cli.specs.Commanded.{Commanded, IsMoment}
-use Rattle.backup_cli.specs.Lines.{forgot_line}
-use Rattle.backup_cli.specs.Says.{IsRefusal}
+use Rattle.said_lines.specs.Lines.{forgot_line}
+use Rattle.said_lines.specs.Says.{IsRefusal}
 use Rattle.backup_cli.specs.Served.{ending_of, refused_of}
-use Rattle.backup_cli.specs.declared.status.Status.{Status}
-use Rattle.backup_cli.specs.declared.status.Status.TheVariants.{Done, DiskFault, SayFault, NoSnapshot, Memory}
+use Rattle.said_lines.specs.declared.status.Status.{Status}
+use Rattle.said_lines.specs.declared.status.Status.TheVariants.{Done, DiskFault, SayFault, NoSnapshot, Memory}
 
 -- the number is absorbed, and then its line is said
 abbrev pub forget_course : ℕ → List Step

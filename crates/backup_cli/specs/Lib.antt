@@ -1,8 +1,5 @@
 pub mod Words
-pub mod Lines
-pub mod Status
 pub mod Commanded
-pub mod Says
 pub mod Served
 pub mod Listed
 pub mod Forgotten

@@ -8,12 +8,12 @@ use Rattle.psb_model.specs.declared.change.Change.{Change}
 use Rattle.psb_machine.specs.Course.{Step, Tell, Say}
 use Rattle.psb_machine.specs.Commands.{says}
 use Rattle.backup_cli.specs.Commanded.{Commanded}
-use Rattle.backup_cli.specs.Says.{IsRefusal, peer_lines, snapshot_lines}
+use Rattle.said_lines.specs.Says.{IsRefusal, ledger_lines, snapshot_lines}
 use Rattle.backup_cli.specs.Served.{ending_of, refused_of}
 use Rattle.backup_cli.specs.declared.listing.Listing.{Listing}
 use Rattle.backup_cli.specs.declared.listing.Listing.TheVariants.{Peers, Snapshots}
-use Rattle.backup_cli.specs.declared.status.Status.{Status}
-use Rattle.backup_cli.specs.declared.status.Status.TheVariants.{Done, DiskFault, SayFault, Memory}
+use Rattle.said_lines.specs.declared.status.Status.{Status}
+use Rattle.said_lines.specs.declared.status.Status.TheVariants.{Done, DiskFault, SayFault, Memory}
 
 -- the step that failed, if the node was opened: the saying of a line
 abbrev pub FailsToSay : Status → List Step → Type 0
@@ -24,7 +24,7 @@ FailsToSay _ failed = ⊥
 
 -- the lines of a listing at a state
 abbrev pub listed_lines : Listing → Settings → State → List (List ℕ)
-listed_lines Peers settings s = peer_lines settings s
+listed_lines Peers settings s = ledger_lines settings s
 listed_lines Snapshots settings s = snapshot_lines s
 
 -- A command that says lines, on a disk that holds a history, up to a status. Its course is these lines.

@@ -34,11 +34,11 @@ use Rattle.snapshot_restore.specs.declared.fault.RestoreFault.TheVariants as res
 use Rattle.snapshot_restore.specs.declared.restoring.Restored.{Restored}
 use Rattle.backup_cli.specs.BackedUp.{Made}
 use Rattle.backup_cli.specs.Commanded.{Commanded, IsMoment}
-use Rattle.backup_cli.specs.Lines.{restored_line}
-use Rattle.backup_cli.specs.Says.{IsRefusal}
+use Rattle.said_lines.specs.Lines.{restored_line}
+use Rattle.said_lines.specs.Says.{IsRefusal}
 use Rattle.backup_cli.specs.Served.{ending_of, refused_of, FailsInLast}
-use Rattle.backup_cli.specs.declared.status.Status.{Status}
-use Rattle.backup_cli.specs.declared.status.Status.TheVariants.{Done, DiskFault, LinkFault, FolderFault, SayFault, NoSnapshot, Missing, Altered, NotEmpty, BadSkeleton, Memory}
+use Rattle.said_lines.specs.declared.status.Status.{Status}
+use Rattle.said_lines.specs.declared.status.Status.TheVariants.{Done, DiskFault, LinkFault, FolderFault, SayFault, NoSnapshot, Missing, Altered, NotEmpty, BadSkeleton, Memory}
 use Rattle.backup_cli.specs.declared.words.Which.{Which}
 use Rattle.backup_cli.specs.declared.words.Which.TheVariants.{Number, Of}
 

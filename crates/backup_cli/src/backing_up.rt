@@ -14,16 +14,15 @@ ghost use Rattle.node_core.specs.Stored.{Knows, Stored};
 ghost use Rattle.snapshot_backup.specs.Backed.{ListsThenReads};
 ghost use Rattle.node_serve.specs.Spans.{IsUp};
 ghost use Rattle.backup_cli.specs.BackedUp.{BacksUpTo, BacksUpOn, ComesToEnd, status_of_node, status_of};
-ghost use Rattle.backup_cli.specs.Says.{Refuses};
-ghost use Rattle.backup_cli.specs.Status.{IsElsewhere};
+ghost use Rattle.said_lines.specs.Says.{Refuses};
+ghost use Rattle.said_lines.specs.Status.{IsElsewhere};
 ghost use Rattle.backup_cli.specs.Served.{IsNode};
 
-use crate::Status;
 use crate::opening::open_or_refuse;
-use crate::saying::{SayError, refuse, say_snapshot};
 use node_core::{Fault, Node};
 use node_journal::Log;
 use psb_station::{Folder, Station};
+use said_lines::{SayError, Status, refuse, say_snapshot};
 use snapshot_backup::{BackupFault, backup};
 use std::alloc::Global;
 

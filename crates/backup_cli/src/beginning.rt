@@ -4,14 +4,13 @@ ghost use Rattle.psb_station.specs.Calls.{Rose};
 ghost use Rattle.psb_station.specs.Span.{Keeps, DiskWorks, Tells_bytes};
 ghost use Rattle.backup_cli.specs.Files.{OnlyReads};
 ghost use Rattle.backup_cli.specs.Begun.{IsEmpty, HasBegun, Begins, Stops};
-ghost use Rattle.backup_cli.specs.Status.{IsElsewhere};
+ghost use Rattle.said_lines.specs.Status.{IsElsewhere};
 
-use crate::Status;
 use crate::files::{ReadError, read_file};
-use crate::saying::{SayError, refuse, say_node};
 use node_core::{Fault, Node};
 use node_journal::Log;
 use psb_station::{Folder, Station};
+use said_lines::{SayError, Status, refuse, say_node};
 use std::alloc::Global;
 
 /// The most bytes that are read of a settings file: one more than a settings text may have.

@@ -11,18 +11,17 @@ ghost use Rattle.psb_machine.specs.Machine.{Situation, Forget, fresh, has_snapsh
 ghost use Rattle.node_history.specs.Stands.{HoldsHistory};
 ghost use Rattle.node_core.specs.Stored.{Knows, Stored, IsCounted};
 ghost use Rattle.node_serve.specs.Spans.{IsReady, Fed};
-ghost use Rattle.backup_cli.specs.Says.{Refuses};
-ghost use Rattle.backup_cli.specs.Status.{IsElsewhere};
+ghost use Rattle.said_lines.specs.Says.{Refuses};
+ghost use Rattle.said_lines.specs.Status.{IsElsewhere};
 ghost use Rattle.backup_cli.specs.Served.{IsNode};
 ghost use Rattle.backup_cli.specs.Forgotten.{Forgets, ForgetsOn, StopsForget};
 
-use crate::Status;
 use crate::opening::open_or_refuse;
-use crate::saying::{refuse, say_forgot};
 use node_core::{Fault, Input, Node};
 use node_journal::Log;
 use node_serve::feed_own;
 use psb_station::Station;
+use said_lines::{Status, refuse, say_forgot};
 use std::alloc::Global;
 
 /// Gives a snapshot of a node up.

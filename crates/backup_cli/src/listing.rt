@@ -8,23 +8,22 @@ ghost use Rattle.psb_model.specs.History.{state};
 ghost use Rattle.psb_model.specs.Needed.{IsValid};
 ghost use Rattle.psb_model.specs.declared.change.Change.{Change};
 ghost use Rattle.node_history.specs.Stands.{HoldsHistory};
-ghost use Rattle.backup_cli.specs.Says.{OnlySays, SaysLines, Refuses};
-ghost use Rattle.backup_cli.specs.Status.{IsElsewhere};
+ghost use Rattle.said_lines.specs.Says.{OnlySays, SaysLines, Refuses};
+ghost use Rattle.said_lines.specs.Status.{IsElsewhere};
 ghost use Rattle.backup_cli.specs.Served.{IsNode};
 ghost use Rattle.backup_cli.specs.Listed.{Lists, listed_lines};
 
-use crate::Status;
 use crate::opening::open_or_refuse;
-use crate::saying::{SayError, refuse, say_peers, say_snapshots};
 use node_journal::Log;
 use psb_ledger::Ledger;
 use psb_station::Station;
+use said_lines::{SayError, Status, refuse, say_ledger, say_snapshots};
 use std::alloc::Global;
 
 /// What is told of a node.
 #[derive(Clone, Copy, Debug, PartialEq, Eq)]
 pub(crate) enum Listing {
-    /// Its peers, in the order of the settings.
+    /// Its peers, in the order of the settings, each with the rows of its debt.
     Peers,
     /// Its kept snapshots, by number.
     Snapshots,
@@ -44,7 +43,7 @@ fn say_listing<S: Station>(
     ensures only_says { OnlySays (S.view station.old) (S.view station.new) }
 {
     match listing {
-        Listing::Peers => say_peers(alloc, station, ledger),
+        Listing::Peers => say_ledger(alloc, station, ledger),
         Listing::Snapshots => say_snapshots(alloc, station, ledger.kept()),
     }
 }

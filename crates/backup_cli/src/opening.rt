@@ -7,13 +7,12 @@ ghost use Rattle.psb_model.specs.declared.change.Change.{Change};
 ghost use Rattle.psb_machine.specs.Machine.{fresh};
 ghost use Rattle.node_history.specs.Stands.{HoldsHistory};
 ghost use Rattle.node_core.specs.Stored.{Knows, Stored, IsCounted};
-ghost use Rattle.backup_cli.specs.Says.{IsUnopened, NotOpened};
+ghost use Rattle.said_lines.specs.Says.{IsUnopened, NotOpened};
 
-use crate::Status;
-use crate::saying::refuse;
 use node_core::{Fault, Node};
 use node_journal::Log;
 use psb_station::Station;
+use said_lines::{Status, refuse};
 use std::alloc::Global;
 
 /// Opens the node that the station's disk holds.

@@ -15,13 +15,11 @@ ghost use Rattle.node_core.specs.Stored.{Knows, Stored};
 ghost use Rattle.node_serve.specs.Spans.{IsUp};
 ghost use Rattle.snapshots.specs.Writing.{IsNotEmpty};
 ghost use Rattle.backup_cli.specs.RestoredTo.{BackupsComeBack, Fares, HasBodies, IsSupplied, RestoresOn, RestoresTo, Stops, kept_ticket, status_of, ticket_at};
-ghost use Rattle.backup_cli.specs.Says.{Refuses};
+ghost use Rattle.said_lines.specs.Says.{Refuses};
 ghost use Rattle.backup_cli.specs.Served.{IsNode};
 ghost use Rattle.backup_cli.specs.declared.words.Which.TheVariants as named;
 
-use crate::Status;
 use crate::opening::open_or_refuse;
-use crate::saying::{SayError, refuse, say_restored};
 use crate::words::Which;
 use node_core::Node;
 use node_journal::Log;
@@ -29,6 +27,7 @@ use node_serve::join_all;
 use psb_bytes::Ticket;
 use psb_model::Snapshot;
 use psb_station::{Folder, Station};
+use said_lines::{SayError, Status, refuse, say_restored};
 use snapshot_restore::{RestoreFault, Restored, restore};
 use std::alloc::Global;
 

@@ -71,9 +71,8 @@ impl ClaimSource {
         Ok(first)
     }
 
-    /// The bytes of a claim that was issued. Takes no memory.
+    /// The bytes of a claim, whether or not its number was issued. Takes no memory.
     pub fn claim(&self, i: u32) -> [u8; 512]
-        requires { i < self.now.issued }
         ensures { result ≡ claim self.now.seed i }
     {
         self.walk.claim(i)

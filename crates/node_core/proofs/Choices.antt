@@ -29,13 +29,13 @@ use Rattle.psb_machine.specs.Volatile.{Volatile, PeerState as MachineState, of_p
 use Rattle.psb_machine.specs.Machine.{Situation, Rule, sends, then_by, choice_at, choice_of, by_choice, by_offer, offer_at, on_tick, sample_of as machine_sample}
 use Rattle.psb_machine.proofs.Choosing.{choice_cases, choice_may, found_asked, found_distinct, found_few, open_is}
 use Rattle.psb_machine.proofs.Peers.{settings_read}
-use Rattle.node_core.specs.declared.peer_state.PeerState.{PeerState}
+use Rattle.peer_states.specs.declared.peer_state.PeerState.{PeerState}
 use Rattle.node_core.specs.declared.node.Node.{Node}
 use Rattle.node_letters.specs.declared.letter.Letter.{Letter}
 use Rattle.node_letters.specs.Letters.{letters_of}
 use Rattle.node_letters.specs.Peers.{PeersView, peers_of}
 use Rattle.node_core.specs.declared.reaction.Reaction.{Reaction}
-use Rattle.node_core.specs.PeerStates.{state_of, sample_of, KnowsStates}
+use Rattle.peer_states.specs.PeerStates.{state_of, sample_of, KnowsStates}
 use Rattle.node_core.specs.Ticking.{IsRule, Follows, FollowsSo, OffersDeal, OffersDealSo}
 use Rattle.node_core.specs.Making.{MayMake}
 use Rattle.node_core.specs.Reacting.{MayCome, IsSame}

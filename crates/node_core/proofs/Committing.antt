@@ -27,10 +27,10 @@ use Rattle.psb_machine.proofs.Questions.{question_stays}
 use Rattle.psb_model.proofs.Steady.{steady_state}
 use Rattle.node_letters.specs.Peers.{PeersView}
 use Rattle.node_history.specs.Names.{KnowsNames}
-use Rattle.node_core.specs.PeerStates.{KnowsStates, states_noted, states_changed}
+use Rattle.peer_states.specs.PeerStates.{KnowsStates, states_noted, states_changed}
 use Rattle.node_core.specs.Ticking.{IsWorkedOut}
-use Rattle.node_core.proofs.PeerTables.{states_grown, states_then}
-use Rattle.node_core.specs.declared.peer_state.PeerState.{PeerState}
+use Rattle.peer_states.proofs.PeerTables.{states_grown, states_then}
+use Rattle.peer_states.specs.declared.peer_state.PeerState.{PeerState}
 use Rattle.node_core.specs.declared.node.Node.{Node}
 use Rattle.chunk_store.specs.declared.store.Store.{Store}
 use Rattle.chunk_store.specs.Store.{record_of, is_owner}
@@ -41,6 +41,8 @@ use Rattle.node_core.specs.declared.reaction.Reaction.{Reaction}
 use Rattle.node_core.specs.Reacting.{IsStep, Reacts, SameOwner, IsSame, IsNoted, numbered}
 use Rattle.node_history.specs.Stands.{HoldsHistory, ReopensTo}
 use Rattle.node_core.specs.Stored.{Knows, KnowsSettings, IsKnown, Stored, IsCounted}
+use Rattle.slot_places.specs.declared.tables.SlotTables.{SlotTables}
+use Rattle.slot_places.specs.Slots.{slot_record, KnowsSlots}
 use Rattle.node_history.proofs.Entered.{names_grown, names_same}
 use Rattle.node_history.proofs.Less.{less_all, less_append, valid_less}
 use Rattle.node_history.proofs.Appending.{pushed, leaves_histories}
@@ -92,9 +94,9 @@ question_stepped old n c q k may kept =
 
 -- a node that made a change is where the machine is
 pub step_knows : {L : Type 0} (old new : Node L) (n : Situation) (m : MachineReaction) (c : Change) (mid : Store) (size : ℕ) → MayMake old.ledger.state c → Knows old n → IsStep n m c
-    → new.ledger.state ≡ after old.ledger.state c → SameNames old.names mid → Enters old.ledger.state mid new.names c size → old.ledger.state.changes ≡ size → SameOwner old new → new.ledger.state.issued ≤ new.claims.issued
+    → new.ledger.state ≡ after old.ledger.state c → SameNames old.names mid → Enters old.ledger.state mid new.names c size → old.ledger.state.changes ≡ size → SameOwner old new → new.ledger.state.issued ≤ new.claims.issued → KnowsSlots new.slots (n.history ++ c ∷ [])
     → new.states.items ≡ states_changed old.peers.own.id c (states_noted m.note old.states.items) → ((new.question ≡ old.question) × (keeps_question c ≡ true)) ⊎ (new.question ≡ None) → Knows new (settled n m)
-step_knows old new n m c mid size may k step grown same enters counted rest issued states question =
+step_knows old new n m c mid size may k step grown same enters counted rest issued slots states question =
     let h = n.history in
     let here : old.ledger.state.changes ≡ length h = ap (λ (s : State). s.changes) k.ledger ∙ changes_counted h in
     let after_is : after (state h) c ≡ state (h ++ c ∷ []) = sym (state_snoc h c) in
@@ -110,6 +112,7 @@ step_knows old new n m c mid size may k step grown same enters counted rest issu
       ledger = grown ∙ ap (λ (s : State). after s c) k.ledger ∙ after_is;
       settings = subst (λ (s : State). KnowsSettings new s) after_is settings;
       names = names_grown mid new.names h c k.valid.lawful allowed_here (names_same old.names mid h same k.names) (subst (λ (s : State). Enters s mid new.names c (length h)) k.ledger (subst (λ (j : ℕ). Enters old.ledger.state mid new.names c j) (sym counted ∙ here) enters));
+      slots = slots;
       issued = omega (arith, issued, ap (λ (s : State). s.issued) grown, ap (λ (s : State). (after s c).issued) k.ledger, ap (λ (s : State). s.issued) after_is);
       states = states_stepped old new n m c k step.grown rest.peers states;
       question = subst (IsKnown new.question) after_is (question_stepped old n c new.question k allowed_here question);
@@ -121,9 +124,13 @@ worked_known : (o : Option Question) (s : State) → o ≡ question_of s → IsK
 worked_known None s is = tt
 worked_known (Some q) s is = sym is
 
--- a node whose ledger, settings, names and what it keeps of its peers stay knows what it knew
-pub knows_still : {L : Type 0} (old new : Node L) (n : Situation) → new.ledger.state ≡ old.ledger.state → SameNames old.names new.names → SameOwner old new → new.states ≡ old.states → (IsKnown old.question (state n.history) → IsKnown new.question (state n.history)) → Knows old n → Knows new n
-knows_still old new n same names rest states question k = record {
+-- each slot has the record that it had
+abbrev pub SameSlots : SlotTables → SlotTables → Type 0
+SameSlots old new = (p i : ℕ) → slot_record new p i ≡ slot_record old p i
+
+-- a node whose ledger, settings, names, slots and what it keeps of its peers stay knows what it knew
+pub knows_still : {L : Type 0} (old new : Node L) (n : Situation) → new.ledger.state ≡ old.ledger.state → SameNames old.names new.names → SameSlots old.slots new.slots → SameOwner old new → new.states ≡ old.states → (IsKnown old.question (state n.history) → IsKnown new.question (state n.history)) → Knows old n → Knows new n
+knows_still old new n same names slots rest states question k = record {
   valid = k.valid;
   ledger = same ∙ k.ledger;
   settings = record {
@@ -133,6 +140,7 @@ knows_still old new n same names rest states question k = record {
     seed = rest.seed ∙ k.settings.seed;
   };
   names = names_same old.names new.names n.history names k.names;
+  slots = λ p i direct. slots p i ∙ k.slots p i direct;
   issued = omega (arith, k.issued, rest.issued);
   states = subst (λ (v : PeersView). KnowsStates new.states.items v.keys n.volatile) (sym rest.peers) (subst (λ l. KnowsStates l.items old.peers.keys n.volatile) (sym states) k.states);
   question = question k.question;
@@ -141,7 +149,7 @@ knows_still old new n same names rest states question k = record {
 -- a node that only looked, and made claims, knows what it knew
 pub same_knows : {L : Type 0} (old new : Node L) (n : Situation) → IsSame old new → Knows old n → Knows new n
 same_knows old new n same k =
-    knows_still old new n (ap (λ ledger. ledger.state) same.ledger) (all_same old.names new.names same.names) same.rest same.states
+    knows_still old new n (ap (λ ledger. ledger.state) same.ledger) (all_same old.names new.names same.names) (λ p i. ap (λ (t : SlotTables). slot_record t p i) same.slots) same.rest same.states
     (λ was. ⊎_elim (λ is. subst (λ (o : Option Question). IsKnown o (state n.history)) (sym is) was)
     (λ worked. subst (IsKnown new.question) (ap (λ ledger. ledger.state) same.ledger ∙ k.ledger) (worked_known new.question new.ledger.state worked)) same.question) k
   where
@@ -154,6 +162,7 @@ same_then a b c x y = record {
   log = y.log ∙ x.log;
   ledger = y.ledger ∙ x.ledger;
   names = y.names ∙ x.names;
+  slots = y.slots ∙ x.slots;
   states = y.states ∙ x.states;
   question = ⊎_elim (λ is. ⊎_elim (λ was. inl (is ∙ was)) (λ worked. inr (is ∙ worked ∙ ap (λ ledger. question_of ledger.state) (sym y.ledger))) x.question) (λ worked. inr worked) y.question;
   rest = record { peers = y.rest.peers ∙ x.rest.peers; seed = y.rest.seed ∙ x.rest.seed; issued = omega (arith, x.rest.issued, y.rest.issued) };
@@ -176,6 +185,7 @@ noted_alone old new n note t k = record {
     seed = ap (λ (c : Source). c.seed) t.claims ∙ k.settings.seed;
   };
   names = subst (λ (s : Store). KnowsNames s n.history) (sym t.names) k.names;
+  slots = subst (λ (s : SlotTables). KnowsSlots s n.history) (sym t.slots) k.slots;
   issued = omega (arith, k.issued, ap (λ (c : Source). c.issued) t.claims);
   states =
       subst (λ (v : PeersView). KnowsStates new.states.items v.keys (noted note n.volatile)) (sym t.peers)
@@ -196,6 +206,7 @@ pub noted_counted : {L : Type 0} (size : L → ℕ) (keeps : L → ℕ → Bool)
 noted_counted size keeps old new note t c = record {
   changes = ap (λ ledger. ledger.state.changes) t.ledger ∙ c.changes ∙ ap size (sym t.log);
   bodies = λ q k here. subst (λ l. (k < size l) × (keeps l k ≡ true)) (sym t.log) (c.bodies q k (sym (ap (λ (s : Store). record_of s q) t.names) ∙ here));
+  slots = λ p i k here. subst (λ l. k < size l) (sym t.log) (c.slots p i k (sym (ap (λ (s : SlotTables). slot_record s p i) t.slots) ∙ here));
 }
 
 pub noted_stored : {L : Type 0} (holds : L → List Entry → List ℕ → Type 0) (old new : Node L) (note : Note) (h : List Change) (v : View) → IsNoted note old new → Stored holds old h v → Stored holds new h v
@@ -228,15 +239,17 @@ pub same_counted : {L : Type 0} (size : L → ℕ) (keeps : L → ℕ → Bool) 
 same_counted size keeps old new same c = record {
   changes = ap (λ ledger. ledger.state.changes) same.ledger ∙ c.changes ∙ ap size (sym same.log);
   bodies = λ q k here. subst (λ l. (k < size l) × (keeps l k ≡ true)) (sym same.log) (c.bodies q k (sym (ap (λ (s : Store). record_of s q) same.names) ∙ here));
+  slots = λ p i k here. subst (λ l. k < size l) (sym same.log) (c.slots p i k (sym (ap (λ (s : SlotTables). slot_record s p i) same.slots) ∙ here));
 }
 
 -- and where the log has as many records, and keeps the same bodies
-pub counted_still : {L : Type 0} (size : L → ℕ) (keeps : L → ℕ → Bool) (old new : Node L) → new.ledger.state ≡ old.ledger.state → SameNames old.names new.names → size new.log ≡ size old.log → ((i : ℕ) → keeps new.log i ≡ keeps old.log i) → IsCounted size keeps old → IsCounted size keeps new
-counted_still size keeps old new same names sized kept c = record {
+pub counted_still : {L : Type 0} (size : L → ℕ) (keeps : L → ℕ → Bool) (old new : Node L) → new.ledger.state ≡ old.ledger.state → SameNames old.names new.names → SameSlots old.slots new.slots → size new.log ≡ size old.log → ((i : ℕ) → keeps new.log i ≡ keeps old.log i) → IsCounted size keeps old → IsCounted size keeps new
+counted_still size keeps old new same names slots sized kept c = record {
   changes = ap (λ (s : State). s.changes) same ∙ c.changes ∙ sym sized;
   bodies = λ q k here.
       let there = c.bodies q k (sym (names.records q) ∙ here) in
       (subst (λ (i : ℕ). k < i) (sym sized) there.0, kept k ∙ there.1);
+  slots = λ p i k here. subst (λ (j : ℕ). k < j) (sym sized) (c.slots p i k (sym (slots p i) ∙ here));
 }
 
 -- ---- what the disk holds after it

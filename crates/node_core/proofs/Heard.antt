@@ -18,9 +18,9 @@ use Rattle.node_letters.specs.Peers.{PeersView}
 use Rattle.node_letters.specs.declared.message.Message.{Message as MessageHere}
 use Rattle.node_letters.specs.declared.message.Sender.{Sender}
 use Rattle.node_core.specs.declared.node.Node.{Node}
-use Rattle.node_core.specs.declared.peer_state.Note.TheVariants.{Nothing}
+use Rattle.peer_states.specs.declared.peer_state.Note.TheVariants.{Nothing}
 use Rattle.node_core.specs.declared.reaction.Reaction.{Reaction}
-use Rattle.node_core.specs.PeerStates.{note_in}
+use Rattle.peer_states.specs.PeerStates.{note_in}
 use Rattle.node_core.specs.Hearing.{Heard, Hears, HearsSo, MakesNo}
 use Rattle.node_core.specs.Reacting.{Reacts, ReactsSo}
 use Rattle.node_core.specs.Stored.{Knows}

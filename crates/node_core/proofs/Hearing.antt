@@ -57,18 +57,19 @@ use Rattle.node_history.specs.Less.{IsLess}
 use Rattle.node_history.specs.Names.{KnowsNames}
 use Rattle.node_history.proofs.Less.{state_less}
 use Rattle.node_core.specs.declared.node.Node.{Node}
-use Rattle.node_core.specs.declared.peer_state.Note.TheVariants as note
+use Rattle.peer_states.specs.declared.peer_state.Note.TheVariants as note
 use Rattle.node_core.specs.declared.reaction.Reaction.{Reaction}
-use Rattle.node_core.specs.Again.{IsAnswerOf}
-use Rattle.node_core.specs.Compared.{HasNone}
+use Rattle.node_facts.specs.Again.{IsAnswerOf}
+use Rattle.node_facts.specs.Compared.{HasNone}
 use Rattle.node_core.specs.Hearing.{Heard, Hears, IsLike, HearsSo, MakesNo, Makes, IsToldAgain, IsGiven, IsPlain, IsAnswered}
-use Rattle.node_core.specs.Making.{MayMake, CanMake, CanTell, IsNext, AreFacts, refused_by, why_refused, made_of, made_in}
-use Rattle.node_core.specs.PeerStates.{note_in}
+use Rattle.node_facts.specs.Refused.{AreFacts, refused_by, why_refused}
+use Rattle.node_core.specs.Making.{MayMake, CanMake, CanTell, IsNext, made_of, made_in}
+use Rattle.peer_states.specs.PeerStates.{note_in}
 use Rattle.node_core.specs.Reacting.{Reacts, MayCome}
 use Rattle.node_core.specs.Stored.{Knows, Stored}
 use Rattle.node_core.specs.Unread.{IsUnreadMessage}
-use Rattle.node_core.proofs.Again.{answer_is}
-use Rattle.node_core.proofs.Compared.{meets_less}
+use Rattle.node_facts.proofs.Again.{answer_is}
+use Rattle.node_facts.proofs.Compared.{meets_less}
 use Rattle.node_core.proofs.Dealt.{IsRecordable, can_judge, fits_short, number_fits, slots_long}
 use Rattle.node_core.proofs.Heard.{none_spelled, keyed_in, peer_of}
 
@@ -94,7 +95,7 @@ nothing_reacts r n m is change noted dropped out =
 -- ---- letters
 
 -- one letter to a peer with this key goes out so
-one_spelled : {L : Type 0} (node : Node L) (n : Situation) (p number : ℕ) (key : List ℕ) (f : Frame) → Knows node n → key_in node.peers.keys p ≡ Some key
+pub one_spelled : {L : Type 0} (node : Node L) (n : Situation) (p number : ℕ) (key : List ℕ) (f : Frame) → Knows node n → key_in node.peers.keys p ≡ Some key
     → (p, datagram key node.peers.own.id p number f) ∷ [] ≡ all_spelled (state n.history).settings (record { to = p; number = number; frame = f } ∷ [])
 one_spelled node n p number key f k keyed =
     let st = k.settings.settings in

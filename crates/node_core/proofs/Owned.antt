@@ -38,10 +38,10 @@ use Rattle.chunk_store.specs.declared.error.StoreError.TheVariants.{Already, Cla
 use Rattle.node_core.specs.declared.fault.Fault.{Fault}
 use Rattle.node_core.specs.declared.fault.Fault.TheVariants as fault
 use Rattle.node_core.specs.declared.node.Node.{Node}
-use Rattle.node_core.specs.declared.peer_state.Note.TheVariants as note
+use Rattle.peer_states.specs.declared.peer_state.Note.TheVariants as note
 use Rattle.node_core.specs.declared.reaction.Reaction.{Reaction}
 use Rattle.node_letters.specs.Letters.{letters_of}
-use Rattle.node_core.specs.PeerStates.{note_in}
+use Rattle.peer_states.specs.PeerStates.{note_in}
 use Rattle.node_history.specs.Less.{IsLess}
 use Rattle.node_core.specs.Making.{MayMake}
 use Rattle.node_history.specs.Names.{KnowsNames}
@@ -50,10 +50,10 @@ use Rattle.node_core.specs.Refusing.{Compared, when_taken}
 use Rattle.node_history.specs.Stands.{AreDecoded}
 use Rattle.node_core.specs.Stored.{Knows, Stored}
 use Rattle.node_history.proofs.Brought.{held_body}
-use Rattle.node_core.proofs.Compared.{MeetsBy, look_exact}
+use Rattle.node_facts.proofs.Compared.{MeetsBy, look_exact}
 use Rattle.node_history.proofs.Less.{state_less, names_less, last_bytes_less}
 use Rattle.node_history.proofs.Named.{named_there}
-use Rattle.node_core.proofs.Compared.{meets_less}
+use Rattle.node_facts.proofs.Compared.{meets_less}
 use Rattle.node_core.proofs.Dealt.{body_short}
 use Rattle.node_core.proofs.Heard.{none_spelled}
 

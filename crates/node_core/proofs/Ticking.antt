@@ -33,11 +33,11 @@ use Rattle.node_letters.specs.Letters.{letters_of}
 use Rattle.node_letters.specs.Peers.{PeersView}
 use Rattle.node_core.specs.declared.node.Node.{Node}
 use Rattle.node_core.specs.declared.offering.Offer.{Offer}
-use Rattle.node_core.specs.declared.peer_state.PeerState.{PeerState}
-use Rattle.node_core.specs.declared.peer_state.Note.TheVariants as note
+use Rattle.peer_states.specs.declared.peer_state.PeerState.{PeerState}
+use Rattle.peer_states.specs.declared.peer_state.Note.TheVariants as note
 use Rattle.node_core.specs.declared.reaction.Reaction.{Reaction}
 use Rattle.node_core.specs.Making.{MayMake}
-use Rattle.node_core.specs.PeerStates.{state_of, kept, note_in}
+use Rattle.peer_states.specs.PeerStates.{state_of, kept, note_in}
 use Rattle.node_core.specs.Reacting.{Reacts, ReactsSo, MayCome}
 use Rattle.node_core.specs.Stored.{Knows}
 use Rattle.node_core.specs.Ticking.{offer_in, IsBare, IsRule, Follows, FollowsSo, OffersDeal, OffersDealSo}

@@ -1,11 +1,12 @@
 -- What a node makes of a message of a peer.
-use Rattle.std.specs.Prelude.{◌≡◌, ℕ, true, false, ◌==◌, List, [], ◌∷◌, length, ◌≤◌, Some, None, slice_get, is_some}
+use Rattle.std.specs.Prelude.{◌≡◌, ℕ, true, false, ◌==◌, List, [], ◌∷◌, length, ◌≤◌, Option, Some, None, slice_get, is_some}
 use Rattle.psb_settings.specs.declared.settings.Settings.{Settings}
 use Rattle.psb_model.specs.State.{row}
 use Rattle.psb_model.specs.History.{state}
 use Rattle.psb_model.specs.Needed.{last_brought}
 use Rattle.psb_model.specs.declared.change.Change.{Change}
 use Rattle.wire_codec.specs.Frames.{key_in, datagram}
+use Rattle.wire_codec.specs.declared.frame.Frame.{Frame}
 use Rattle.wire_codec.specs.declared.frame.Frame.TheVariants.{Here}
 use Rattle.psb_machine.specs.Messages.{Sender as MachineSender, Message}
 use Rattle.psb_machine.specs.Judging.{MessageFits}
@@ -17,7 +18,7 @@ use Rattle.node_letters.specs.Messages.{sender_in}
 use Rattle.node_letters.specs.declared.message.Sender.{Sender}
 use Rattle.node_core.specs.Reacting.{Reacts}
 use Rattle.node_core.specs.declared.node.Node.{Node}
-use Rattle.node_core.specs.declared.peer_state.Note.TheVariants.{Nothing}
+use Rattle.peer_states.specs.declared.peer_state.Note.TheVariants.{Nothing}
 use Rattle.node_core.specs.declared.reaction.Reaction.{Reaction}
 
 -- the sender shares its key with the node, and the parts of its message are within their bounds
@@ -66,6 +67,11 @@ abbrev pub IsGiven : {L : Type 0} → Node L → Situation → Sender → List �
 IsGiven node n from name letters =
     has_chunk (state n.history) from.peer name ≡ true
     → (bytes : List ℕ) × (last_brought name n.history ≡ Some bytes) × (letters ≡ (from.peer, datagram from.key node.peers.own.id from.peer from.number (Here name bytes)) ∷ [])
+
+-- the letters are the one that answers the sender with this frame, if there is one
+abbrev pub TellsBack : {L : Type 0} → List (ℕ × List ℕ) → Node L → Sender → Option Frame → Type 0
+TellsBack letters node from None = letters ≡ []
+TellsBack letters node from (Some f) = letters ≡ (from.peer, datagram from.key node.peers.own.id from.peer from.number f) ∷ []
 
 -- no change is to be made, and nothing noted
 pub record IsPlain (r : Reaction) : Type 0 where

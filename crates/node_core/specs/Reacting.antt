@@ -8,7 +8,7 @@ use Rattle.psb_machine.specs.Volatile.{Note as MachineNote}
 use Rattle.psb_machine.specs.Sampling.{question_of}
 use Rattle.psb_machine.specs.Machine.{Situation, Input, Reaction as MachineReaction, react, settled}
 use Rattle.node_letters.specs.Letters.{letters_of}
-use Rattle.node_core.specs.PeerStates.{note_in, states_noted}
+use Rattle.peer_states.specs.PeerStates.{note_in, states_noted}
 use Rattle.node_core.specs.Making.{MayMake}
 use Rattle.node_core.specs.Unread.{IsCertain}
 use Rattle.node_core.specs.declared.reaction.Reaction.{Reaction}
@@ -50,6 +50,7 @@ pub record IsSame {L : Type 0} (old new : Node L) : Type 0 where
   pub log : new.log ≡ old.log
   pub ledger : new.ledger ≡ old.ledger
   pub names : new.names ≡ old.names
+  pub slots : new.slots ≡ old.slots
   pub states : new.states ≡ old.states
   pub question : (new.question ≡ old.question) ⊎ (new.question ≡ question_of new.ledger.state)
   pub rest : SameOwner old new
@@ -59,6 +60,7 @@ pub record IsNoted {L : Type 0} (note : MachineNote) (old new : Node L) : Type 0
   pub log : new.log ≡ old.log
   pub ledger : new.ledger ≡ old.ledger
   pub names : new.names ≡ old.names
+  pub slots : new.slots ≡ old.slots
   pub peers : new.peers ≡ old.peers
   pub claims : new.claims ≡ old.claims
   pub question : new.question ≡ old.question

@@ -16,7 +16,7 @@ use Rattle.psb_machine.specs.declared.question.Question.{Question}
 use Rattle.node_letters.specs.Letters.{letters_of}
 use Rattle.node_core.specs.declared.node.Node.{Node}
 use Rattle.node_core.specs.declared.offering.Offer.{Offer}
-use Rattle.node_core.specs.declared.peer_state.PeerState.{PeerState}
+use Rattle.peer_states.specs.declared.peer_state.PeerState.{PeerState}
 use Rattle.node_core.specs.declared.reaction.Reaction.{Reaction}
 
 -- ---- the deal that is offered

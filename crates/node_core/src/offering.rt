@@ -7,12 +7,12 @@ ghost use Rattle.psb_model.specs.State.{row};
 ghost use Rattle.psb_machine.specs.Proposals.{propose_facts, proposed_at};
 ghost use Rattle.psb_machine.specs.Machine.{grown_by, offer_by};
 ghost use Rattle.deals.specs.Views.{propose_facts_in};
-ghost use Rattle.node_core.specs.PeerStates.{kept};
+ghost use Rattle.peer_states.specs.PeerStates.{kept};
 ghost use Rattle.node_core.specs.Ticking.{offer_in, offer_of, offered_again};
 
-use crate::peer_state::PeerState;
 use deals::{ProposeFacts, look_ahead, propose};
 use next_deals::Planner;
+use peer_states::PeerState;
 use psb_bytes::{Items, Memory, ObjectList, PeerId, SlotList};
 use psb_ledger::Ledger;
 use psb_model::{Change, Deal, DealWhat, Proposed};

@@ -1,10 +1,10 @@
 //! What a node makes of an input, before anything of it is written.
 
 ghost use Rattle.std.specs.Prelude.{◌≡◌, ◌≤◌, length, [], ◌∷◌, ◌++◌, option_to_list, Some, None, IfOk};
-ghost use Rattle.node_core.specs.declared.peer_state.Note.TheVariants.{Nothing, Ticked};
+ghost use Rattle.peer_states.specs.declared.peer_state.Note.TheVariants.{Nothing, Ticked};
 
-use crate::peer_state::Note;
 use node_letters::{Letter, Outbox};
+use peer_states::Note;
 use psb_bytes::{Items, Memory, PeerId};
 use psb_model::Change;
 use std::alloc::Global;

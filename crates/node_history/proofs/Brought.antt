@@ -1,5 +1,5 @@
 -- Where the bytes of a name stand: in the record of the last change that brings them.
-use Rattle.std.proofs.Common.{◌≡◌, ◌⊎◌, inl, inr, ℕ, suc, ◌+◌, ◌<◌, Bool, true, false, cond, List, [], ◌∷◌, ◌++◌, length, slice_get, is_some, Option, Some, None, IfSome, refl, sym, ◌∙◌, ap, subst, arith}
+use Rattle.std.proofs.Common.{◌≡◌, ◌⊎◌, inl, inr, ℕ, suc, ◌+◌, ◌<◌, Bool, true, cond, List, [], ◌∷◌, ◌++◌, length, slice_get, is_some, Option, Some, None, IfSome, refl, sym, ◌∙◌, ap, subst, arith}
 use Rattle.std.proofs.lemmas.Bool.{false≢true}
 use Rattle.psb_station.proofs.Spans.{same_some, at_some}
 use Rattle.node_journal.specs.Entry.{Entry, entry}
@@ -10,6 +10,7 @@ use Rattle.psb_model.specs.declared.change.Change.TheVariants.{Kept, TookFresh, 
 use Rattle.psb_model.proofs.ByObject.{by_cases}
 use Rattle.std.proofs.lemmas.Option.{slice_get-get_or}
 use Rattle.change_codec.specs.Records.{IsRecord}
+use Rattle.slot_places.proofs.Grown.{place_snoc}
 use Rattle.node_history.specs.Stands.{AreDecoded}
 use Rattle.chunk_store.specs.declared.store.Store.{Store}
 use Rattle.chunk_store.specs.Store.{record_of}
@@ -17,18 +18,13 @@ use Rattle.node_history.specs.Names.{brought_from, KnowsNames, AreThere}
 
 -- ---- one change more
 
-abbrev or_here : Option ℕ → Bool → ℕ → Option ℕ
-or_here later brings n = elim later [ Some k ↦ Some k | None ↦ cond brings (Some n) None ]
-
 pub brought_snoc : (n : ℕ) (name : List ℕ) (h : List Change) (c : Change) → brought_from n name (h ++ c ∷ []) ≡ cond (brings_name name c) (Some (n + length h)) (brought_from n name h)
-brought_snoc n name [] c = ap (λ (k : ℕ). cond (brings_name name c) (Some k) None) (omega arith)
-brought_snoc n name (d ∷ h) c = ap (λ (o : Option ℕ). or_here o (brings_name name d) n) (brought_snoc (n + 1) name h c) ∙ at (brings_name name c)
-  where
-    at : (b : Bool) → or_here (cond b (Some ((n + 1) + length h)) (brought_from (n + 1) name h)) (brings_name name d) n ≡ cond b (Some (n + length (d ∷ h))) (or_here (brought_from (n + 1) name h) (brings_name name d) n)
-    at true = ap (λ (k : ℕ). Some k) (omega arith)
-    at false = refl
+brought_snoc n name h c = place_snoc n (brings_name name) h c
 
 -- ---- the record of a body
+
+abbrev pub or_here : Option ℕ → Bool → ℕ → Option ℕ
+or_here later brings n = elim later [ Some k ↦ Some k | None ↦ cond brings (Some n) None ]
 
 -- no change brings the bytes of the name; or the last that does has this record
 abbrev NoneBrings : ℕ → List ℕ → List Change → Type 0

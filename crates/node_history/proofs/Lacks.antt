@@ -122,7 +122,7 @@ needs_held s name (Some n) later brings held none =
     subst (λ (m : List ℕ). (is_held s m && not (list_any (brings_name m) later)) ≡ true) (sym (name_same n name brings)) (rw (held, none) refl)
 
 -- the last change that brings the bytes of a held name has them
-needed_name : (s : State) (name : List ℕ) (d : Change) (later : List Change) → is_held s name ≡ true → brings_name name d ≡ true → list_any (brings_name name) later ≡ false → is_needed_by s d later ≡ true
+pub needed_name : (s : State) (name : List ℕ) (d : Change) (later : List Change) → is_held s name ≡ true → brings_name name d ≡ true → list_any (brings_name name) later ≡ false → is_needed_by s d later ≡ true
 needed_name s name d later held brings_it none = or_middle (is_begun d) (needs_name s (brings d) later) (needs_slot s (peer_of d) (slots_given d) later) (needs_held s name (brings d) later brings_it held none)
 
 -- the last change that brings the bytes of a held name has them
@@ -136,7 +136,7 @@ any_at f n (m ∷ ms) h is = by_cases (m == n)
     (λ k. ap (λ (b : Bool). b || list_any f ms) (ap f (eqb-true m n k) ∙ is))
     (λ k. ap (λ (b : Bool). f m || b) (any_at f n ms (rw k at h) is) ∙ or_true (f m))
 
-needed_slot : (s : State) (p n : ℕ) (d : Change) (later : List Change) → has_direct (row s p).ins n ≡ true → gives_slot p n d ≡ true → list_any (gives_slot p n) later ≡ false → is_needed_by s d later ≡ true
+pub needed_slot : (s : State) (p n : ℕ) (d : Change) (later : List Change) → has_direct (row s p).ins n ≡ true → gives_slot p n d ≡ true → list_any (gives_slot p n) later ≡ false → is_needed_by s d later ≡ true
 needed_slot s p n d later direct gives none = ap (λ (b : Bool). is_begun d || needs_name s (brings d) later || b) (by_peer (peer_of d) gives) ∙ or_true (is_begun d || needs_name s (brings d) later)
   where
     by_peer : (o : Option ℕ) → elim o [ None ↦ false | Some q ↦ q == p && list_any (λ m. m == n) (slots_given d) ] ≡ true → needs_slot s o (slots_given d) later ≡ true

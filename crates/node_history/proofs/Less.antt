@@ -1,5 +1,5 @@
 -- What a history and the same less bodies that were given up have in common.
-use Rattle.std.proofs.Common.{◌≡◌, ◌⊎◌, inl, inr, ⊎_elim, ℕ, zero, suc, ◌+◌, Bool, true, false, not, ◌||◌, ◌&&◌, ◌==◌, cond, List, [], ◌∷◌, ◌++◌, slice_get, is_some, Option, Some, None, refl, sym, ◌∙◌, ap, subst}
+use Rattle.std.proofs.Common.{◌≡◌, ◌⊎◌, inl, inr, ⊎_elim, ℕ, zero, suc, ◌+◌, Bool, true, false, not, ◌||◌, ◌&&◌, ◌==◌, cond, List, [], ◌∷◌, ◌++◌, slice_get, is_some, Option, Some, None, option_map, refl, sym, ◌∙◌, ap, subst}
 use Rattle.std.specs.List.{list_any}
 use Rattle.std.proofs.lemmas.Bool.{and_parts, false≢true}
 use Rattle.psb_bytes.specs.declared.ids.Object.TheVariants.{Slot}
@@ -12,17 +12,20 @@ use Rattle.psb_model.specs.Effects.{after}
 use Rattle.psb_model.specs.Grammar.{in_grammar}
 use Rattle.psb_model.specs.History.{state, state_from, is_lawful}
 use Rattle.psb_model.proofs.Prefixes.{lawful_snoc}
-use Rattle.psb_model.specs.Needed.{brings, slots_given, brings_name, gives_slot, needs_name, needs_slot, is_needed_by, body_is_right, is_body, bodies_right, IsValid, last_bringing, last_brought}
+use Rattle.psb_model.specs.Needed.{brings, slots_given, brings_name, gives_slot, needs_name, needs_slot, is_needed_by, body_is_right, is_body, bodies_right, IsValid, last_that, last_place, last_brought, piece_of, given_by, slot_bytes}
 use Rattle.psb_model.specs.declared.change.Change.{Change}
 use Rattle.psb_model.specs.declared.change.Change.TheVariants.{Kept, TookFresh, TookSwap, LetGoBack, Replaced, Settled}
 use Rattle.psb_model.proofs.ByObject.{by_cases}
 use Rattle.model_laws.proofs.Bodies.{valid_snoc, last_brings}
 use Rattle.chunk_store.specs.declared.store.Store.{Store}
 use Rattle.chunk_store.specs.Store.{record_of}
+use Rattle.slot_places.specs.declared.tables.SlotTables.{SlotTables}
+use Rattle.slot_places.specs.Slots.{KnowsSlots}
 use Rattle.node_history.specs.Names.{owns, brought_from, KnowsNames}
 use Rattle.node_history.specs.Less.{without_body, IsLessOf, IsLess, LessGivesTheSame}
 use Rattle.node_history.proofs.Brought.{or_this, bytes_of}
-use Rattle.node_history.proofs.Lacks.{right_here}
+use Rattle.model_laws.proofs.Directs.{has_direct}
+use Rattle.node_history.proofs.Lacks.{or_right, needed_name, needed_slot}
 use Rattle.node_history.proofs.Reading.{next_of}
 
 -- ---- one change
@@ -155,14 +158,21 @@ any_less f law [] (d ∷ ds) is = absurd is
 any_less f law (c ∷ cs) [] is = absurd is
 any_less f law (c ∷ cs) (d ∷ ds) is = λ i. (same_in f law c d is.0 i || any_less f law cs ds is.1 i)
 
--- the records that bring the bytes of a name are at the same places
+-- the last change that passes the test is at the same place
+place_less : (n : ℕ) (test : Change → Bool) → ((c : Change) → test (without_body c) ≡ test c) → (h less : List Change) → IsLess h less → last_place n test less ≡ last_place n test h
+place_less n test law [] [] is = refl
+place_less n test law [] (d ∷ ds) is = absurd is
+place_less n test law (c ∷ cs) [] is = absurd is
+place_less n test law (c ∷ cs) (d ∷ ds) is =
+    ap (λ (o : Option ℕ). elim o [ Some k ↦ Some k | None ↦ cond (test d) (Some n) None ]) (place_less (n + 1) test law cs ds is.1)
+    ∙ ap (λ (b : Bool). elim (last_place (n + 1) test cs) [ Some k ↦ Some k | None ↦ cond b (Some n) None ]) (same_in test law c d is.0)
+
 pub brought_less : (n : ℕ) (name : List ℕ) (h less : List Change) → IsLess h less → brought_from n name less ≡ brought_from n name h
-brought_less n name [] [] is = refl
-brought_less n name [] (d ∷ ds) is = absurd is
-brought_less n name (c ∷ cs) [] is = absurd is
-brought_less n name (c ∷ cs) (d ∷ ds) is =
-    ap (λ (o : Option ℕ). elim o [ Some k ↦ Some k | None ↦ cond (brings_name name d) (Some n) None ]) (brought_less (n + 1) name cs ds is.1)
-    ∙ ap (λ (b : Bool). elim (brought_from (n + 1) name cs) [ Some k ↦ Some k | None ↦ cond b (Some n) None ]) (same_in (brings_name name) (brings_name_without name) c d is.0)
+brought_less n name h less is = place_less n (brings_name name) (brings_name_without name) h less is
+
+-- the records of slots are those of a history less bodies that were given up
+pub slots_less : (t : SlotTables) (h less : List Change) → IsLess h less → KnowsSlots t h → KnowsSlots t less
+slots_less t h less is knows = λ p n direct. knows p n (ap (λ (s : State). has_direct (row s p).ins n) (sym (state_less h less is)) ∙ direct) ∙ sym (place_less 0 (gives_slot p n) (gives_slot_without p n) h less is)
 
 -- the same names are held by a history less bodies that were given up
 pub names_less : (store : Store) (h less : List Change) → IsLess h less → KnowsNames store h → KnowsNames store less
@@ -192,67 +202,88 @@ needed_less s c d later rest one is =
     ∙ ap (λ (b : Bool). is_begun c || b || needs_slot s (peer_of c) (slots_given c) rest) (needs_name_less s (brings c) later rest is)
     ∙ ap (λ (b : Bool). is_begun c || needs_name s (brings c) later || b) (needs_slot_less s (peer_of c) (slots_given c) later rest is)
 
--- ---- the bytes that are held under a name
+-- ---- the bytes that are held under a name, and those of a slot
 
--- no change brings the bytes of the name; or the last ones that do have the same
-record NoneBrings (name : List ℕ) (h less : List Change) : Type 0 where
-  history : last_bringing name h ≡ None
-  rest : last_bringing name less ≡ None
-  none : list_any (brings_name name) less ≡ false
+-- no change passes the test; or the last ones that do have the same body
+record NonePass (test : Change → Bool) (h less : List Change) : Type 0 where
+  history : last_that test h ≡ None
+  rest : last_that test less ≡ None
+  none : list_any test less ≡ false
 
-record BothBring (name : List ℕ) (h less : List Change) : Type 0 where
+record BothPass (test : Change → Bool) (h less : List Change) : Type 0 where
   c : Change
   d : Change
-  history : last_bringing name h ≡ Some c
-  rest : last_bringing name less ≡ Some d
+  history : last_that test h ≡ Some c
+  rest : last_that test less ≡ Some d
+  is_less : IsLessOf c d
   body : body_of d ≡ body_of c
 
 pub there_body : (name body : Option (List ℕ)) → is_body name body ≡ true → is_some body ≡ true
 there_body name None h = absurd (false≢true h)
 there_body name (Some bytes) h = refl
 
--- the last change that brings the bytes of a held name has them
-right_there : (s : State) (name : List ℕ) (d : Change) (later : List Change) → brings_name name d ≡ true → is_held s name ≡ true → list_any (brings_name name) later ≡ false → (not (is_needed_by s d later) || body_is_right d) ≡ true → is_some (body_of d) ≡ true
-right_there s name d later brings_it held none right = there_body (brings d) (body_of d) (right_here s name d later brings_it held none right)
-
-both_bring : (s : State) (name : List ℕ) (h less : List Change) → IsLess h less → is_held s name ≡ true → bodies_right s less ≡ true → NoneBrings name h less ⊎ BothBring name h less
-both_bring s name [] [] is held right = inl (record { history = refl; rest = refl; none = refl })
-both_bring s name [] (d ∷ ds) is held right = absurd is
-both_bring s name (c ∷ cs) [] is held right = absurd is
-both_bring s name (c ∷ cs) (d ∷ ds) is held right = here (both_bring s name cs ds is.1 held (and_parts (not (is_needed_by s d ds) || body_is_right d) (bodies_right s ds) right).1)
+-- the last change that passes a test has its body, where it is needed then
+both_pass : (s : State) (test : Change → Bool) → ((c : Change) → test (without_body c) ≡ test c) → ((d : Change) (later : List Change) → test d ≡ true → list_any test later ≡ false → is_needed_by s d later ≡ true) → (h less : List Change) → IsLess h less → bodies_right s less ≡ true → NonePass test h less ⊎ BothPass test h less
+both_pass s test law needs [] [] is right = inl (record { history = refl; rest = refl; none = refl })
+both_pass s test law needs [] (d ∷ ds) is right = absurd is
+both_pass s test law needs (c ∷ cs) [] is right = absurd is
+both_pass s test law needs (c ∷ cs) (d ∷ ds) is right = here (both_pass s test law needs cs ds is.1 (and_parts (not (is_needed_by s d ds) || body_is_right d) (bodies_right s ds) right).1)
   where
-    same : brings_name name d ≡ brings_name name c
-    same = same_in (brings_name name) (brings_name_without name) c d is.0
+    same : test d ≡ test c
+    same = same_in test law c d is.0
 
-    here : NoneBrings name cs ds ⊎ BothBring name cs ds → NoneBrings name (c ∷ cs) (d ∷ ds) ⊎ BothBring name (c ∷ cs) (d ∷ ds)
-    here (inl n) = by_cases (brings_name name d)
+    there : test d ≡ true → list_any test ds ≡ false → is_some (body_of d) ≡ true
+    there passes none = there_body (brings d) (body_of d) (or_right (is_needed_by s d ds) (body_is_right d) (and_parts (not (is_needed_by s d ds) || body_is_right d) (bodies_right s ds) right).0 (needs d ds passes none))
+
+    here : NonePass test cs ds ⊎ BothPass test cs ds → NonePass test (c ∷ cs) (d ∷ ds) ⊎ BothPass test (c ∷ cs) (d ∷ ds)
+    here (inl n) = by_cases (test d)
         (λ k. inr (record {
           c = c;
           d = d;
-          history = ap (λ (o : Option Change). or_this o (brings_name name c) c) n.history ∙ ap (λ (b : Bool). cond b (Some c) None) (sym same ∙ k);
-          rest = ap (λ (o : Option Change). or_this o (brings_name name d) d) n.rest ∙ ap (λ (b : Bool). cond b (Some d) None) k;
-          body = body_less c d is.0 (right_there s name d ds k held n.none (and_parts (not (is_needed_by s d ds) || body_is_right d) (bodies_right s ds) right).0);
+          history = ap (λ (o : Option Change). or_this o (test c) c) n.history ∙ ap (λ (b : Bool). cond b (Some c) None) (sym same ∙ k);
+          rest = ap (λ (o : Option Change). or_this o (test d) d) n.rest ∙ ap (λ (b : Bool). cond b (Some d) None) k;
+          is_less = is.0;
+          body = body_less c d is.0 (there k n.none);
         }))
         (λ k. inl (record {
-          history = ap (λ (o : Option Change). or_this o (brings_name name c) c) n.history ∙ ap (λ (b : Bool). cond b (Some c) None) (sym same ∙ k);
-          rest = ap (λ (o : Option Change). or_this o (brings_name name d) d) n.rest ∙ ap (λ (b : Bool). cond b (Some d) None) k;
-          none = ap (λ (b : Bool). b || list_any (brings_name name) ds) k ∙ n.none;
+          history = ap (λ (o : Option Change). or_this o (test c) c) n.history ∙ ap (λ (b : Bool). cond b (Some c) None) (sym same ∙ k);
+          rest = ap (λ (o : Option Change). or_this o (test d) d) n.rest ∙ ap (λ (b : Bool). cond b (Some d) None) k;
+          none = ap (λ (b : Bool). b || list_any test ds) k ∙ n.none;
         }))
     here (inr b) = inr (record {
       c = b.c;
       d = b.d;
-      history = ap (λ (o : Option Change). or_this o (brings_name name c) c) b.history;
-      rest = ap (λ (o : Option Change). or_this o (brings_name name d) d) b.rest;
+      history = ap (λ (o : Option Change). or_this o (test c) c) b.history;
+      rest = ap (λ (o : Option Change). or_this o (test d) d) b.rest;
+      is_less = b.is_less;
       body = b.body;
     })
 
-last_less : (name : List ℕ) (h less : List Change) → NoneBrings name h less ⊎ BothBring name h less → last_brought name less ≡ last_brought name h
-last_less name h less (inl n) = ap bytes_of n.rest ∙ sym (ap bytes_of n.history)
-last_less name h less (inr b) = ap bytes_of b.rest ∙ b.body ∙ sym (ap bytes_of b.history)
+names_last : (name : List ℕ) (h less : List Change) → NonePass (brings_name name) h less ⊎ BothPass (brings_name name) h less → last_brought name less ≡ last_brought name h
+names_last name h less (inl n) = ap bytes_of n.rest ∙ sym (ap bytes_of n.history)
+names_last name h less (inr b) = ap bytes_of b.rest ∙ b.body ∙ sym (ap bytes_of b.history)
+
+last_less : (s : State) (name : List ℕ) (h less : List Change) → IsLess h less → is_held s name ≡ true → bodies_right s less ≡ true → last_brought name less ≡ last_brought name h
+last_less s name h less is held right = names_last name h less (both_pass s (brings_name name) (brings_name_without name) (λ d later brings_it none. needed_name s name d later held brings_it none) h less is right)
+
+-- the piece of a slot, of the change that gives it
+abbrev pub piece_by : ℕ → Option Change → Option (List ℕ)
+piece_by n o = elim o [ Some c ↦ given_by n c | None ↦ None ]
+
+slots_last : (p n : ℕ) (h less : List Change) → NonePass (gives_slot p n) h less ⊎ BothPass (gives_slot p n) h less → slot_bytes p n less ≡ slot_bytes p n h
+slots_last p n h less (inl m) = ap (piece_by n) m.rest ∙ sym (ap (piece_by n) m.history)
+slots_last p n h less (inr b) =
+    ap (piece_by n) b.rest
+    ∙ (λ i. option_map (piece_of n (same_in slots_given slots_without b.c b.d b.is_less i)) (b.body i))
+    ∙ sym (ap (piece_by n) b.history)
+
+-- the same bytes were given last to a slot that is to have them here
+slot_less : (s : State) (p n : ℕ) (h less : List Change) → IsLess h less → has_direct (row s p).ins n ≡ true → bodies_right s less ≡ true → slot_bytes p n less ≡ slot_bytes p n h
+slot_less s p n h less is direct right = slots_last p n h less (both_pass s (gives_slot p n) (gives_slot_without p n) (λ d later gives none. needed_slot s p n d later direct gives none) h less is right)
 
 -- the same bytes were brought last for a name that is held
 pub last_bytes_less : (h less : List Change) (name : List ℕ) → IsLess h less → IsValid less → (names : Store) → KnowsNames names less → (record_of names name ≡ None → ⊥) → last_brought name h ≡ last_brought name less
-last_bytes_less h less name is v names knows some = sym (last_less name h less (both_bring (state less) name h less is held v.sound))
+last_bytes_less h less name is v names knows some = sym (last_less (state less) name h less is held v.sound)
   where
     there : (o : Option ℕ) → (o ≡ None → ⊥) → is_some o ≡ true
     there (Some k) h = refl
@@ -264,7 +295,8 @@ last_bytes_less h less name is v names knows some = sym (last_less name h less (
 pub less_same : LessGivesTheSame
 less_same h less is = record {
   one_state = state_less h less is;
-  same_bytes = λ v name held. last_less name h less (both_bring (state less) name h less is (ap (λ (s : State). is_held s name) (state_less h less is) ∙ held) v.sound);
+  same_bytes = λ v name held. last_less (state less) name h less is (ap (λ (s : State). is_held s name) (state_less h less is) ∙ held) v.sound;
+  same_slots = λ v p n direct. slot_less (state less) p n h less is (ap (λ (s : State). has_direct (row s p).ins n) (state_less h less is) ∙ direct) v.sound;
 }
 
 -- ---- one change more

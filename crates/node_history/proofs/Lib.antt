@@ -12,3 +12,5 @@ pub mod Reopened
 pub mod Appending
 pub mod Presence
 pub mod Handed
+pub mod GivenBytes
+pub mod DirectBytes

@@ -22,6 +22,9 @@ use Rattle.change_codec.specs.Records.{IsRecord, OneChangeEach}
 use Rattle.node_history.specs.Readable.{IsReadable}
 use Rattle.node_history.specs.Stands.{AreDecoded}
 use Rattle.chunk_store.specs.declared.store.Store.{Store}
+use Rattle.slot_places.specs.Slots.{KnowsSlots, AreBelow}
+use Rattle.slot_places.specs.Enters.{EntersSlots}
+use Rattle.slot_places.proofs.Grown.{slots_grown, slots_below}
 use Rattle.node_history.specs.Names.{KnowsNames, AreThere, SameNames, Enters}
 use Rattle.model_laws.proofs.Directs.{has_direct}
 use Rattle.node_history.specs.declared.history.Tables.{Tables}
@@ -117,6 +120,8 @@ reading_start holds keeps r first fresh = record {
   names = names_start r.tables.names fresh.records fresh.owners;
   there = λ name k here. absurd (let clash : None ≡ Some k = sym (fresh.records name) ∙ here in cc);
   lacking = record { names = fresh.names; slots = fresh.slots };
+  slots = λ p n direct. fresh.places p n;
+  below = λ p n k is. absurd (let clash : None ≡ Some k = sym (fresh.places p n) ∙ is in cc);
   reads = λ tells es shows. start es;
 }
 
@@ -164,6 +169,7 @@ reading_more one holds size keeps number t u w x first now later c counts lt kep
     let h = before.history in
     let allows : allowed (state h) c ≡ true = subst (λ (y : State). allowed y c ≡ true) before.state_is takes.may in
     let entered : Enters (state h) takes.between u.names c number = subst (λ (y : State). Enters y takes.between u.names c number) before.state_is takes.enters in
+    let placed_now : EntersSlots (state h) t.slots u.slots c number = subst (λ (y : State). EntersSlots y t.slots u.slots c number) before.state_is takes.slots in
     record {
       history = h ++ c ∷ [];
       lawful = lawful_snoc h c ∙ rw (before.lawful, readable.grammar, allows) refl;
@@ -173,6 +179,8 @@ reading_more one holds size keeps number t u w x first now later c counts lt kep
       names = names_grown takes.between u.names h c before.lawful allows (names_same t.names takes.between h takes.same before.names) (subst (λ (k : ℕ). Enters (state h) takes.between u.names c k) (sym before.counted) entered);
       there = placed_more t.names takes.between u.names w x h c number keeps allows before.names takes.same entered takes.lacks bodies before.there;
       lacking = lacking_grown w x h c before.lacking takes.lacks;
+      slots = slots_grown t.slots u.slots h c allows before.slots (subst (λ (k : ℕ). EntersSlots (state h) t.slots u.slots c k) (sym before.counted) placed_now);
+      below = slots_below t.slots u.slots (state h) c number placed_now before.below;
       reads = λ tells es shows.
           let told = looked.works.tells tells in
           let inside : number < length es = omega (arith, lt, counts es shows.bytes shows.reads) in
@@ -183,7 +191,7 @@ reading_more one holds size keeps number t u w x first now later c counts lt kep
 -- what was read is a whole history, where nothing lacks its bytes
 pub reading_done : (holds : List Entry → List ℕ → Type 0) (size : ℕ) (keeps : ℕ → Bool) (t : Tables) (w : Lacking) (first now : View)
     → ((es : List Entry) (i : List ℕ) → holds es i → size ≡ length es) → 0 < size → NoneLacks t w → Reading holds keeps size t w first now
-    → (h : List Change) × IsValid h × (t.ledger.state ≡ state h) × KnowsNames t.names h × (Tells_bytes now → (es : List Entry) → Shows (holds es) first → AreDecoded h es)
+    → (h : List Change) × IsValid h × (t.ledger.state ≡ state h) × KnowsNames t.names h × (Tells_bytes now → (es : List Entry) → Shows (holds es) first → AreDecoded h es) × KnowsSlots t.slots h
 reading_done holds size keeps t w first now counts some none r =
     let h = r.history in (
       h,
@@ -196,7 +204,12 @@ reading_done holds size keeps t w first now counts some none r =
       r.state_is,
       r.names,
       λ tells es shows. all_read es size h (omega (arith, counts es shows.bytes shows.reads)) (r.reads tells es shows),
+      r.slots,
     )
+
+-- the records of slots are some of those that were read
+pub reading_below : (holds : List Entry → List ℕ → Type 0) (size : ℕ) (keeps : ℕ → Bool) (t : Tables) (w : Lacking) (first now : View) → Reading holds keeps size t w first now → AreBelow t.slots size
+reading_below holds size keeps t w first now r = r.below
 
 -- and the log has the bodies of the names
 pub reading_there : (holds : List Entry → List ℕ → Type 0) (size : ℕ) (keeps : ℕ → Bool) (t : Tables) (w : Lacking) (first now : View) → NoneLacks t w → Reading holds keeps size t w first now → AreThere t.names size keeps

@@ -1,8 +1,11 @@
 -- Histories less bodies that were given up.
 use Rattle.std.specs.Prelude.{◌≡◌, ◌⊎◌, ℕ, true, List, [], ◌∷◌, None}
-use Rattle.psb_model.specs.State.{is_held}
+use Rattle.psb_bytes.specs.declared.ids.Object.TheVariants.{Slot}
+use Rattle.psb_model.specs.Words.{has_so}
+use Rattle.psb_model.specs.State.{row, in_key, is_held}
+use Rattle.psb_model.specs.Conditions.{is_direct}
 use Rattle.psb_model.specs.History.{state}
-use Rattle.psb_model.specs.Needed.{last_brought, IsValid}
+use Rattle.psb_model.specs.Needed.{last_brought, slot_bytes, IsValid}
 use Rattle.psb_model.specs.declared.change.Change.{Change}
 use Rattle.psb_model.specs.declared.change.Change.TheVariants.{Kept, TookFresh, TookSwap, LetGoBack, Replaced, Settled}
 
@@ -30,10 +33,12 @@ IsLess (c ∷ cs) (d ∷ ds) = IsLessOf c d × IsLess cs ds
 
 -- ---- the law
 
--- they give one state, and where what is left is valid, the same bytes were brought last for each name that is held
+-- They give one state. Where what is left is valid, the same bytes were brought last for each name that is held, and
+-- given last to each slot that is to have them here.
 pub record IsTheSame (h less : List Change) : Type 0 where
   pub one_state : state less ≡ state h
   pub same_bytes : IsValid less → (name : List ℕ) → is_held (state h) name ≡ true → last_brought name less ≡ last_brought name h
+  pub same_slots : IsValid less → (p n : ℕ) → has_so in_key is_direct (row (state h) p).ins (Slot n) ≡ true → slot_bytes p n less ≡ slot_bytes p n h
 
 abbrev pub LessGivesTheSame : Type 0
 LessGivesTheSame = (h less : List Change) → IsLess h less → IsTheSame h less

@@ -5,3 +5,4 @@ pub mod Stands
 pub mod Names
 pub mod Lacking
 pub mod Reading
+pub mod Given

@@ -16,6 +16,8 @@ use Rattle.psb_model.specs.declared.change.Change.{Change}
 use Rattle.chunk_store.specs.declared.owner.Owner.{Owner}
 use Rattle.chunk_store.specs.declared.store.Store.{Store}
 use Rattle.chunk_store.specs.Store.{record_of, is_owner}
+use Rattle.slot_places.specs.Slots.{slot_record, KnowsSlots, AreBelow}
+use Rattle.slot_places.specs.Enters.{EntersSlots}
 use Rattle.node_history.specs.Stands.{AreDecoded}
 use Rattle.node_history.specs.Names.{KnowsNames, SameNames, Enters}
 use Rattle.node_history.specs.Lacking.{is_lacking, is_slot_lacking, KnowsLacking, NotesLacking}
@@ -30,6 +32,7 @@ pub record IsFresh (r : Reader) : Type 0 where
   pub owners : (o : Owner) (q : List ℕ) → is_owner r.tables.names o q ≡ false
   pub names : (q : List ℕ) → is_lacking r.lacking q ≡ false
   pub slots : (p n : ℕ) → is_slot_lacking r.lacking p n ≡ false
+  pub places : (p n : ℕ) → slot_record r.tables.slots p n ≡ None
 
 -- the tables are those of some history
 pub record AreOfSome (t : Tables) : Type 0 where
@@ -45,6 +48,7 @@ pub record TakesUp (old new : Tables) (w x : Lacking) (c : Change) (number : ℕ
   pub between : Store
   pub same : SameNames old.names between
   pub enters : Enters old.ledger.state between new.names c number
+  pub slots : EntersSlots old.ledger.state old.slots new.slots c number
   pub lacks : NotesLacking w x c
 
 -- the records are read up to a number; a valid history of them all goes on from there
@@ -66,6 +70,8 @@ pub record Reading (holds : List Entry → List ℕ → Type 0) (keeps : ℕ →
   pub names : KnowsNames t.names history
   pub there : ArePlaced t.names w number keeps
   pub lacking : KnowsLacking w history
+  pub slots : KnowsSlots t.slots history
+  pub below : AreBelow t.slots number
   pub reads : Tells_bytes now → (es : List Entry) → Shows (holds es) first → ReadTo es number history
 
 -- no name that is held lacks its bytes, and no slot that is to have them here

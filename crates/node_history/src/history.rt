@@ -11,6 +11,8 @@ ghost use Rattle.psb_model.specs.History.{state};
 ghost use Rattle.psb_model.specs.Needed.{brings, brings_name, slots_given, is_body, body_is_right, IsValid};
 ghost use Rattle.psb_model.specs.declared.change.Change.{Change};
 ghost use Rattle.psb_ledger.specs.View.{HasRoom};
+ghost use Rattle.slot_places.specs.Moves.{IsMoved};
+ghost use Rattle.slot_places.specs.Slots.{slot_record, HasSlotRoom, KnowsSlots, AreBelow};
 ghost use Rattle.chunk_store.specs.Store.{has_room};
 ghost use Rattle.change_codec.specs.Records.{IsRecord};
 ghost use Rattle.node_history.specs.Readable.{IsReadable};
@@ -30,6 +32,7 @@ use psb_digest::sha;
 use psb_ledger::Ledger;
 use psb_model::Change;
 use psb_station::Disk;
+use slot_places::{SlotTables, SlotsMoved};
 use std::alloc::Global;
 
 /// The name whose bytes a change brings.
@@ -103,13 +106,13 @@ fn read_change<L: Log, D: Disk>(
 
 /// Slots of a peer whose bytes a change gives.
 #[derive(Clone, Copy)]
-struct Given<'a> {
-    peer: PeerId,
-    slots: &'a [u32],
+pub(crate) struct Given<'a> {
+    pub(crate) peer: PeerId,
+    pub(crate) slots: &'a [u32],
 }
 
 /// The slots whose bytes a change gives.
-fn given_slots(change: &Change) -> Option<Given<'_>>
+pub(crate) fn given_slots(change: &Change) -> Option<Given<'_>>
     ensures some { IfSome result (λ g. (brings change.now ≡ None) × (peer_of change.now ≡ Some g.peer) × (slots_given change.now ≡ g.slots.now)) }
     ensures none { result ≡ None → slots_given change.now ≡ [] }
 {
@@ -151,12 +154,13 @@ fn note_lacking(lacking: &mut Lacking, change: &Change) -> Result<(), Memory>
     }
 }
 
-/// What was read of the changes that a log has: the ledger of the state that they give, and
-/// the names that are held.
+/// What was read of the changes that a log has: the ledger of the state that they give, the names
+/// that are held, and the records that gave slots their bytes.
 #[derive(Drop)]
 pub struct Tables {
     pub ledger: Ledger,
     pub names: Store,
+    pub slots: SlotTables,
 }
 
 /// Reads a history up, record by record: what was read so far, the names and slots that lack their bytes,
@@ -181,6 +185,7 @@ impl Reader {
             tables: Tables {
                 ledger: Ledger::new(alloc),
                 names: Store::new(alloc),
+                slots: SlotTables::new(alloc),
             },
             lacking: Lacking::new(alloc),
             head: Vec::new(alloc),
@@ -194,6 +199,7 @@ impl Reader {
         requires known { AreOfSome self.old.tables }
         ensures state { self.new.tables.ledger.state ≡ self.old.tables.ledger.state }
         ensures names { SameNames self.old.tables.names self.new.tables.names }
+        ensures slots { self.new.tables.slots ≡ self.old.tables.slots }
         ensures noted { OnOk result (NotesLacking self.old.lacking self.new.lacking change.now) }
         ensures ledger_room { OnOk result (HasRoom self.new.tables.ledger change.now) }
         ensures names_room { OnOk result (has_room self.new.tables.names ≡ true) }
@@ -211,6 +217,21 @@ impl Reader {
         Ok(Entering::of(alloc, &self.tables.ledger, change)?)
     }
 
+    /// Works out what a change does to the records of slots, and takes all the memory that it wants.
+    fn place_slots(&mut self, alloc: Global, change: &Change) -> Result<SlotsMoved, ReadFault>
+        ensures ledger { self.new.tables.ledger ≡ self.old.tables.ledger }
+        ensures names { self.new.tables.names ≡ self.old.tables.names }
+        ensures lacking { self.new.lacking ≡ self.old.lacking }
+        ensures slots { (p n : ℕ) → slot_record self.new.tables.slots p n ≡ slot_record self.old.tables.slots p n }
+        ensures room { IfOk result (HasSlotRoom self.new.tables.slots) }
+        ensures moved { IfOk result (IsMoved self.old.tables.ledger.state change.now) }
+        ensures only { OnErr result (result ≡ Err ReadFault.Memory) }
+    {
+        let moved = SlotsMoved::of(alloc, &self.tables.ledger, change)?;
+        self.tables.slots.make_room(&moved)?;
+        Ok(moved)
+    }
+
     /// Takes up a change that was read, where it may come next. Its record has this number.
     fn take_up(&mut self, alloc: Global, number: u64, change: Change) -> Result<(), ReadFault>
         requires grammar { in_grammar change ≡ true }
@@ -221,8 +242,10 @@ impl Reader {
         ensures only { OnErr result ((result ≡ Err ReadFault.NotNode) ⊎ (result ≡ Err ReadFault.Memory)) }
     {
         let entering = self.prepare(alloc, &change)?;
+        let moved = self.place_slots(alloc, &change)?;
         self.tables.ledger.apply(change);
         entering.enter(&mut self.tables.names, number, &self.tables.ledger);
+        self.tables.slots.enter(&moved, number, &self.tables.ledger);
         Ok(())
     }
 
@@ -313,9 +336,11 @@ pub fn read_history<L: Log, D: Disk>(
 ) -> Result<Tables, ReadFault>
     requires whole { L.is_broken log.old ≡ false }
     ensures read { IfOk result (λ past. (h : List Change) × IsValid h × (past.ledger.state ≡ state h) × KnowsNames past.names h
-        × (Tells_bytes (D.view disk.new) → (es : List Entry) → Shows (L.holds log.old es) (D.view disk.old) → AreDecoded h es)) }
+        × (Tells_bytes (D.view disk.new) → (es : List Entry) → Shows (L.holds log.old es) (D.view disk.old) → AreDecoded h es)
+        × KnowsSlots past.slots h) }
     ensures counted { IfOk result (λ past. past.ledger.state.changes ≡ L.size log.old) }
     ensures there { IfOk result (λ past. AreThere past.names (L.size log.old) (L.keeps_body log.old)) }
+    ensures below { IfOk result (λ past. AreBelow past.slots (L.size log.old)) }
     ensures not_node { result ≡ Err ReadFault.NotNode → Tells_bytes (D.view disk.new) → (es : List Entry) → Shows (L.holds log.old es) (D.view disk.old)
         → (h : List Change) → IsValid h → ¬ AreDecoded h es }
     ensures log { log.new ≡ log.old }

@@ -4,11 +4,13 @@
 
 mod entering;
 mod fault;
+mod given;
 mod history;
 mod lacking;
 mod laws;
 
 pub use entering::Entering;
 pub use fault::ReadFault;
+pub use given::given_bytes;
 pub use history::{Tables, read_history};
 pub use laws::less_gives_the_same;

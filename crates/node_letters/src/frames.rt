@@ -3,15 +3,15 @@
 ghost use Rattle.std.specs.Prelude.{◌≡◌, ◌≤◌, ◌<◌, ◌+◌, ◌^◌, true, length, IfOk};
 ghost use Rattle.std.specs.List.{list_all};
 ghost use Rattle.psb_bytes.specs.Units.{longest_chunk};
-ghost use Rattle.wire_codec.specs.Fields.{are_bytes, are_slots, is_digest};
+ghost use Rattle.wire_codec.specs.Fields.{are_bytes, are_slots, are_places, is_digest};
 ghost use Rattle.wire_codec.specs.Frames.{fits};
-ghost use Rattle.wire_codec.specs.declared.frame.Frame.TheVariants.{Store, Cancel, PutBack, Accepted, Get, Here, Ask, Sample};
+ghost use Rattle.wire_codec.specs.declared.frame.Frame.TheVariants.{Store, Cancel, PutBack, Accepted, Declined, Get, Here, Proof, Ask, Sample};
 ghost use Rattle.wire_codec.specs.declared.limits.TheConstants.{MOST_SLOTS};
 ghost use Rattle.psb_machine.specs.Replies.{claims_from};
 
 use crate::issuing::claims_at;
 use claims::ClaimSource;
-use psb_bytes::{Digest, DigestList, Items, Memory, SlotList};
+use psb_bytes::{Digest, DigestList, Items, Memory, PlaceList, SlotList};
 use std::alloc::Global;
 use wire_codec::Frame;
 
@@ -129,6 +129,29 @@ fn copied(name: Digest) -> Digest
     ensures fits { is_digest result ≡ true }
 {
     Digest(name.0)
+}
+
+/// The frame that declines a probe for what stood at these places of it.
+pub fn declined_of(nonce: &Digest, places: PlaceList) -> Frame
+    requires { are_places places ≡ true }
+    ensures frame { result ≡ Declined nonce.now places }
+    ensures fits { fits result ≡ true }
+{
+    Frame::Declined {
+        nonce: copied(*nonce),
+        places,
+    }
+}
+
+/// The frame that gives a probe its proof.
+pub fn proof_of(nonce: &Digest, value: &Digest) -> Frame
+    ensures frame { result ≡ Proof nonce.now value.now }
+    ensures fits { fits result ≡ true }
+{
+    Frame::Proof {
+        nonce: copied(*nonce),
+        value: copied(*value),
+    }
 }
 
 /// A copy of names, each of which has a spelling in a frame.

@@ -8,7 +8,9 @@ mod message;
 mod peers;
 mod replies;
 
-pub use frames::{ask_frame, cancel_of, put_back_of, sample_frame, store_of};
+pub use frames::{
+    ask_frame, cancel_of, declined_of, proof_of, put_back_of, sample_frame, store_of,
+};
 pub use issuing::issue_to;
 pub use letter::{Letter, Outbox, Outbox64, gets_to, letter_to};
 pub use message::{Message, Reading, Sender};

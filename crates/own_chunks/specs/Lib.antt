@@ -1,2 +1,3 @@
 pub mod OwnList
 pub mod OwnTree
+pub mod Snapshots

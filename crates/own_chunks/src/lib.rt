@@ -5,4 +5,4 @@ mod own;
 mod snapshots;
 
 pub use own::Own;
-pub use snapshots::{has_number, names_ascend};
+pub use snapshots::{allows_snapshot, has_number, kept_of, names_ascend};

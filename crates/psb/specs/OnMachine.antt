@@ -22,13 +22,13 @@ use Rattle.backup_cli.specs.BackedUp.{BacksUpTo}
 use Rattle.backup_cli.specs.Begun.{Begins}
 use Rattle.backup_cli.specs.Completeness.{CompletesFor}
 use Rattle.backup_cli.specs.RestoredTo.{RestoresTo}
-use Rattle.backup_cli.specs.Says.{Utters, IsRefusal, peer_lines, snapshot_lines}
+use Rattle.said_lines.specs.Says.{Utters, IsRefusal, ledger_lines, snapshot_lines}
 use Rattle.backup_cli.specs.Served.{Serves}
 use Rattle.backup_cli.specs.Listed.{Lists}
 use Rattle.backup_cli.specs.Forgotten.{Forgets}
 use Rattle.backup_cli.specs.Words.{IsServe, IsLedger, IsInit, IsSnapshots, IsForget, IsBackup, IsRestore, IsQuiet, IsNoCommand}
-use Rattle.backup_cli.specs.declared.status.Status.{Status}
-use Rattle.backup_cli.specs.declared.status.Status.TheVariants.{Done, Usage, DiskFault, LinkFault, FolderFault, SayFault, NotNode, Already, NotEmpty}
+use Rattle.said_lines.specs.declared.status.Status.{Status}
+use Rattle.said_lines.specs.declared.status.Status.TheVariants.{Done, Usage, DiskFault, LinkFault, FolderFault, SayFault, NotNode, Already, NotEmpty}
 use Rattle.backup_cli.specs.declared.words.Which.{Which}
 
 pub record OnMachine (first : List ℕ) (tree : Content) (words : List (List ℕ)) (old new : View) (was is : FolderView) (status : Status) : Type 0 where
@@ -41,11 +41,11 @@ pub record OnMachine (first : List ℕ) (tree : Content) (words : List (List ℕ
   pub serves : (turns : ℕ) → IsServe words turns → Tells_bytes new
       → (h : List Change) (settings : Settings) → IsValid h → HoldsHistory Stands h first → (state h).settings ≡ Some settings
       → (opened : Bool) × Serves Stands h settings opened old new turns status
-  -- The headlines of `ledger` and `snapshots`: the lines of the peers, or of the kept snapshots, at that history,
+  -- The headlines of `ledger` and `snapshots`: the lines of the peers with the rows of their debt, or of the kept snapshots, at that history,
   -- and nothing else is done.
   pub lists : IsLedger words → Tells_bytes new
       → (h : List Change) (settings : Settings) → IsValid h → HoldsHistory Stands h first → (state h).settings ≡ Some settings
-      → (opened : Bool) × Lists Stands h (peer_lines settings (state h)) opened old new status
+      → (opened : Bool) × Lists Stands h (ledger_lines settings (state h)) opened old new status
   pub shows : IsSnapshots words → Tells_bytes new
       → (h : List Change) → IsValid h → HoldsHistory Stands h first
       → (opened : Bool) × Lists Stands h (snapshot_lines (state h)) opened old new status

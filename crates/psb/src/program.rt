@@ -1,7 +1,7 @@
 //! The program, from the words that it was given to the code that ends the process.
 ghost use Rattle.std.specs.Prelude.{◌≡◌, ◌<◌, ◌∷◌, [], List, ℕ, drop, length, map, string_bytes};
 ghost use Rattle.std.specs.Process.{exit_status};
-ghost use Rattle.backup_cli.specs.Status.{code_of};
+ghost use Rattle.said_lines.specs.Status.{code_of};
 
 use crate::machine::run_on_machine;
 use backup_cli::Status;
@@ -55,7 +55,7 @@ where
     ghost use Rattle.psb_host.specs.HonestStation.{IsBegun};
     ghost use Rattle.psb_host.specs.OwnPaths.{disk_of, left_out_of};
     ghost use Rattle.psb.specs.OnMachine.{OnMachine};
-    ghost use Rattle.backup_cli.specs.declared.status.Status.{Status};
+    ghost use Rattle.said_lines.specs.declared.status.Status.{Status};
 
     /// For all words that were given, the program's own name in front. The node's file is at DISK, the second of
     /// them, and is no part of any folder. Nothing is opened yet.

@@ -28,7 +28,8 @@ use Rattle.psb_ledger.specs.View.{LedgerView, Mine, plain_state, IsMine, IsReach
 use Rattle.peer_account.specs.View.{named_row}
 use Rattle.peer_lists.specs.Entries.{in_order}
 use Rattle.own_chunks.specs.OwnList.{own_key, lifts, marks}
-use Rattle.psb_ledger.specs.Snapping.{change_of, count_of}
+use Rattle.own_chunks.specs.Snapshots.{count_of}
+use Rattle.psb_ledger.specs.Snapping.{change_of}
 use Rattle.psb_ledger.proofs.Spelled.{all_end}
 use Rattle.peer_lists.proofs.Ordered.{is_false}
 use Rattle.own_chunks.proofs.OwnTrees.{ordered_with, ordered_kept, ordered_marks}

@@ -14,3 +14,4 @@ pub mod Choosing
 pub mod Spelled
 pub mod Weights
 pub mod Discarding
+pub mod Needs

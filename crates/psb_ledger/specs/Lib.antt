@@ -1,4 +1,3 @@
 pub mod Moves
 pub mod Snapping
 pub mod View
-pub mod Discarding

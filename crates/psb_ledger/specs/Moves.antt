@@ -1,4 +1,4 @@
--- What the account of a peer's change needs, and what is left: for the functions that find the account.
+-- What the account of a peer's change needs, and what is left: for the functions that are handed its place.
 use Rattle.std.specs.Prelude.{◌≡◌, ◌==◌, ℕ, ◌+◌, ◌<◌, ◌≤◌, ◌^◌, Bool, not, ◌&&◌, if◌then◌else◌, List, [], ◌∷◌, map, set, length, get_or, option_to_list, Option, Some}
 use Rattle.psb_bytes.specs.declared.ids.Object.TheVariants.{Chunk, Slot}
 use Rattle.psb_model.specs.declared.entries.InState.{InState}

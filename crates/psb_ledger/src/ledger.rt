@@ -162,31 +162,34 @@ impl Ledger {
         requires may { IsTrue (allowed self.old.state c) }
         ensures { self.new.state ≡ after self.old.state c }
     {
+        // A change of a peer is handed the place of the peer's account.
+        let _issued = self.issued;
         match c {
             Change::Begun(x) => self.begin(&x.body),
             Change::Kept(x) => self.keep(&x),
             Change::Snapped(x) => self.snap(x),
             Change::Forgot(x) => self.forget(x.number),
-            Change::TookFresh(x) => self.take_fresh(&x),
-            Change::TookSwap(x) => self.take_swap(&x),
-            Change::LetGo(x) => self.let_go(&x),
-            Change::LetGoBack(x) => self.put_back(&x),
-            Change::Replaced(x) => self.replace(&x),
-            Change::Refused(x) => self.refuse(&x),
+            Change::TookFresh(x) => self.take_fresh(self.place_in(x.peer), &x),
+            Change::TookSwap(x) => self.take_swap(self.place_in(x.peer), &x),
+            Change::LetGo(x) => self.let_go(self.place_in(x.peer), &x),
+            Change::LetGoBack(x) => self.put_back(self.place_in(x.peer), &x),
+            Change::Replaced(x) => self.replace(self.place_in(x.peer), &x),
+            Change::Refused(x) => self.refuse(self.place_in(x.peer), &x),
             Change::Proposed(x) => self.propose(
+                self.place_in(x.peer),
                 x.peer,
                 Deal {
                     number: x.deal,
                     what: x.what,
                 },
             ),
-            Change::Settled(x) => self.settle(&x),
-            Change::Turned(x) => self.turn(&x),
-            Change::Asked(x) => self.ask(x),
-            Change::Passed(x) => self.pass(&x),
-            Change::Failed(x) => self.fail(&x),
-            Change::Declined(x) => self.decline(&x),
-            Change::Discarded(x) => self.discard(&x),
+            Change::Settled(x) => self.settle(self.place_in(x.peer), &x),
+            Change::Turned(x) => self.turn(self.place_in(x.peer), &x),
+            Change::Asked(x) => self.ask(self.place_in(x.peer), x),
+            Change::Passed(x) => self.pass(self.place_in(x.peer), &x),
+            Change::Failed(x) => self.fail(self.place_in(x.peer), &x),
+            Change::Declined(x) => self.decline(self.place_in(x.peer), &x),
+            Change::Discarded(x) => self.discard(self.place_in(x.peer), &x),
             Change::Chose(x) => self.choose(x.candidates.as_slice()),
         }
     }

@@ -13,7 +13,7 @@ use Rattle.psb_model.proofs.ByObject.{by_cases}
 use Rattle.wire_codec.specs.Frames.{Incoming, read_frame, key_in}
 use Rattle.wire_codec.specs.declared.frame.Dropped.{Dropped}
 use Rattle.psb_machine.specs.Letters.{keys_of}
-use Rattle.psb_machine.specs.Volatile.{of_peer, later, PeerState}
+use Rattle.psb_machine.specs.Volatile.{of_peer, later}
 use Rattle.psb_machine.specs.Deals.{standing, Deal, judged_at, meets_others}
 use Rattle.psb_machine.specs.Messages.{Sender, Message, Deals, Replies, Gets, Asks, Tells, Probes, Proves, Declines, message_of}
 use Rattle.psb_machine.specs.Gets.{has_chunk}
@@ -23,7 +23,7 @@ use Rattle.psb_machine.specs.Sampling.{open_question, answers}
 use Rattle.psb_machine.specs.declared.snap_note.SnapNote.{SnapNote}
 use Rattle.psb_machine.specs.declared.deals.Standing.{Standing}
 use Rattle.psb_machine.specs.declared.deals.Standing.TheVariants.{Fresh, Repeat, Stale, Gap}
-use Rattle.psb_machine.specs.Machine.{Situation, Input, Datagram, Tick, Keep, Snap, Forget, Reaction, Rule, passes, then_by, quiet, by_standing, on_deal, by_settled, on_message, by_message, on_read, on_datagram, on_keep, on_forget, kept_with, snapped_with, has_snapshot, choice_at, choice_of, by_choice, offer_by, offer_at, grown_by, by_offer, rules, by_key, on_tick, react}
+use Rattle.psb_machine.specs.Machine.{Situation, Input, Datagram, Tick, Keep, Snap, Forget, Reaction, Rule, then_by, quiet, by_standing, by_settled, on_message, by_message, on_read, on_datagram, kept_with, snapped_with, has_snapshot, choice_at, choice_of, by_choice, offer_by, offer_at, grown_by, by_offer, by_key, on_tick, react}
 use Rattle.psb_machine.proofs.Taken.{either_none}
 
 -- with its settings the machine reads the datagram

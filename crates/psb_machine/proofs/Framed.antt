@@ -4,16 +4,17 @@ use Rattle.std.specs.List.{list_all}
 use Rattle.std.proofs.lemmas.Bool.{and_parts, leb-true, lt-ltb}
 use Rattle.std.proofs.lemmas.List.{length-map}
 use Rattle.psb_bytes.specs.declared.lists.SlotClaim.{SlotClaim}
+use Rattle.psb_bytes.specs.declared.ids.Object.{Object}
 use Rattle.psb_model.specs.Grammar.{ascend, is_u8, is_u32, is_u64}
-use Rattle.wire_codec.specs.Fields.{within, ascends, is_digest, is_claim, are_slots, are_claims, are_names, is_text, are_bytes}
+use Rattle.wire_codec.specs.Fields.{within, ascends, is_digest, is_claim, are_slots, are_claims, are_names, is_object, are_objects, is_text, are_bytes}
 use Rattle.wire_codec.specs.Frames.{fits}
 use Rattle.wire_codec.specs.declared.frame.Frame.{Frame}
 use Rattle.wire_codec.specs.declared.frame.Frame.TheVariants as frame
-use Rattle.wire_codec.specs.declared.limits.TheConstants.{MOST_SLOTS, CLAIM_BYTES}
+use Rattle.wire_codec.specs.declared.limits.TheConstants.{MOST_SLOTS, MOST_OBJECTS, CLAIM_BYTES}
 use Rattle.psb_bytes.specs.declared.limits.TheConstants.{LAST_REASON}
 use Rattle.psb_machine.specs.Deals.{Deal, StoreFresh, StoreSwap, Cancel, PutBack, deal_of, slots_of}
 use Rattle.psb_machine.specs.Settling.{Reply, Accepts, Refuses, replied_by}
-use Rattle.psb_machine.specs.Messages.{Message, Deals, Replies, Asks, message_of}
+use Rattle.psb_machine.specs.Messages.{Message, Deals, Replies, Asks, Probes, message_of}
 use Rattle.psb_machine.specs.Judging.{SlotsFit, SwapFits, CancelFits, PutBackFits, DealFits, ReplyFits, MessageFits}
 
 -- a frame that was read
@@ -144,8 +145,24 @@ ask_names (frame.Ask s ns) salt names fit is =
     subst (λ l. are_names l ≡ true) names_are (and_parts (is_digest s) (are_names ns) fit).1
 ask_names _ salt names fit is = absurd (cc (is))
 
+few_objects : (objects : List Object) → are_objects objects ≡ true → length objects ≤ MOST_OBJECTS
+few_objects objects h =
+    let a = and_parts (within 1 MOST_OBJECTS (length objects)) (list_all is_object objects) h in
+    leb-true (length objects) MOST_OBJECTS (and_parts (nat_le 1 (length objects)) (nat_le (length objects) MOST_OBJECTS) a.0).1
+
+-- what a probe has: its nonce is one, and its objects are so many
+pub probe_parts : (f : Frame) (nonce : List ℕ) (objects : List Object) → fits f ≡ true → message_of f ≡ Some (Probes nonce objects) → (is_digest nonce ≡ true) × (length objects ≤ MOST_OBJECTS)
+probe_parts (frame.Probe m os) nonce objects fit is =
+    let same : Probes m os ≡ Probes nonce objects = cc (is) in
+    let nonce_is : m ≡ nonce = ap (λ (y : Message). elim y [ Probes a b ↦ a | _ ↦ m ]) same in
+    let objects_are : os ≡ objects = ap (λ (y : Message). elim y [ Probes a b ↦ b | _ ↦ os ]) same in
+    let two = and_parts (is_digest m) (are_objects os) fit in
+    (subst (λ l. is_digest l ≡ true) nonce_is two.0, subst (λ (l : List Object). length l ≤ MOST_OBJECTS) objects_are (few_objects os two.1))
+probe_parts _ nonce objects fit is = absurd (cc (is))
+
 pub message_fits : (p number : ℕ) (f : Frame) (m : Message) → FrameFits p number f → message_of f ≡ Some m → MessageFits (record { peer = p; number = number }) m
 message_fits p number f (Deals deal) fit is = deal_message p number f deal fit is
 message_fits p number f (Replies reply) fit is = (fit.peer, fit.number_fits, reply_message p number f reply fit is)
 message_fits p number f (Asks salt names) fit is = few_names names (ask_names f salt names (fit.frame_is) is)
+message_fits p number f (Probes nonce objects) fit is = (probe_parts f nonce objects fit.frame_is is).1
 message_fits p number f _ fit is = tt

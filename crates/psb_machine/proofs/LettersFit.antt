@@ -6,6 +6,7 @@ use Rattle.std.proofs.Math.Nat.{pow-suc}
 use Rattle.std.proofs.Math.Pow.{pow_mono}
 use Rattle.psb_bytes.specs.Units.{units}
 use Rattle.psb_bytes.specs.Numbers.{AreBytes}
+use Rattle.psb_bytes.specs.declared.ids.Object.{Object}
 use Rattle.psb_settings.specs.declared.settings.Settings.{Settings}
 use Rattle.psb_model.specs.Words.{In}
 use Rattle.psb_model.specs.declared.deals.Deal.{Deal as OwnDeal}
@@ -35,6 +36,7 @@ use Rattle.psb_machine.specs.Deals.{Deal, standing, judged, judged_at, clashes, 
 use Rattle.psb_machine.specs.Judging.{reasons_at, taken_at}
 use Rattle.psb_machine.specs.Messages.{Sender, Message, Deals, Replies, Gets, Asks, Tells, Probes, Proves, Declines, message_of}
 use Rattle.psb_machine.specs.Gets.{has_chunk}
+use Rattle.psb_machine.specs.Probing.{proof_of}
 use Rattle.psb_machine.specs.Replies.{reply, reply_of, is_answerable, claims_from}
 use Rattle.psb_machine.specs.Settling.{settle}
 use Rattle.psb_machine.specs.Proposals.{Offer, frame_of, letter_of, is_askable, units_there}
@@ -50,13 +52,14 @@ use Rattle.psb_machine.proofs.Lasts.{IsAnswered, last_there}
 use Rattle.psb_machine.proofs.Taken.{deal_may}
 use Rattle.psb_machine.proofs.Valid.{codes_are, judged_deal_valid}
 use Rattle.psb_machine.proofs.Peers.{keyed_is_peer, settings_read}
-use Rattle.psb_machine.proofs.Framed.{FrameFits, deal_message, message_fits}
+use Rattle.psb_machine.proofs.Framed.{FrameFits, deal_message, probe_parts, message_fits}
 use Rattle.psb_machine.proofs.Causes.{offer_cases}
 use Rattle.psb_machine.proofs.Ticking.{offer_askable, proposed_may}
 use Rattle.psb_machine.proofs.ClaimFits.{claims_fit, accepted_fits}
 use Rattle.psb_machine.proofs.Whole.{frame_read_fits}
 use Rattle.psb_machine.proofs.Brought.{last_text}
 use Rattle.psb_machine.proofs.Asking.{question_fits}
+use Rattle.psb_machine.proofs.ProbeFits.{proof_fits}
 
 -- its number fits the field, or is that of a question's change
 abbrev pub IsQuestion : List Change → Letter → Type 0
@@ -159,6 +162,15 @@ bits_small test (n ∷ ns) = omega (arith, bit_small (test n), bits_small test n
 few_bits : (test : List ℕ → Bool) (names : List (List ℕ)) → length names ≤ 32 → is_u32 (bits_of test names) ≡ true
 few_bits test names few = lt-ltb (bits_of test names) (2 ^ 32) (omega (arith, bits_small test names, pow_mono few))
 
+-- ---- a proof
+
+proof_letters : (settings : Settings) (h : List Change) (from : Sender) (nonce : List ℕ) (objects : List Object) (f : Frame) → FrameFits from.peer from.number f → message_of f ≡ Some (Probes nonce objects)
+    → (o : Option Frame) → proof_of settings h from.peer nonce objects ≡ o → LettersFit h (option_to_list (option_map (letter_of from.peer from.number) o))
+proof_letters settings h from nonce objects f fit is None made = tt
+proof_letters settings h from nonce objects f fit is (Some answer) made =
+    let parts = probe_parts f nonce objects fit.frame_is is in
+    (fitting h from.peer from.number answer fit.peer fit.number_fits (proof_fits settings h from.peer nonce objects answer parts.0 parts.1 made), tt)
+
 -- ---- a message
 
 either_letters : (h : List Change) (b : Bool) (r q : Reaction) → LettersFit h r.letters → LettersFit h q.letters → LettersFit h (if b then r else q).letters
@@ -180,7 +192,7 @@ message_letters settings n from (Asks salt names) f v present peer fit is =
     let few : length names ≤ 32 = message_fits from.peer from.number f (Asks salt names) fit is in
     (fitting n.history from.peer from.number (frame.Sample salt (bits_of (is_held (state n.history)) names)) fit.peer fit.number_fits (rw (ask_salt f salt names fit.frame_is is, few_bits (is_held (state n.history)) names few) refl), tt)
 message_letters settings n from (Tells salt bits) f v present peer fit is = either_letters n.history (answers (open_question (state n.history)) salt bits) (keeps from.peer bits) quiet tt tt
-message_letters settings n from (Probes nonce objects) f v present peer fit is = tt
+message_letters settings n from (Probes nonce objects) f v present peer fit is = proof_letters settings n.history from nonce objects f fit is (proof_of settings n.history from.peer nonce objects) refl
 message_letters settings n from (Proves nonce value) f v present peer fit is = tt
 message_letters settings n from (Declines nonce places) f v present peer fit is = tt
 

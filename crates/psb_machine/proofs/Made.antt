@@ -15,7 +15,7 @@ use Rattle.psb_model.specs.declared.deals.DealWhat.TheVariants as own
 use Rattle.psb_model.specs.declared.change.Change.{Change}
 use Rattle.psb_model.specs.declared.change.Change.TheVariants.{Proposed}
 use Rattle.psb_model.specs.Words.{all_of, name_listed}
-use Rattle.psb_model.specs.State.{State, row, own_has, used}
+use Rattle.psb_model.specs.State.{State, row, used}
 use Rattle.psb_model.specs.Conditions.{most_claims, tests}
 use Rattle.psb_model.specs.Proposing.{ProposeFacts, as_many, slots_to_give, may_release, cancel, put_back, release_of, release, slots_to_fill, is_missing, swap, fresh, place_of, first_place, place, proposal}
 use Rattle.psb_model.specs.History.{state}

@@ -1,12 +1,11 @@
 -- The settings stay what they are while inputs come.
 use Rattle.std.proofs.Common.{◌≡◌, ℕ, option_to_list, List, [], ◌∷◌, Option, Some, None, refl, ◌∙◌, ap, subst}
-use Rattle.psb_settings.specs.declared.settings.Settings.{Settings}
 use Rattle.psb_model.specs.State.{State, nothing_yet}
 use Rattle.psb_model.specs.Effects.{after}
 use Rattle.psb_model.specs.History.{state, state_from}
 use Rattle.psb_model.specs.declared.change.Change.{Change}
 use Rattle.psb_model.proofs.Prefixes.{state_app}
-use Rattle.psb_machine.specs.Deals.{first_that_holds, judged, clashes, Deal, StoreFresh, StoreSwap, Cancel, PutBack, judged_at}
+use Rattle.psb_machine.specs.Deals.{first_that_holds, judged, clashes, Deal, StoreFresh, StoreSwap, Cancel, PutBack}
 use Rattle.psb_machine.specs.Settling.{Reply, Accepts, Refuses, answers_deal}
 use Rattle.psb_machine.specs.Judging.{reasons_at, taken_at}
 use Rattle.psb_machine.specs.Machine.{Situation, Input, changes_of, react, next}

@@ -1,5 +1,5 @@
 -- A deal that a tick offers can be spelled; what is proposed may be made.
-use Rattle.std.proofs.Common.{◌≡◌, ℕ, ◌+◌, ◌^◌, true, false, ◌==◌, List, [], ◌∷◌, ◌++◌, option_map, option_to_list, Option, Some, None, refl, sym, ap, ◌∙◌, subst, arith}
+use Rattle.std.proofs.Common.{◌≡◌, ℕ, ◌+◌, ◌^◌, true, List, [], ◌∷◌, ◌++◌, Some, None, refl, sym, ap, subst, arith}
 use Rattle.std.proofs.lemmas.Bool.{lt-ltb}
 use Rattle.psb_settings.specs.declared.settings.Settings.{Settings}
 use Rattle.psb_model.specs.State.{row, is_peer}
@@ -8,12 +8,9 @@ use Rattle.psb_model.specs.Conditions.{capacity}
 use Rattle.psb_model.specs.Proposing.{proposal}
 use Rattle.psb_model.specs.History.{state}
 use Rattle.psb_model.specs.Needed.{IsValid}
-use Rattle.psb_model.specs.declared.deals.Deal.{Deal}
-use Rattle.psb_model.specs.declared.entries.Candidate.{Candidate}
 use Rattle.psb_model.specs.declared.deals.DealWhat.{DealWhat}
 use Rattle.psb_model.specs.declared.change.Change.{Change}
-use Rattle.psb_model.specs.declared.change.Change.TheVariants.{Proposed, Chose}
-use Rattle.psb_model.proofs.ByObject.{by_cases}
+use Rattle.psb_model.specs.declared.change.Change.TheVariants.{Proposed}
 use Rattle.model_laws.proofs.Bodies.{valid_snoc}
 use Rattle.psb_model.proofs.Steady.{steady_state}
 use Rattle.model_laws.proofs.Fitting.{fit_state}

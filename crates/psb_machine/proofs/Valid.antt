@@ -1,5 +1,5 @@
 -- What the machine makes of a valid history is valid.
-use Rattle.std.proofs.Common.{◌≡◌, ℕ, ◌+◌, ◌≤◌, ◌^◌, Bool, true, false, not, ◌==◌, nat_le, cond, if◌then◌else◌, option_map, ◌||◌, sum_by, List, [], ◌∷◌, ◌++◌, length, Option, Some, None, Result, Ok, Err, refl, sym, ap, subst, arith}
+use Rattle.std.proofs.Common.{◌≡◌, ℕ, ◌+◌, ◌≤◌, ◌^◌, Bool, true, false, not, ◌==◌, nat_le, cond, sum_by, List, [], ◌∷◌, ◌++◌, length, Option, Some, None, refl, sym, ap, subst, arith}
 use Rattle.std.specs.List.{list_all}
 use Rattle.std.proofs.lemmas.Bool.{lt-ltb, eq-eqb, le-leb}
 use Rattle.std.proofs.lemmas.List.{append-nil}
@@ -15,7 +15,7 @@ use Rattle.psb_model.specs.State.{State, row, in_key, in_size, out_key, debt_uni
 use Rattle.psb_model.specs.Grammar.{in_grammar, is_u8, is_u32, is_u64, is_count}
 use Rattle.psb_model.specs.Conditions.{capacity, is_next_deal, allowed}
 use Rattle.psb_model.specs.History.{state}
-use Rattle.psb_model.specs.Needed.{brings_right, last_brought, IsValid}
+use Rattle.psb_model.specs.Needed.{brings_right, IsValid}
 use Rattle.psb_model.specs.declared.change.Change.{Change}
 use Rattle.psb_model.specs.declared.change.Change.TheVariants.{Kept, Forgot, Refused}
 use Rattle.psb_model.proofs.Steady.{steady_state, use_within}

@@ -1,5 +1,5 @@
 -- The laws of the machine.
-use Rattle.std.proofs.Common.{◌≡◌, ℕ, ◌≤◌, ◌+◌, ◌^◌, ◌||◌, Bool, true, false, if◌then◌else◌, slice_get, option_map, option_to_list, is_some, List, [], ◌∷◌, ◌++◌, length, Option, Some, None, Result, Ok, Err, refl, sym, ap, ◌∙◌, subst, arith, length-append}
+use Rattle.std.proofs.Common.{◌≡◌, ℕ, ◌≤◌, ◌+◌, ◌^◌, ◌||◌, Bool, true, false, if◌then◌else◌, slice_get, option_map, option_to_list, is_some, List, [], ◌++◌, length, Option, Some, None, Result, Ok, Err, refl, subst, arith, length-append}
 use Rattle.std.proofs.lemmas.Bool.{lt-ltb}
 use Rattle.std.proofs.lemmas.List.{append-nil}
 use Rattle.psb_bytes.specs.Numbers.{AreBytes}
@@ -8,27 +8,26 @@ use Rattle.psb_model.specs.State.{row, own_has}
 use Rattle.psb_model.specs.History.{state}
 use Rattle.psb_model.specs.Needed.{last_brought, IsValid}
 use Rattle.psb_model.specs.declared.change.Change.{Change}
-use Rattle.psb_model.specs.declared.change.Change.TheVariants.{Forgot, Proposed}
-use Rattle.psb_model.specs.declared.deals.DealWhat.{DealWhat}
+use Rattle.psb_model.specs.declared.change.Change.TheVariants.{Forgot}
 use Rattle.psb_model.specs.declared.entries.Candidate.{Candidate}
-use Rattle.psb_model.proofs.ByObject.{by_cases}
 use Rattle.model_laws.proofs.Bodies.{valid_snoc}
 use Rattle.wire_codec.specs.Frames.{Incoming, read_frame, key_in}
 use Rattle.wire_codec.specs.declared.frame.Dropped.{Dropped}
 use Rattle.wire_codec.proofs.FrameLaws.{takes}
 use Rattle.psb_machine.specs.Letters.{Letter, keys_of}
-use Rattle.psb_machine.specs.Deals.{standing, clashes, meets_others, Deal, judged_at}
+use Rattle.psb_machine.specs.Deals.{standing, clashes, meets_others, judged_at}
 use Rattle.psb_machine.specs.Messages.{Sender, Message, Deals, Replies, Gets, Asks, Tells, Probes, Proves, Declines, message_of}
 use Rattle.psb_machine.specs.Gets.{has_chunk}
+use Rattle.psb_machine.specs.Probing.{proof_of}
 use Rattle.psb_machine.specs.Replies.{reply}
 use Rattle.psb_machine.specs.Settling.{settle}
 use Rattle.psb_machine.specs.Proposals.{Offer, frame_of, letter_of}
 use Rattle.psb_machine.specs.Sampling.{open_question, question_to, questions, answers}
-use Rattle.psb_machine.specs.Machine.{Situation, Input, Datagram, Tick, Keep, Snap, Forget, Reaction, Rule, passes, sends, then_by, quiet, grows, keeps, answers_with, kept_with, snapped_with, has_snapshot, settled, react, by_standing, on_message, by_message, on_read, on_datagram, here, sample_to, by_settled, choice_at, by_choice, offer_at, by_offer, rules, by_key, on_tick}
+use Rattle.psb_machine.specs.Machine.{Situation, Input, Datagram, Tick, Keep, Snap, Forget, Reaction, Rule, sends, then_by, quiet, grows, answers_with, kept_with, snapped_with, has_snapshot, settled, react, by_standing, on_message, by_message, on_read, on_datagram, here, sample_to, by_settled, choice_at, by_choice, offer_at, by_offer, rules, by_key, on_tick}
 use Rattle.psb_machine.specs.declared.deals.Standing.{Standing}
 use Rattle.psb_machine.specs.declared.deals.Standing.TheVariants.{Fresh, Repeat, Stale, Gap}
 use Rattle.psb_machine.specs.Laws.{Fits, KeepFits, SnapFits, TickFits, KeepsValid, AllTellLittle}
-use Rattle.psb_machine.proofs.Causes.{Causes, caused}
+use Rattle.psb_machine.proofs.Causes.{caused}
 use Rattle.psb_machine.proofs.Framed.{FrameFits, deal_message, reply_message}
 use Rattle.psb_machine.proofs.Standings.{fresh_is_next}
 use Rattle.psb_machine.proofs.Peers.{keyed_is_peer}
@@ -115,7 +114,7 @@ message_little settings n from (Replies reply) = settled_little n (settle (state
 message_little settings n from (Gets name) = either_little n (has_chunk (state n.history) from.peer name) _ quiet (answer_little n (option_map (here from name) (last_brought name n.history))) (quiet_little n)
 message_little settings n from (Asks salt names) = answer_little n (Some (sample_to (state n.history) from salt names))
 message_little settings n from (Tells salt bits) = either_little n (answers (open_question (state n.history)) salt bits) _ quiet (record { most = omega arith; letters = λ is. refl; same = λ is. absurd (cc) }) (quiet_little n)
-message_little settings n from (Probes nonce objects) = quiet_little n
+message_little settings n from (Probes nonce objects) = answer_little n (option_map (letter_of from.peer from.number) (proof_of settings n.history from.peer nonce objects))
 message_little settings n from (Proves nonce value) = quiet_little n
 message_little settings n from (Declines nonce places) = quiet_little n
 

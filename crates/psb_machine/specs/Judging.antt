@@ -8,10 +8,10 @@ use Rattle.psb_model.specs.Grammar.{ascend, is_u8, is_u32, is_u64, is_digest}
 use Rattle.psb_model.specs.State.{State}
 use Rattle.psb_model.specs.declared.change.Change.{Change}
 use Rattle.wire_codec.specs.Fields.{is_claim}
-use Rattle.wire_codec.specs.declared.limits.TheConstants.{MOST_SLOTS}
+use Rattle.wire_codec.specs.declared.limits.TheConstants.{MOST_SLOTS, MOST_OBJECTS}
 use Rattle.psb_machine.specs.Deals.{Deal, StoreFresh, StoreSwap, Cancel, PutBack, slots_of, is_new, reasons, takes, judge, facts_at}
 use Rattle.psb_machine.specs.Settling.{Reply, Accepts, Refuses}
-use Rattle.psb_machine.specs.Messages.{Sender, Message, Deals, Replies, Asks}
+use Rattle.psb_machine.specs.Messages.{Sender, Message, Deals, Replies, Asks, Probes}
 use Rattle.psb_machine.specs.Sampling.{most_asked}
 use Rattle.psb_machine.specs.declared.deals.Refusal.{Refusal}
 
@@ -64,11 +64,12 @@ abbrev pub ReplyFits : Reply → Type 0
 ReplyFits (Accepts claims) = SlotsFit (slots_of claims) × (list_all is_claim claims ≡ true)
 ReplyFits (Refuses why detail) = (is_u8 why ≡ true) × (is_u64 detail ≡ true)
 
--- what a message has whose parts matter to what is made of it; a question has at most so many names
+-- what a message has whose parts matter to what is made of it; a question has at most so many names, or objects
 abbrev pub MessageFits : Sender → Message → Type 0
 MessageFits from (Deals deal) = DealFits from.peer from.number deal
 MessageFits from (Replies reply) = (is_u32 from.peer ≡ true) × (is_u64 from.number ≡ true) × ReplyFits reply
 MessageFits from (Asks salt names) = length names ≤ most_asked
+MessageFits from (Probes nonce objects) = length objects ≤ MOST_OBJECTS
 MessageFits from _ = Unit {0}
 
 -- the chunk that it brings, if it brings one, is no longer than a chunk may be

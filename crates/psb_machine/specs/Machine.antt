@@ -14,13 +14,13 @@ use Rattle.psb_model.specs.declared.entries.Candidate.{Candidate}
 use Rattle.psb_model.specs.declared.deals.Deal.{Deal as OwnDeal}
 use Rattle.wire_codec.specs.Frames.{Incoming, read_frame, key_in}
 use Rattle.wire_codec.specs.declared.frame.Dropped.{Dropped}
-use Rattle.wire_codec.specs.declared.frame.Frame.{Frame}
 use Rattle.wire_codec.specs.declared.frame.Frame.TheVariants.{Here, Sample}
 use Rattle.psb_machine.specs.Letters.{Letter, keys_of, all_spelled}
 use Rattle.psb_machine.specs.Volatile.{Volatile, empty, PeerState, of_peer, later, Note, Nothing, Ticked, Sampled, noted, by_changes}
 use Rattle.psb_machine.specs.Deals.{standing, Deal, judged_at, meets_others}
 use Rattle.psb_machine.specs.Messages.{Sender, Message, Deals, Replies, Gets, Asks, Tells, Probes, Proves, Declines, message_of}
 use Rattle.psb_machine.specs.Gets.{has_chunk}
+use Rattle.psb_machine.specs.Probing.{proof_of}
 use Rattle.psb_machine.specs.Replies.{reply}
 use Rattle.psb_machine.specs.Settling.{Reply, settle}
 use Rattle.psb_machine.specs.Proposals.{Offer, proposed_at, letter_of, deal_letters, is_even}
@@ -126,14 +126,19 @@ on_ask n from salt names = answers_with (Some (sample_to (state n.history) from 
 abbrev pub on_told : Situation → Sender → List ℕ → ℕ → Reaction
 on_told n from salt bits = if answers (open_question (state n.history)) salt bits then keeps from.peer bits else quiet
 
--- So far nothing comes of a probe, of its proof, and of what is declined.
+-- A peer that asks for a proof of what the node has for it gets that, or the places of what is missing, under the
+-- number of its question.
+abbrev pub on_probe : Settings → Situation → Sender → List ℕ → List Object → Reaction
+on_probe settings n from nonce objects = answers_with (option_map (letter_of from.peer from.number) (proof_of settings n.history from.peer nonce objects))
+
+-- So far nothing comes of a proof, and of what is declined: no node asks for one.
 abbrev pub on_message : Settings → Situation → Sender → Message → Reaction
 on_message settings n from (Deals deal) = on_deal settings n from deal
 on_message settings n from (Replies reply) = on_reply n from reply
 on_message settings n from (Gets name) = on_get n from name
 on_message settings n from (Asks salt names) = on_ask n from salt names
 on_message settings n from (Tells salt bits) = on_told n from salt bits
-on_message settings n from (Probes nonce objects) = quiet
+on_message settings n from (Probes nonce objects) = on_probe settings n from nonce objects
 on_message settings n from (Proves nonce value) = quiet
 on_message settings n from (Declines nonce places) = quiet
 

@@ -8,13 +8,12 @@ ghost use Rattle.wire_codec.specs.Frames.{key_in};
 ghost use Rattle.psb_machine.specs.Sampling.{question_of, open_question, questions};
 ghost use Rattle.psb_machine.specs.Machine.{Situation, choice_at, choice_of};
 ghost use Rattle.psb_machine.specs.Letters.{spelled};
-ghost use Rattle.node_core.specs.PeerStates.{state_of};
+ghost use Rattle.peer_states.specs.PeerStates.{state_of};
 
 use super::Node;
-use crate::choosing::candidates_of;
-use crate::peer_state::PeerState;
 use node_journal::Log;
 use node_letters::{Letter, ask_frame, letter_to};
+use peer_states::{PeerState, candidates_of};
 use psb_bytes::{Memory, PeerId};
 use psb_model::Change;
 use sampling::{Question, choose, has_names, is_ready, question_of};

@@ -11,33 +11,34 @@ ghost use Rattle.psb_machine.specs.Deals.{is_compared, judge};
 ghost use Rattle.psb_machine.specs.Gets.{has_chunk};
 ghost use Rattle.psb_machine.specs.Judging.{IsShort};
 ghost use Rattle.psb_machine.specs.Machine.{Situation, Datagram, Forget, react};
-ghost use Rattle.psb_machine.specs.Messages.{Deals, Replies, Gets, Asks, Tells};
+ghost use Rattle.psb_machine.specs.Messages.{Deals, Replies, Gets, Asks, Tells, Probes};
+ghost use Rattle.node_facts.specs.Probed.{Lacks};
 ghost use Rattle.psb_machine.specs.Sampling.{open_question, bits_of, answers};
 ghost use Rattle.psb_machine.specs.Settling.{settle};
 ghost use Rattle.psb_machine.specs.Volatile.{Nothing, Sampled};
 
 use super::Node;
-use crate::facts::facts_of;
-use crate::peer_state::Note;
 use crate::reaction::{Reaction, made, no_letter, noted, one_letter, quiet};
-use crate::repeats::reply_again;
 use crate::{Fault, Input};
 use chunk_store::Owner;
 use deals::{AnswerView, DealView, Facts, ReplyView, Standing, standing};
+use node_facts::{Holdings, facts_of, proof_for, reply_again};
 use node_journal::Log;
 use node_letters::{Message, Reading, Sender, answer_to, here_to, reply_to, sample_frame};
+use peer_states::Note;
 use psb_bytes::Digest;
 use psb_station::Disk;
 use sampling::{is_answer_to, sample_of};
-use wire_codec::{MOST_BYTES, NamesView};
+use wire_codec::{MOST_BYTES, NamesView, ObjectsView};
 
 impl<L: Log> Node<L> {
     ghost use Rattle.node_letters.specs.Letters.{letters_of};
     ghost use Rattle.node_letters.specs.Messages.{sender_in, message_in};
     ghost use Rattle.deals.specs.Views.{answer_in, deal_in, facts_in};
     ghost use Rattle.node_core.specs.Inputs.{input_of, is_own};
-    ghost use Rattle.node_core.specs.PeerStates.{note_in};
-    ghost use Rattle.node_core.specs.Making.{CanMake, CanTell, IsNext, made_of, made_in, why_refused};
+    ghost use Rattle.peer_states.specs.PeerStates.{note_in};
+    ghost use Rattle.node_facts.specs.Refused.{why_refused};
+    ghost use Rattle.node_core.specs.Making.{CanMake, CanTell, IsNext, made_of, made_in};
     ghost use Rattle.node_core.specs.Stored.{Knows, Stored, IsCounted};
     ghost use Rattle.node_core.specs.Unread.{IsUnread, IsUnreadMessage, IsCertain};
     ghost use Rattle.node_core.specs.Refusing.{IsApt, is_refused, when_taken, IsHeldAs, Refuses};
@@ -110,8 +111,8 @@ impl<L: Log> Node<L> {
         }
     }
 
-    /// What the machine makes of a message of a peer. So far nothing comes of a probe, of its proof, and of what is
-    /// declined.
+    /// What the machine makes of a message of a peer. So far nothing comes of a proof, and of what is declined: the
+    /// node asks for none.
     fn on_message<D: Disk>(
         &mut self,
         disk: &mut D,
@@ -140,9 +141,8 @@ impl<L: Log> Node<L> {
             Message::Get(name) => self.on_get(disk, sender, &name),
             Message::Ask { salt, names } => self.on_ask(sender, &salt, &names),
             Message::Sample { salt, bits } => self.on_told(sender, &salt, bits),
-            Message::Probe { .. } | Message::Proof { .. } | Message::Declined { .. } => {
-                Ok(quiet(self.alloc, None))
-            }
+            Message::Probe { nonce, objects } => self.on_probe(disk, sender, &nonce, &objects),
+            Message::Proof { .. } | Message::Declined { .. } => Ok(quiet(self.alloc, None)),
         }
     }
 
@@ -221,6 +221,44 @@ impl<L: Log> Node<L> {
             return Ok(quiet(self.alloc, None));
         }
         self.give(disk, sender, name)
+    }
+
+    /// Answers a peer that asks for a proof of what the node has for it.
+    fn on_probe<D: Disk>(
+        &mut self,
+        disk: &mut D,
+        sender: &Sender,
+        nonce: &Digest,
+        objects: &ObjectsView<'_>,
+    ) -> Result<Reaction, Fault>
+        requires whole { L.is_broken self.old.log ≡ false }
+        requires known { (n : Situation) × Knows self.old n }
+        requires counted { IsCounted L.size L.keeps_body self.old }
+        requires heard { Heard self.old.peers.keys sender.now (Probes nonce.now objects.now) }
+        ensures exact { IfOk result (λ r. Tells_bytes (D.view disk.new) → (n : Situation) → Knows self.old n → Stored L.holds self.old n.history (D.view disk.old)
+            → Hears r n (sender_in sender.now) (Probes nonce.now objects.now)) }
+        ensures unread { IfOk result (λ r. (n : Situation) → Knows self.old n → Lacks (state n.history) sender.now.peer objects.now → Hears r n (sender_in sender.now) (Probes nonce.now objects.now)) }
+        ensures none { IfOk result IsPlain }
+        ensures rests { (n : Situation) → Knows self.old n → Lacks (state n.history) sender.now.peer objects.now → disk.new ≡ disk.old }
+        ensures same { IsSame self.old self.new }
+        ensures looked { Looked (result ≡ Err Fault.DiskFault) (D.view disk.old) (D.view disk.new) }
+        ensures reads { (D.view disk.new).write_faults ≡ (D.view disk.old).write_faults }
+        ensures only { OnErr result ((result ≡ Err Fault.DiskFault) ⊎ (result ≡ Err Fault.Memory)) }
+    {
+        let alloc = self.alloc;
+        let held = Holdings {
+            ledger: self.ledger.ledger(),
+            names: &self.names,
+            slots: &self.slots,
+        };
+        let log = &mut self.log;
+        let claims = &mut self.claims;
+        let peer = sender.peer;
+        let Some(proof) = proof_for(alloc, log, disk, &held, claims, peer, nonce, objects)? else {
+            return Ok(quiet(alloc, None));
+        };
+        let letter = answer_to(alloc, &proof, self.peers.own().id, sender)?;
+        Ok(made(None, one_letter(alloc, letter)?))
     }
 
     /// Answers a Get with the bytes that are held under its name.

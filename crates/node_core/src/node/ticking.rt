@@ -19,10 +19,10 @@ ghost use Rattle.psb_machine.specs.Machine.{Situation, Tick, grown_by, react};
 use super::Node;
 use crate::Fault;
 use crate::offering::{Offer, offer_at, proposed};
-use crate::peer_state::{PeerState, state_of};
 use crate::reaction::{Reaction, made, no_letter, one_letter, quiet, ticked, with_letter};
 use node_journal::Log;
 use node_letters::{Outbox, cancel_of, letter_to, put_back_of, store_of};
+use peer_states::{PeerState, state_of};
 use psb_bytes::{Digest, Memory, Object, PeerId};
 use psb_model::{Deal, DealWhat};
 use psb_station::Disk;
@@ -30,7 +30,7 @@ use wire_codec::{Frame, MOST_BYTES};
 
 impl<L: Log> Node<L> {
     ghost use Rattle.node_letters.specs.Letters.{letters_of};
-    ghost use Rattle.node_core.specs.PeerStates.{state_of};
+    ghost use Rattle.peer_states.specs.PeerStates.{state_of};
     ghost use Rattle.node_core.specs.Ticking.{offer_in, IsBare, Follows, FollowsSo, OffersDeal, OffersDealSo};
     ghost use Rattle.node_core.specs.Stored.{Knows, Stored, IsCounted};
     ghost use Rattle.node_core.specs.Unread.{IsUnread};

@@ -1,51 +1,15 @@
 //! What a ledger makes of own chunks: they are kept, a snapshot lists them, and they are forgotten.
 
-ghost use Rattle.std.specs.Prelude.{◌≡◌, ◌+◌, ◌<◌, ◌≤◌, ◌^◌, ◌==◌, ◌∷◌, [], true, OnOk};
-ghost use Rattle.std.specs.List.{list_all};
+ghost use Rattle.std.specs.Prelude.{◌≡◌, ◌<◌, ◌≤◌, ◌^◌, true, OnOk};
 ghost use Rattle.psb_model.specs.declared.change.Change.TheVariants as change;
-ghost use Rattle.psb_model.specs.Words.{all_of};
-ghost use Rattle.psb_model.specs.State.{own_has};
 ghost use Rattle.psb_model.specs.Grammar.{in_grammar};
-ghost use Rattle.psb_model.specs.Conditions.{allowed, names_ascend};
-ghost use Rattle.psb_model.specs.Effects.{after, kept_of};
-ghost use Rattle.psb_ledger.specs.Snapping.{count_of};
+ghost use Rattle.psb_model.specs.Conditions.{allowed};
+ghost use Rattle.psb_model.specs.Effects.{after};
 
 use super::Ledger;
-use own_chunks::{Own, has_number, names_ascend};
-use psb_bytes::{Digest, Memory};
-use psb_model::{Kept, OwnEntry, SnapMark, Snapped, Snapshot};
-
-/// How many snapshots were made so far.
-fn count_of(snapped: &Option<SnapMark>) -> u32
-    ensures { result ≡ count_of snapped.now }
-{
-    match snapped {
-        None => 0,
-        Some(mark) => mark.number,
-    }
-}
-
-/// The number is the next, and the names ascend and are all own ones.
-fn allows_snapshot(snapped: &Option<SnapMark>, own: &Own, number: u32, names: &[Digest]) -> bool
-    ensures { result ≡ all_of ((number == count_of snapped.now + 1) ∷ names_ascend names.now ∷ list_all (own_has own.now.items) names.now ∷ []) }
-{
-    number as u64 == count_of(snapped) as u64 + 1 && names_ascend(names) && own.has_all(names)
-}
-
-/// The snapshot, as it is kept.
-fn kept_of(x: Snapped) -> Snapshot
-    ensures { result ≡ kept_of x }
-{
-    Snapshot {
-        number: x.number,
-        ticket: x.ticket,
-        files: x.files,
-        folders: x.folders,
-        bytes: x.bytes,
-        left: x.left,
-        names: x.names,
-    }
-}
+use own_chunks::{allows_snapshot, has_number, kept_of};
+use psb_bytes::Memory;
+use psb_model::{Kept, OwnEntry, SnapMark, Snapped};
 
 impl Ledger {
     /// The chunk is not there yet, and its bytes are new exactly where no body is held under its name.

@@ -1,6 +1,6 @@
 //! What a ledger says of its state.
 
-ghost use Rattle.std.specs.Prelude.{◌≡◌, ◌==◌, ◌+◌, ◌&&◌, nat_lt, not, true};
+ghost use Rattle.std.specs.Prelude.{◌≡◌, ◌==◌, ◌+◌, ◌&&◌, nat_lt, not, true, Some, position};
 ghost use Rattle.std.specs.List.{list_any};
 ghost use Rattle.std.specs.Option.{option_copied, option_map};
 ghost use Rattle.psb_model.specs.State.{row, is_peer, used, own_has, own_marked, is_held, is_wanted, held_units, back_units, debt_units, tied_in};
@@ -9,7 +9,7 @@ ghost use Rattle.peer_lists.specs.Entries.{in_order};
 ghost use Rattle.own_chunks.specs.OwnList.{own_key, known_len, next_own};
 
 use super::{Balance, Ledger};
-use accounts::{account_of, holds, is_peer, ties_in};
+use accounts::{account_of, holds, is_peer, place_in, ties_in};
 use own_chunks::has_number;
 use peer_account::Account;
 use psb_bytes::{Digest, Object, PeerId};
@@ -58,6 +58,15 @@ impl Ledger {
     {
         let _changes = self.changes;
         is_peer(self.accounts.as_slice(), peer)
+    }
+
+    /// The place of the account of one of the peers.
+    pub(super) fn place_in(&self, peer: PeerId) -> usize
+        requires { is_peer self.now.state peer ≡ true }
+        ensures { Some result ≡ position (λ v. v.id == peer) self.now.accounts }
+    {
+        let _changes = self.changes;
+        place_in(self.accounts.as_slice(), peer)
     }
 
     /// What is kept of the peer; a blank account for an id that is no peer.

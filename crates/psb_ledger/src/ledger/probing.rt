@@ -1,7 +1,6 @@
 //! What a ledger makes of a probe of a peer, and of its outcome: it passes, fails or is declined.
 
-ghost use Rattle.std.specs.Prelude.{◌≡◌, ◌==◌, ◌*◌, ◌<◌, ◌^◌, true, length, OnOk, Some, position};
-ghost use Rattle.psb_model.specs.Grammar.{in_grammar};
+ghost use Rattle.std.specs.Prelude.{◌≡◌, ◌==◌, ◌<◌, ◌^◌, OnOk, Some, position};
 ghost use Rattle.psb_model.specs.declared.change.Change.TheVariants as change;
 ghost use Rattle.psb_model.specs.Conditions.{allowed};
 ghost use Rattle.psb_model.specs.Effects.{after};
@@ -9,7 +8,7 @@ ghost use Rattle.psb_ledger.specs.View.{HasDebtRoom, HasRoom};
 ghost use Rattle.psb_ledger.specs.Moves.{MayAsk, MayPass, MayFail, MayDecline};
 
 use super::Ledger;
-use accounts::{place_in, place_of};
+use accounts::place_of;
 use psb_bytes::{Memory, PeerId};
 use psb_model::{Asked, Declined, Failed, Passed};
 
@@ -45,24 +44,12 @@ impl Ledger {
         self.is_open(x.peer) && self.row(x.peer).allows_asking(x.objects.as_slice())
     }
 
-    /// The place of the peer's account, with what a probe makes of it.
-    fn place_to_ask(&self, x: &Asked) -> usize
-        requires grammar { in_grammar (change.Asked x.now) ≡ true }
-        requires may { allowed self.now.state (change.Asked x.now) ≡ true }
-        ensures place { Some result ≡ position (λ v. v.id == x.now.peer) self.now.accounts }
-        ensures may { MayAsk self.now x.now result }
-    {
-        let _changes = self.changes;
-        place_in(self.accounts.as_slice(), x.peer)
-    }
-
-    pub(super) fn ask(&mut self, x: Asked)
-        requires grammar { in_grammar (change.Asked x) ≡ true }
+    pub(super) fn ask(&mut self, at: usize, x: Asked)
         requires few { self.old.state.changes < 2 ^ 62 }
-        requires may { allowed self.old.state (change.Asked x) ≡ true }
+        requires place { Some at ≡ position (λ v. v.id == x.peer) self.old.accounts }
+        requires may { MayAsk self.old x at }
         ensures { self.new.state ≡ after self.old.state (change.Asked x) }
     {
-        let at = self.place_to_ask(&x);
         let changes = self.changes;
         let account = &mut self.accounts[at];
         account.ask(x.objects, changes);
@@ -75,26 +62,12 @@ impl Ledger {
         self.is_open(x.peer) && self.row(x.peer).is_outcome(x.asked, x.objects.as_slice())
     }
 
-    /// The place of the peer's account, with what comes back to it.
-    fn place_to_pass(&self, x: &Passed) -> usize
-        requires grammar { in_grammar (change.Passed x.now) ≡ true }
-        requires room { HasRoom self.now (change.Passed x.now) }
-        requires may { allowed self.now.state (change.Passed x.now) ≡ true }
-        ensures place { Some result ≡ position (λ v. v.id == x.now.peer) self.now.accounts }
-        ensures may { MayPass self.now x.now result }
-    {
-        let _changes = self.changes;
-        place_in(self.accounts.as_slice(), x.peer)
-    }
-
-    pub(super) fn pass(&mut self, x: &Passed)
-        requires grammar { in_grammar (change.Passed x.now) ≡ true }
-        requires room { HasRoom self.old (change.Passed x.now) }
+    pub(super) fn pass(&mut self, at: usize, x: &Passed)
         requires few { self.old.state.changes < 2 ^ 62 }
-        requires may { allowed self.old.state (change.Passed x.now) ≡ true }
+        requires place { Some at ≡ position (λ v. v.id == x.now.peer) self.old.accounts }
+        requires may { MayPass self.old x.now at }
         ensures { self.new.state ≡ after self.old.state (change.Passed x.now) }
     {
-        let at = self.place_to_pass(x);
         let changes = self.changes;
         let account = &mut self.accounts[at];
         account.pass(x);
@@ -107,26 +80,12 @@ impl Ledger {
         self.is_open(x.peer) && self.row(x.peer).allows_failing(x)
     }
 
-    /// The place of the peer's account, with what its losses need.
-    fn place_to_fail(&self, x: &Failed) -> usize
-        requires grammar { in_grammar (change.Failed x.now) ≡ true }
-        requires room { HasDebtRoom self.now x.now.peer (length x.now.objects) }
-        requires may { allowed self.now.state (change.Failed x.now) ≡ true }
-        ensures place { Some result ≡ position (λ v. v.id == x.now.peer) self.now.accounts }
-        ensures may { MayFail self.now x.now result }
-    {
-        let _changes = self.changes;
-        place_in(self.accounts.as_slice(), x.peer)
-    }
-
-    pub(super) fn fail(&mut self, x: &Failed)
-        requires grammar { in_grammar (change.Failed x.now) ≡ true }
-        requires room { HasDebtRoom self.old x.now.peer (length x.now.objects) }
+    pub(super) fn fail(&mut self, at: usize, x: &Failed)
         requires few { self.old.state.changes < 2 ^ 62 }
-        requires may { allowed self.old.state (change.Failed x.now) ≡ true }
+        requires place { Some at ≡ position (λ v. v.id == x.now.peer) self.old.accounts }
+        requires may { MayFail self.old x.now at }
         ensures { self.new.state ≡ after self.old.state (change.Failed x.now) }
     {
-        let at = self.place_to_fail(x);
         let changes = self.changes;
         let account = &mut self.accounts[at];
         account.fail(x, changes);
@@ -139,26 +98,12 @@ impl Ledger {
         self.is_open(x.peer) && self.row(x.peer).allows_declining(x)
     }
 
-    /// The place of the peer's account, with what its losses need.
-    fn place_to_decline(&self, x: &Declined) -> usize
-        requires grammar { in_grammar (change.Declined x.now) ≡ true }
-        requires room { HasDebtRoom self.now x.now.peer (length x.now.places) }
-        requires may { allowed self.now.state (change.Declined x.now) ≡ true }
-        ensures place { Some result ≡ position (λ v. v.id == x.now.peer) self.now.accounts }
-        ensures may { MayDecline self.now x.now result }
-    {
-        let _changes = self.changes;
-        place_in(self.accounts.as_slice(), x.peer)
-    }
-
-    pub(super) fn decline(&mut self, x: &Declined)
-        requires grammar { in_grammar (change.Declined x.now) ≡ true }
-        requires room { HasDebtRoom self.old x.now.peer (length x.now.places) }
+    pub(super) fn decline(&mut self, at: usize, x: &Declined)
         requires few { self.old.state.changes < 2 ^ 62 }
-        requires may { allowed self.old.state (change.Declined x.now) ≡ true }
+        requires place { Some at ≡ position (λ v. v.id == x.now.peer) self.old.accounts }
+        requires may { MayDecline self.old x.now at }
         ensures { self.new.state ≡ after self.old.state (change.Declined x.now) }
     {
-        let at = self.place_to_decline(x);
         let changes = self.changes;
         let account = &mut self.accounts[at];
         account.decline(x, changes);

@@ -12,7 +12,6 @@ ghost use Rattle.psb_ledger.specs.Moves.{proposing, may_take_back, MayPropose};
 
 use super::Ledger;
 use super::taking::capacity_of;
-use accounts::place_in;
 use peer_account::Account;
 use psb_bytes::{Digest, Object, PeerId, Seat};
 use psb_model::{Deal, DealWhat, may_issue};
@@ -147,24 +146,13 @@ impl Ledger {
         self.is_open(peer) && is_next_own(self.row(peer), deal) && self.allows_deal(peer, what)
     }
 
-    /// The place of the peer's account, with what its deal needs.
-    fn place_to_propose(&self, peer: PeerId, deal: &Deal) -> usize
-        requires grammar { what_in_grammar deal.now.what ≡ true }
-        requires may { allowed self.now.state (proposing peer deal.now) ≡ true }
-        ensures place { Some result ≡ position (λ v. v.id == peer) self.now.accounts }
-        ensures may { MayPropose self.now peer deal.now result }
-    {
-        let _issued = self.issued;
-        place_in(self.accounts.as_slice(), peer)
-    }
-
-    pub(super) fn propose(&mut self, peer: PeerId, deal: Deal)
-        requires grammar { what_in_grammar deal.what ≡ true }
+    pub(super) fn propose(&mut self, at: usize, peer: PeerId, deal: Deal)
         requires few { self.old.state.changes < 2 ^ 62 }
-        requires may { allowed self.old.state (proposing peer deal) ≡ true }
+        requires grammar { what_in_grammar deal.what ≡ true }
+        requires place { Some at ≡ position (λ v. v.id == peer) self.old.accounts }
+        requires may { MayPropose self.old peer deal at }
         ensures { self.new.state ≡ after self.old.state (proposing peer deal) }
     {
-        let at = self.place_to_propose(peer, &deal);
         let account = &mut self.accounts[at];
         let drawn = drawn(account, &deal.what);
         account.propose(deal);

@@ -1,6 +1,6 @@
 //! Room in the lists of a peer, and what a ledger makes of a deal that is refused.
 
-ghost use Rattle.std.specs.Prelude.{◌≡◌, ◌==◌, ◌<◌, ◌^◌, true, OnOk, Some, position};
+ghost use Rattle.std.specs.Prelude.{◌≡◌, ◌==◌, ◌<◌, ◌^◌, OnOk, Some, position};
 ghost use Rattle.psb_model.specs.declared.change.Change.TheVariants as change;
 ghost use Rattle.psb_model.specs.Conditions.{allowed};
 ghost use Rattle.psb_model.specs.Effects.{after};
@@ -8,7 +8,7 @@ ghost use Rattle.psb_ledger.specs.View.{HasListRoom};
 ghost use Rattle.psb_ledger.specs.Moves.{MayRefuse};
 
 use super::Ledger;
-use accounts::{place_in, place_of};
+use accounts::place_of;
 use psb_bytes::{Memory, PeerId};
 use psb_model::Refused;
 
@@ -38,22 +38,12 @@ impl Ledger {
         self.is_open(x.peer) && self.row(x.peer).allows_refusal(x.deal, x.why)
     }
 
-    /// The place of the peer's account, with what its deal needs.
-    fn place_to_refuse(&self, x: &Refused) -> usize
-        requires { allowed self.now.state (change.Refused x.now) ≡ true }
-        ensures place { Some result ≡ position (λ v. v.id == x.now.peer) self.now.accounts }
-        ensures may { MayRefuse self.now x.now result }
-    {
-        let _changes = self.changes;
-        place_in(self.accounts.as_slice(), x.peer)
-    }
-
-    pub(super) fn refuse(&mut self, x: &Refused)
+    pub(super) fn refuse(&mut self, at: usize, x: &Refused)
         requires few { self.old.state.changes < 2 ^ 62 }
-        requires may { allowed self.old.state (change.Refused x.now) ≡ true }
+        requires place { Some at ≡ position (λ v. v.id == x.now.peer) self.old.accounts }
+        requires may { MayRefuse self.old x.now at }
         ensures { self.new.state ≡ after self.old.state (change.Refused x.now) }
     {
-        let at = self.place_to_refuse(x);
         let changes = self.changes;
         let account = &mut self.accounts[at];
         account.note(x.deal, changes);

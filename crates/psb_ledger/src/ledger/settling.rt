@@ -1,8 +1,7 @@
 //! What a ledger makes of a reply to an own deal.
 
-ghost use Rattle.std.specs.Prelude.{◌≡◌, ◌==◌, ℕ, ◌+◌, ◌<◌, ◌≤◌, ◌^◌, length, true, OnOk, Some, position};
+ghost use Rattle.std.specs.Prelude.{◌≡◌, ◌==◌, ℕ, ◌<◌, ◌≤◌, ◌^◌, OnOk, Some, position};
 ghost use Rattle.psb_model.specs.State.{row};
-ghost use Rattle.psb_model.specs.Grammar.{in_grammar};
 ghost use Rattle.psb_model.specs.declared.change.Change.TheVariants as change;
 ghost use Rattle.psb_model.specs.Conditions.{allowed};
 ghost use Rattle.psb_model.specs.Effects.{after};
@@ -12,7 +11,7 @@ ghost use Rattle.psb_ledger.specs.View.{HasListRoom, HasStatesRoom, HasSettleRoo
 ghost use Rattle.psb_ledger.specs.Moves.{MaySettle, MayTurn};
 
 use super::Ledger;
-use accounts::{place_in, place_of, room_for_slots, set_states};
+use accounts::{place_of, room_for_slots, set_states};
 use psb_bytes::{Memory, PeerId};
 use psb_model::{DealWhat, Settled, Turned};
 
@@ -90,27 +89,13 @@ impl Ledger {
         self.is_open(x.peer) && row.allows_settling(x, units)
     }
 
-    /// The place of the peer's account, with what its pending deal needs.
-    fn place_to_settle(&self, x: &Settled) -> usize
-        requires grammar { in_grammar (change.Settled x.now) ≡ true }
-        requires room { HasSettleRoom self.now x.now.peer (length x.now.slots) }
-        requires may { allowed self.now.state (change.Settled x.now) ≡ true }
-        ensures place { Some result ≡ position (λ v. v.id == x.now.peer) self.now.accounts }
-        ensures states { StatesRoom self.now.accounts x.now.peer (row_at self.now.accounts result).ins (row_at self.now.accounts result).pending }
-        ensures may { MaySettle self.now x.now result }
-    {
-        let _issued = self.issued;
-        place_in(self.accounts.as_slice(), x.peer)
-    }
-
-    pub(super) fn settle(&mut self, x: &Settled)
-        requires grammar { in_grammar (change.Settled x.now) ≡ true }
-        requires room { HasSettleRoom self.old x.now.peer (length x.now.slots) }
+    pub(super) fn settle(&mut self, at: usize, x: &Settled)
         requires few { self.old.state.changes < 2 ^ 62 }
-        requires may { allowed self.old.state (change.Settled x.now) ≡ true }
+        requires place { Some at ≡ position (λ v. v.id == x.now.peer) self.old.accounts }
+        requires states { StatesRoom self.old.accounts x.now.peer (row_at self.old.accounts at).ins (row_at self.old.accounts at).pending }
+        requires may { MaySettle self.old x.now at }
         ensures { self.new.state ≡ after self.old.state (change.Settled x.now) }
     {
-        let at = self.place_to_settle(x);
         let changes = self.changes;
         set_states(&mut self.accounts, at, x.peer);
         let account = &mut self.accounts[at];
@@ -131,24 +116,12 @@ impl Ledger {
         self.is_open(x.peer) && self.row(x.peer).is_pending(x.deal)
     }
 
-    /// The place of the peer's account, with what its pending deal needs.
-    fn place_to_turn(&self, x: &Turned) -> usize
-        requires room { HasTurnRoom self.now x.now.peer }
-        requires may { allowed self.now.state (change.Turned x.now) ≡ true }
-        ensures place { Some result ≡ position (λ v. v.id == x.now.peer) self.now.accounts }
-        ensures may { MayTurn self.now x.now result }
-    {
-        let _changes = self.changes;
-        place_in(self.accounts.as_slice(), x.peer)
-    }
-
-    pub(super) fn turn(&mut self, x: &Turned)
-        requires room { HasTurnRoom self.old x.now.peer }
+    pub(super) fn turn(&mut self, at: usize, x: &Turned)
         requires few { self.old.state.changes < 2 ^ 62 }
-        requires may { allowed self.old.state (change.Turned x.now) ≡ true }
+        requires place { Some at ≡ position (λ v. v.id == x.now.peer) self.old.accounts }
+        requires may { MayTurn self.old x.now at }
         ensures { self.new.state ≡ after self.old.state (change.Turned x.now) }
     {
-        let at = self.place_to_turn(x);
         let changes = self.changes;
         let account = &mut self.accounts[at];
         let named = account.named();

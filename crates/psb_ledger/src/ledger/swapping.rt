@@ -1,17 +1,15 @@
 //! What a ledger makes of a chunk that a peer stores in the place of slots that it has here.
 
-ghost use Rattle.std.specs.Prelude.{◌≡◌, ◌==◌, ◌+◌, ◌*◌, ◌<◌, ◌^◌, true, length, Some, position};
-ghost use Rattle.psb_model.specs.Grammar.{in_grammar};
+ghost use Rattle.std.specs.Prelude.{◌≡◌, ◌==◌, ◌<◌, ◌^◌, true, length, Some, position};
 ghost use Rattle.psb_model.specs.declared.change.Change.TheVariants as change;
 ghost use Rattle.psb_model.specs.Conditions.{allowed};
 ghost use Rattle.psb_model.specs.Effects.{after};
 ghost use Rattle.psb_model.specs.Words.{slots};
 ghost use Rattle.accounts.specs.Freeing.{row_at, have_out_room, free_room};
-ghost use Rattle.psb_ledger.specs.View.{HasLeavingRoom};
 ghost use Rattle.psb_ledger.specs.Moves.{MaySwap};
 
 use super::Ledger;
-use accounts::{free_slots, place_in};
+use accounts::free_slots;
 use psb_bytes::units_of;
 use psb_model::TookSwap;
 
@@ -25,28 +23,14 @@ impl Ledger {
         self.is_open(x.peer) && self.row(x.peer).allows_swap(x, units, is_held, is_untied)
     }
 
-    /// The place of the peer's account, with what its chunk needs.
-    fn place_to_swap(&self, x: &TookSwap) -> usize
-        requires grammar { in_grammar (change.TookSwap x.now) ≡ true }
-        requires room { HasLeavingRoom self.now x.now.peer (1 + 2 * length x.now.slots) (slots x.now.slots) }
-        requires may { allowed self.now.state (change.TookSwap x.now) ≡ true }
-        ensures place { Some result ≡ position (λ v. v.id == x.now.peer) self.now.accounts }
-        ensures within { result < length self.now.accounts }
-        ensures loose { have_out_room (free_room (row_at self.now.accounts result).ins (slots x.now.slots)) self.now.accounts ≡ true }
-        ensures may { MaySwap self.now x.now result }
-    {
-        let _changes = self.changes;
-        place_in(self.accounts.as_slice(), x.peer)
-    }
-
-    pub(super) fn take_swap(&mut self, x: &TookSwap)
-        requires grammar { in_grammar (change.TookSwap x.now) ≡ true }
-        requires room { HasLeavingRoom self.old x.now.peer (1 + 2 * length x.now.slots) (slots x.now.slots) }
+    pub(super) fn take_swap(&mut self, at: usize, x: &TookSwap)
         requires few { self.old.state.changes < 2 ^ 62 }
-        requires may { allowed self.old.state (change.TookSwap x.now) ≡ true }
+        requires place { Some at ≡ position (λ v. v.id == x.now.peer) self.old.accounts }
+        requires within { at < length self.old.accounts }
+        requires loose { have_out_room (free_room (row_at self.old.accounts at).ins (slots x.now.slots)) self.old.accounts ≡ true }
+        requires may { MaySwap self.old x.now at }
         ensures { self.new.state ≡ after self.old.state (change.TookSwap x.now) }
     {
-        let at = self.place_to_swap(x);
         let u = units_of(x.len);
         let changes = self.changes;
         free_slots(&mut self.accounts, at, x.slots.as_slice());

@@ -1,17 +1,14 @@
 //! What a ledger makes of a chunk that a peer stores against new slots.
 
-ghost use Rattle.std.specs.Prelude.{◌≡◌, ◌==◌, ◌<◌, ◌^◌, true, Some, position};
+ghost use Rattle.std.specs.Prelude.{◌≡◌, ◌==◌, ◌<◌, ◌^◌, Some, position};
 ghost use Rattle.psb_model.specs.Words.{units};
 ghost use Rattle.psb_model.specs.State.{used, is_held};
-ghost use Rattle.psb_model.specs.Grammar.{in_grammar};
 ghost use Rattle.psb_model.specs.declared.change.Change.TheVariants as change;
 ghost use Rattle.psb_model.specs.Conditions.{allowed, capacity};
 ghost use Rattle.psb_model.specs.Effects.{after};
-ghost use Rattle.psb_ledger.specs.View.{HasListRoom};
 ghost use Rattle.psb_ledger.specs.Moves.{MayTake};
 
 use super::Ledger;
-use accounts::place_in;
 use peer_account::Measure;
 use psb_bytes::units_of;
 use psb_model::TookFresh;
@@ -50,26 +47,12 @@ impl Ledger {
         self.is_open(x.peer) && self.row(x.peer).allows_fresh(x, &measure)
     }
 
-    /// The place of the peer's account, with what its chunk needs.
-    fn place_to_take(&self, x: &TookFresh) -> usize
-        requires grammar { in_grammar (change.TookFresh x.now) ≡ true }
-        requires room { HasListRoom self.now x.now.peer 1 1 }
-        requires may { allowed self.now.state (change.TookFresh x.now) ≡ true }
-        ensures place { Some result ≡ position (λ v. v.id == x.now.peer) self.now.accounts }
-        ensures may { MayTake self.now x.now result }
-    {
-        let _changes = self.changes;
-        place_in(self.accounts.as_slice(), x.peer)
-    }
-
-    pub(super) fn take_fresh(&mut self, x: &TookFresh)
-        requires grammar { in_grammar (change.TookFresh x.now) ≡ true }
-        requires room { HasListRoom self.old x.now.peer 1 1 }
+    pub(super) fn take_fresh(&mut self, at: usize, x: &TookFresh)
         requires few { self.old.state.changes < 2 ^ 62 }
-        requires may { allowed self.old.state (change.TookFresh x.now) ≡ true }
+        requires place { Some at ≡ position (λ v. v.id == x.now.peer) self.old.accounts }
+        requires may { MayTake self.old x.now at }
         ensures { self.new.state ≡ after self.old.state (change.TookFresh x.now) }
     {
-        let at = self.place_to_take(x);
         let u = units_of(x.len);
         let changes = self.changes;
         let account = &mut self.accounts[at];

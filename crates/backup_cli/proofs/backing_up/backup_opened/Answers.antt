@@ -5,13 +5,13 @@ use Rattle.psb_ledger.specs.View.{LedgerView}
 use Rattle.psb_machine.specs.Machine.{fresh}
 use Rattle.psb_station.specs.View.{View}
 use Rattle.snapshot_backup.specs.Backed.{snapshot_of}
-use Rattle.backup_cli.specs.Lines.{snapshot_line}
-use Rattle.backup_cli.specs.Says.{Utters, IsRefusal}
+use Rattle.said_lines.specs.Lines.{snapshot_line}
+use Rattle.said_lines.specs.Says.{Utters, IsRefusal}
 use Rattle.backup_cli.specs.BackedUp.{BacksUpOn, noted_line}
-use Rattle.backup_cli.specs.declared.status.Status.{Status}
-use Rattle.backup_cli.specs.declared.status.Status.TheVariants.{Memory}
+use Rattle.said_lines.specs.declared.status.Status.{Status}
+use Rattle.said_lines.specs.declared.status.Status.TheVariants.{Memory}
 use Rattle.backup_cli.proofs.Backups.{last_is, line_said, line_failed, line_unmade, halted_by, altered_by}
-use Rattle.backup_cli.proofs.Utterances.{utters_tells}
+use Rattle.said_lines.proofs.Utterances.{utters_tells}
 use Rattle.backup_cli.proofs.backing_up.backup_opened.Goals as goal
 
 pub returns-in-Err-clause-backs_up : goal.returns-in-Err-clause-backs_up

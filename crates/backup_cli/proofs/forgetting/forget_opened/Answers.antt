@@ -1,9 +1,9 @@
 use Rattle.std.proofs.Common.{inl, inr, Err, ap, sym, subst, ⊎_elim}
 use Rattle.psb_machine.specs.Machine.{fresh}
 use Rattle.backup_cli.specs.Forgotten.{ForgetsOn}
-use Rattle.backup_cli.specs.declared.status.Status.{Status}
+use Rattle.said_lines.specs.declared.status.Status.{Status}
 use Rattle.backup_cli.proofs.Forgettings.{line_said, line_failed, halted_by}
-use Rattle.backup_cli.proofs.Utterances.{utters_tells}
+use Rattle.said_lines.proofs.Utterances.{utters_tells}
 use Rattle.backup_cli.proofs.forgetting.forget_opened.Goals as goal
 
 pub returns-in-Err-clause-forgets : goal.returns-in-Err-clause-forgets

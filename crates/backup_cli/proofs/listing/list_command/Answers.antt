@@ -4,15 +4,15 @@ use Rattle.psb_model.specs.State.{State}
 use Rattle.psb_model.specs.History.{state}
 use Rattle.psb_ledger.specs.View.{LedgerView}
 use Rattle.psb_machine.specs.Machine.{fresh}
-use Rattle.backup_cli.specs.Says.{SaysLines}
+use Rattle.said_lines.specs.Says.{SaysLines}
 use Rattle.backup_cli.specs.Listed.{Lists, listed_lines}
-use Rattle.backup_cli.specs.declared.saying.SayError.{SayError}
-use Rattle.backup_cli.specs.declared.saying.SayError.TheVariants as say_error
-use Rattle.backup_cli.specs.declared.status.Status.{Status}
+use Rattle.said_lines.specs.declared.saying.SayError.{SayError}
+use Rattle.said_lines.specs.declared.saying.SayError.TheVariants as say_error
+use Rattle.said_lines.specs.declared.status.Status.{Status}
 use Rattle.backup_cli.proofs.Ends.{why_unopened, quiet_since, images_since}
 use Rattle.backup_cli.proofs.Listings.{nothing_listed, all_listed, a_line_failed, short_of_memory}
 use Rattle.backup_cli.proofs.Opened.{held, is_node, is_there, some_of, known_as}
-use Rattle.backup_cli.proofs.Utterances.{utters_tells, utters_then, says_tells}
+use Rattle.said_lines.proofs.Utterances.{utters_tells, utters_then, says_tells}
 use Rattle.backup_cli.proofs.listing.list_command.Goals as goal
 
 -- ---- the node was not opened

@@ -1,6 +1,6 @@
 use Rattle.std.proofs.Common.{sym, subst}
-use Rattle.backup_cli.specs.Says.{NotOpened}
-use Rattle.backup_cli.specs.declared.status.Status.{Status}
+use Rattle.said_lines.specs.Says.{NotOpened}
+use Rattle.said_lines.specs.declared.status.Status.{Status}
 use Rattle.backup_cli.proofs.Ends.{not_opened}
 use Rattle.backup_cli.proofs.opening.open_or_refuse.Goals as goal
 

@@ -2,11 +2,11 @@ use Rattle.std.proofs.Common.{◌≡◌, inl, inr, ⊎_elim, List, Err, sym, ◌
 use Rattle.psb_model.specs.declared.snapshots.Snapshot.{Snapshot}
 use Rattle.psb_machine.specs.Machine.{fresh}
 use Rattle.psb_station.specs.View.{View}
-use Rattle.backup_cli.specs.Says.{Utters, IsRefusal}
+use Rattle.said_lines.specs.Says.{Utters, IsRefusal}
 use Rattle.backup_cli.specs.RestoredTo.{RestoresOn, kept_ticket, ticket_at}
-use Rattle.backup_cli.specs.declared.status.Status.TheVariants.{Memory}
+use Rattle.said_lines.specs.declared.status.Status.TheVariants.{Memory}
 use Rattle.backup_cli.proofs.Restorings.{line_said, line_failed, line_unmade, short_by, absent}
-use Rattle.backup_cli.proofs.Utterances.{utters_tells}
+use Rattle.said_lines.proofs.Utterances.{utters_tells}
 use Rattle.backup_cli.proofs.restoring.restore_opened.Goals as goal
 
 pub returns-in-Err-clause-restores : goal.returns-in-Err-clause-restores

@@ -12,7 +12,7 @@ use Rattle.node_serve.specs.declared.serving.ServeFault.{ServeFault}
 use Rattle.node_serve.specs.declared.serving.Total.{Total}
 use Rattle.node_core.specs.declared.node.Node.{Node}
 use Rattle.node_core.specs.Stored.{Knows}
-use Rattle.backup_cli.specs.declared.status.Status.TheVariants.{Done, DiskFault, LinkFault, Memory}
+use Rattle.said_lines.specs.declared.status.Status.TheVariants.{Done, DiskFault, LinkFault, Memory}
 use Rattle.backup_cli.proofs.Outcomes.{ready_then, fares_turns, fares_joins}
 use Rattle.backup_cli.proofs.serving.serve_turns.Goals as goal
 

@@ -3,7 +3,7 @@ use Rattle.psb_model.specs.declared.change.Change.{Change}
 use Rattle.psb_machine.specs.Sampling.{open_question, is_last, is_ready, candidates}
 use Rattle.psb_machine.specs.Volatile.{later}
 use Rattle.psb_machine.proofs.Choosing.{few_asked, open_is}
-use Rattle.node_core.specs.PeerStates.{sample_of}
+use Rattle.peer_states.specs.PeerStates.{sample_of}
 use Rattle.node_core.proofs.Choices.{can_choose, CanChoose, chooses, chooses_none}
 use Rattle.node_core.proofs.node.Node.choice_at.Goals as goal
 

@@ -1,5 +1,5 @@
 use Rattle.std.proofs.Common.{rules, ◌≡◌, ◌<◌, ◌^◌, Some, None, sym, ◌∙◌, subst, refl}
-use Rattle.node_core.specs.PeerStates.{state_of}
+use Rattle.peer_states.specs.PeerStates.{state_of}
 use Rattle.node_core.proofs.Ticking.{follows_so}
 use Rattle.node_core.proofs.Committing.{same_knows, same_counted, stored_room, worked_still}
 use Rattle.node_core.proofs.Choices.{choice_follows, deal_follows, question_follows, offer_follows_so, choice_may_come, some_may_back, questions_back}

@@ -2,12 +2,14 @@
 -- owed, none is taken.
 use Rattle.std.proofs.Common.{◌<◌, ◌^◌, map, sym, ap, ◌∙◌, subst}
 use Rattle.psb_model.specs.State.{in_key, debt_units}
-use Rattle.psb_model.specs.Discards.{one_in}
+use Rattle.psb_model.specs.Discards.{one_in, picks}
 use Rattle.psb_model.specs.Conditions.{same_objects, capacity}
 use Rattle.discard_policy.specs.Grades.{every}
+use Rattle.discard_policy.specs.Drawing.{drawn}
 use Rattle.discard_policy.proofs.Draws.{own_reader}
+use Rattle.accounts.specs.Table.{untied as untied_by}
 use Rattle.psb_ledger.specs.View.{LedgerView, IsReached}
-use Rattle.psb_ledger.proofs.Discarding.{none_listed, none_taken, none_owed, own_taken}
+use Rattle.psb_ledger.proofs.Discarding.{none_listed, none_taken, none_owed, own_taken, untied, untied_same}
 use Rattle.psb_ledger.proofs.ledger.Ledger.are_discards.Goals as goal
 
 pub returns-in_default : goal.returns-in_default
@@ -38,4 +40,7 @@ returns c =
     (ap every c.new-picker.ensures.grade ∙ c.grade.ensures.every ∙ ap one_in c.fails.ensures)
     (c.new-picker.ensures.left ∙ c.debt-debt.ensures) c.new-picker.ensures.room c.ins.ensures
     in
-    c.are_taken.ensures ∙ ap (λ ps. same_objects c.args.objects.now (map in_key ps)) taken
+    let offered = ap (λ vs. untied_by vs c.args.peer c.ins.result.now.items) c.as_slice.ensures.value ∙ untied_same c.self.inside c.args.peer c.ins.result.now.items ∙ ap (λ (v : LedgerView). untied v.state c.args.peer c.ins.result.now.items) c.self.view_is in
+    c.are_taken.ensures
+    ∙ ap (λ es. same_objects c.args.objects.now (map in_key (picks (drawn c.own_words-words.result) (every picker.grade) 0 picker.left picker.room es))) offered
+    ∙ ap (λ ps. same_objects c.args.objects.now (map in_key ps)) taken

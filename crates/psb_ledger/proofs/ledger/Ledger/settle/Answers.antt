@@ -21,21 +21,21 @@ index_mut-account-requires c =
     let l = c.self.inside in
     omega (
       arith,
-      set_length l.accounts.items c.set_states.new.accounts.items c.args.x.now.peer c.place_to_settle-at.result (row_at l.accounts.items c.place_to_settle-at.result).pending c.set_states.ensures,
-      place_within l.accounts.items c.args.x.now.peer c.place_to_settle-at.result (c.place_to_settle-at.ensures.place ∙ ap (λ (v : LedgerView). position (λ (y : AccountView). y.id == c.args.x.now.peer) v.accounts) (sym c.self.view_is)),
+      set_length l.accounts.items c.set_states.new.accounts.items c.args.x.now.peer c.args.at (row_at l.accounts.items c.args.at).pending c.set_states.ensures,
+      place_within l.accounts.items c.args.x.now.peer c.args.at (c.requires.place ∙ ap (λ (v : LedgerView). position (λ (y : AccountView). y.id == c.args.x.now.peer) v.accounts) (sym c.self.view_is)),
       c.set_states.new.accounts.ok,
     )
 
 pub settle-requires : goal.settle-requires
 settle-requires c =
     let l = c.self.inside in
-    let may = subst (λ (v : LedgerView). MaySettle v c.args.x.now c.place_to_settle-at.result) (sym c.self.view_is) c.place_to_settle-at.ensures.may in
+    let may = subst (λ (v : LedgerView). MaySettle v c.args.x.now c.args.at) (sym c.self.view_is) c.requires.may in
     subst (λ (ns : List ℕ). Settles c.index_mut-account.result.now c.units_of-placed.result ns c.index_mut-account.result.now.row.pending) (sym c.as_slice-slots.ensures) (may c.units_of-placed.result c.set_states.new.accounts.items c.index_mut-account.result.now c.set_states.ensures c.index_mut-account.ensures.value (c.units_of-placed.ensures ∙ ap (own_units l.own.items) c.placed.ensures)).needs
 
 pub overflow_add-before : goal.overflow_add-before
 overflow_add-before c =
     let l = c.self.inside in
-    let may = subst (λ (v : LedgerView). MaySettle v c.args.x.now c.place_to_settle-at.result) (sym c.self.view_is) c.place_to_settle-at.ensures.may in
+    let may = subst (λ (v : LedgerView). MaySettle v c.args.x.now c.args.at) (sym c.self.view_is) c.requires.may in
     let here = may c.units_of-placed.result c.set_states.new.accounts.items c.index_mut-account.result.now c.set_states.ensures c.index_mut-account.ensures.value (c.units_of-placed.ensures ∙ ap (own_units l.own.items) c.placed.ensures) in
     let u = c.units_of.ensures ∙ ap (own_units l.own.items) c.coming.ensures in
     omega (arith, here.before, here.small, u, c.held.ensures)
@@ -43,7 +43,7 @@ overflow_add-before c =
 pub overflow_sub-self : goal.overflow_sub-self
 overflow_sub-self c =
     let l = c.self.inside in
-    let may = subst (λ (v : LedgerView). MaySettle v c.args.x.now c.place_to_settle-at.result) (sym c.self.view_is) c.place_to_settle-at.ensures.may in
+    let may = subst (λ (v : LedgerView). MaySettle v c.args.x.now c.args.at) (sym c.self.view_is) c.requires.may in
     let here = may c.units_of-placed.result c.set_states.new.accounts.items c.index_mut-account.result.now c.set_states.ensures c.index_mut-account.ensures.value (c.units_of-placed.ensures ∙ ap (own_units l.own.items) c.placed.ensures) in
     let u = c.units_of.ensures ∙ ap (own_units l.own.items) c.coming.ensures in
     omega (arith, here.before, u, c.held.ensures, c.self.invariant.sound.used_is)
@@ -51,11 +51,11 @@ overflow_sub-self c =
 pub overflow_add-self : goal.overflow_add-self
 overflow_add-self c =
     let l = c.self.inside in
-    let may = subst (λ (v : LedgerView). MaySettle v c.args.x.now c.place_to_settle-at.result) (sym c.self.view_is) c.place_to_settle-at.ensures.may in
+    let may = subst (λ (v : LedgerView). MaySettle v c.args.x.now c.args.at) (sym c.self.view_is) c.requires.may in
     let here = may c.units_of-placed.result c.set_states.new.accounts.items c.index_mut-account.result.now c.set_states.ensures c.index_mut-account.ensures.value (c.units_of-placed.ensures ∙ ap (own_units l.own.items) c.placed.ensures) in
     let u = c.units_of.ensures ∙ ap (own_units l.own.items) c.coming.ensures in
     let total = l.used - (c.held.result + c.units_of.result) + c.held-after.result in
-    let rows = map named_row (set c.set_states.new.accounts.items c.place_to_settle-at.result c.settle.new.self) in
+    let rows = map named_row (set c.set_states.new.accounts.items c.args.at c.settle.new.self) in
     let own : c.release.new.self.items ≡ released rows c.named-named.result l.own.items = c.release.ensures ∙ ap (λ vs. released (map named_row vs) c.named-named.result l.own.items) c.as_slice.ensures.value in
     let made = here.made c.settle.new.self c.named-named.result total c.release.new.self.items c.named-named.ensures (omega (arith, here.before, u, c.held.ensures, c.held-after.ensures, c.self.invariant.sound.used_is)) own c.settle.ensures.id (c.settle.ensures.row ∙ ap (λ (ns : List ℕ). settled_row c.units_of-placed.result ns c.index_mut-account.result.now.row) c.as_slice-slots.ensures) in
     omega (arith, sound_small total _ made.sound)
@@ -63,11 +63,11 @@ overflow_add-self c =
 pub invariant_of-self : goal.invariant_of-self
 invariant_of-self c =
     let l = c.self.inside in
-    let may = subst (λ (v : LedgerView). MaySettle v c.args.x.now c.place_to_settle-at.result) (sym c.self.view_is) c.place_to_settle-at.ensures.may in
+    let may = subst (λ (v : LedgerView). MaySettle v c.args.x.now c.args.at) (sym c.self.view_is) c.requires.may in
     let here = may c.units_of-placed.result c.set_states.new.accounts.items c.index_mut-account.result.now c.set_states.ensures c.index_mut-account.ensures.value (c.units_of-placed.ensures ∙ ap (own_units l.own.items) c.placed.ensures) in
     let u = c.units_of.ensures ∙ ap (own_units l.own.items) c.coming.ensures in
     let total = l.used - (c.held.result + c.units_of.result) + c.held-after.result in
-    let rows = map named_row (set c.set_states.new.accounts.items c.place_to_settle-at.result c.settle.new.self) in
+    let rows = map named_row (set c.set_states.new.accounts.items c.args.at c.settle.new.self) in
     let own : c.release.new.self.items ≡ released rows c.named-named.result l.own.items = c.release.ensures ∙ ap (λ vs. released (map named_row vs) c.named-named.result l.own.items) c.as_slice.ensures.value in
     let made = here.made c.settle.new.self c.named-named.result total c.release.new.self.items c.named-named.ensures (omega (arith, here.before, u, c.held.ensures, c.held-after.ensures, c.self.invariant.sound.used_is)) own c.settle.ensures.id (c.settle.ensures.row ∙ ap (λ (ns : List ℕ). settled_row c.units_of-placed.result ns c.index_mut-account.result.now.row) c.as_slice-slots.ensures) in
     record {
@@ -79,11 +79,11 @@ invariant_of-self c =
 pub returns : goal.returns
 returns c =
     let l = c.self.inside in
-    let may = subst (λ (v : LedgerView). MaySettle v c.args.x.now c.place_to_settle-at.result) (sym c.self.view_is) c.place_to_settle-at.ensures.may in
+    let may = subst (λ (v : LedgerView). MaySettle v c.args.x.now c.args.at) (sym c.self.view_is) c.requires.may in
     let here = may c.units_of-placed.result c.set_states.new.accounts.items c.index_mut-account.result.now c.set_states.ensures c.index_mut-account.ensures.value (c.units_of-placed.ensures ∙ ap (own_units l.own.items) c.placed.ensures) in
     let u = c.units_of.ensures ∙ ap (own_units l.own.items) c.coming.ensures in
     let total = l.used - (c.held.result + c.units_of.result) + c.held-after.result in
-    let rows = map named_row (set c.set_states.new.accounts.items c.place_to_settle-at.result c.settle.new.self) in
+    let rows = map named_row (set c.set_states.new.accounts.items c.args.at c.settle.new.self) in
     let own : c.release.new.self.items ≡ released rows c.named-named.result l.own.items = c.release.ensures ∙ ap (λ vs. released (map named_row vs) c.named-named.result l.own.items) c.as_slice.ensures.value in
     let made = here.made c.settle.new.self c.named-named.result total c.release.new.self.items c.named-named.ensures (omega (arith, here.before, u, c.held.ensures, c.held-after.ensures, c.self.invariant.sound.used_is)) own c.settle.ensures.id (c.settle.ensures.row ∙ ap (λ (ns : List ℕ). settled_row c.units_of-placed.result ns c.index_mut-account.result.now.row) c.as_slice-slots.ensures) in
     made.after_is ∙ ap (λ (v : LedgerView). after v.state (change.Settled c.args.x.now)) c.self.view_is

@@ -8,24 +8,24 @@ use Rattle.psb_ledger.proofs.ledger.Ledger.take_fresh.Goals as goal
 
 pub take_fresh-requires : goal.take_fresh-requires
 take_fresh-requires c =
-    let may = subst (λ (v : LedgerView). MayTake v c.args.x.now c.place_to_take-at.result) (sym c.self.view_is) c.place_to_take-at.ensures.may in
+    let may = subst (λ (v : LedgerView). MayTake v c.args.x.now c.args.at) (sym c.self.view_is) c.requires.may in
     (may c.units_of-u.result c.index_mut-account.result.now c.index_mut-account.ensures.value c.units_of-u.ensures).needs
 
 pub overflow_add-self : goal.overflow_add-self
 overflow_add-self c =
-    let may = subst (λ (v : LedgerView). MayTake v c.args.x.now c.place_to_take-at.result) (sym c.self.view_is) c.place_to_take-at.ensures.may in
+    let may = subst (λ (v : LedgerView). MayTake v c.args.x.now c.args.at) (sym c.self.view_is) c.requires.may in
     let here = may c.units_of-u.result c.index_mut-account.result.now c.index_mut-account.ensures.value c.units_of-u.ensures in
     omega (arith, here.issued_small)
 
 pub overflow_add-self-2 : goal.overflow_add-self-2
 overflow_add-self-2 c =
-    let may = subst (λ (v : LedgerView). MayTake v c.args.x.now c.place_to_take-at.result) (sym c.self.view_is) c.place_to_take-at.ensures.may in
+    let may = subst (λ (v : LedgerView). MayTake v c.args.x.now c.args.at) (sym c.self.view_is) c.requires.may in
     let here = may c.units_of-u.result c.index_mut-account.result.now c.index_mut-account.ensures.value c.units_of-u.ensures in
     omega (arith, here.total_small, c.self.invariant.sound.used_is)
 
 pub invariant_of-self : goal.invariant_of-self
 invariant_of-self c =
-    let may = subst (λ (v : LedgerView). MayTake v c.args.x.now c.place_to_take-at.result) (sym c.self.view_is) c.place_to_take-at.ensures.may in
+    let may = subst (λ (v : LedgerView). MayTake v c.args.x.now c.args.at) (sym c.self.view_is) c.requires.may in
     let here = may c.units_of-u.result c.index_mut-account.result.now c.index_mut-account.ensures.value c.units_of-u.ensures in
     let used = ap (λ n. n + c.units_of-u.result) c.self.invariant.sound.used_is in
     record {
@@ -36,7 +36,7 @@ invariant_of-self c =
 
 pub returns : goal.returns
 returns c =
-    let may = subst (λ (v : LedgerView). MayTake v c.args.x.now c.place_to_take-at.result) (sym c.self.view_is) c.place_to_take-at.ensures.may in
+    let may = subst (λ (v : LedgerView). MayTake v c.args.x.now c.args.at) (sym c.self.view_is) c.requires.may in
     let here = may c.units_of-u.result c.index_mut-account.result.now c.index_mut-account.ensures.value c.units_of-u.ensures in
     let used = ap (λ n. n + c.units_of-u.result) c.self.invariant.sound.used_is in
     (here.made c.take_fresh.new.self (c.self.inside.used + c.units_of-u.result) used c.take_fresh.ensures.id c.take_fresh.ensures.row).after_is

@@ -8,6 +8,6 @@ use Rattle.psb_ledger.proofs.ledger.Ledger.take_swap.Goals as goal
 
 pub take_swap-requires : goal.take_swap-requires
 take_swap-requires c =
-    let may = subst (λ (v : LedgerView). MaySwap v c.args.x.now c.place_to_swap-at.result) (sym c.self.view_is) c.place_to_swap-at.ensures.may in
-    let loose = subst (λ ns. Freed c.self.inside.accounts.items c.place_to_swap-at.result (slots ns) c.free_slots.new.accounts.items) c.as_slice.ensures c.free_slots.ensures in
+    let may = subst (λ (v : LedgerView). MaySwap v c.args.x.now c.args.at) (sym c.self.view_is) c.requires.may in
+    let loose = subst (λ ns. Freed c.self.inside.accounts.items c.args.at (slots ns) c.free_slots.new.accounts.items) c.as_slice.ensures c.free_slots.ensures in
     (may c.units_of-u.result c.free_slots.new.accounts.items c.index_mut-account.result.now loose c.index_mut-account.ensures.value c.units_of-u.ensures).needs

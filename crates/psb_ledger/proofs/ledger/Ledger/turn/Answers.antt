@@ -13,9 +13,9 @@ use Rattle.psb_ledger.proofs.ledger.Ledger.turn.Goals as goal
 pub invariant_of-self : goal.invariant_of-self
 invariant_of-self c =
     let l = c.self.inside in
-    let here = subst (λ (v : LedgerView). MayTurn v c.args.x.now c.place_to_turn-at.result) (sym c.self.view_is) c.place_to_turn-at.ensures.may c.index_mut-account.result.now c.index_mut-account.ensures.value in
+    let here = subst (λ (v : LedgerView). MayTurn v c.args.x.now c.args.at) (sym c.self.view_is) c.requires.may c.index_mut-account.result.now c.index_mut-account.ensures.value in
     let u = c.units_of-coming.ensures ∙ ap (own_units l.own.items) c.coming.ensures in
-    let rows = map named_row (set l.accounts.items c.place_to_turn-at.result c.turn.new.self) in
+    let rows = map named_row (set l.accounts.items c.args.at c.turn.new.self) in
     let own : c.release.new.self.items ≡ released rows c.named-named.result l.own.items = c.release.ensures ∙ ap (λ vs. released (map named_row vs) c.named-named.result l.own.items) c.as_slice.ensures.value in
     let made = here.made c.turn.new.self c.named-named.result (l.used - c.units_of-coming.result) c.release.new.self.items c.named-named.ensures (omega (arith, here.enough, u, c.self.invariant.sound.used_is)) own c.turn.ensures.id c.turn.ensures.row in
     record {
@@ -27,9 +27,9 @@ invariant_of-self c =
 pub returns : goal.returns
 returns c =
     let l = c.self.inside in
-    let here = subst (λ (v : LedgerView). MayTurn v c.args.x.now c.place_to_turn-at.result) (sym c.self.view_is) c.place_to_turn-at.ensures.may c.index_mut-account.result.now c.index_mut-account.ensures.value in
+    let here = subst (λ (v : LedgerView). MayTurn v c.args.x.now c.args.at) (sym c.self.view_is) c.requires.may c.index_mut-account.result.now c.index_mut-account.ensures.value in
     let u = c.units_of-coming.ensures ∙ ap (own_units l.own.items) c.coming.ensures in
-    let rows = map named_row (set l.accounts.items c.place_to_turn-at.result c.turn.new.self) in
+    let rows = map named_row (set l.accounts.items c.args.at c.turn.new.self) in
     let own : c.release.new.self.items ≡ released rows c.named-named.result l.own.items = c.release.ensures ∙ ap (λ vs. released (map named_row vs) c.named-named.result l.own.items) c.as_slice.ensures.value in
     let made = here.made c.turn.new.self c.named-named.result (l.used - c.units_of-coming.result) c.release.new.self.items c.named-named.ensures (omega (arith, here.enough, u, c.self.invariant.sound.used_is)) own c.turn.ensures.id c.turn.ensures.row in
     made.after_is ∙ ap (λ (v : LedgerView). after v.state (change.Turned c.args.x.now)) c.self.view_is

@@ -1,6 +1,0 @@
-use Rattle.std.proofs.Common.{rules}
-use Rattle.backup_cli.proofs.LineLemmas.{restored_line-pieces}
-use Rattle.backup_cli.proofs.lines.restored_line.Goals as goal
-
-pub returns : goal.returns
-returns c = rw (restored_line-pieces c.args.files c.args.folders c.args.bytes) (search rules)

@@ -1,0 +1,4 @@
+pub mod Compared
+pub mod Judged
+pub mod Again
+pub mod Probed
