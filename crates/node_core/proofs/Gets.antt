@@ -1,14 +1,10 @@
--- What a peer has here is held, and bytes that were brought under a name are those of a chunk.
-use Rattle.std.proofs.Common.{◌≡◌, ◌≤◌, ℕ, Bool, true, false, ◌||◌, ◌&&◌, ◌==◌, nat_le, cond, List, [], ◌∷◌, map, length, Option, Some, None, refl, sym, ◌∙◌, ap, arith}
-use Rattle.std.specs.List.{list_any}
+-- Bytes that were brought under a name are those of a chunk.
+use Rattle.std.proofs.Common.{◌≡◌, ◌≤◌, ℕ, Bool, true, false, ◌&&◌, ◌==◌, nat_le, cond, List, [], ◌∷◌, map, length, Option, Some, None, refl, sym, ◌∙◌, ap, arith}
 use Rattle.std.proofs.lemmas.Bool.{and_parts, false≢true, eqb-true, leb-true}
 use Rattle.psb_bytes.specs.Units.{longest_chunk}
-use Rattle.psb_bytes.specs.declared.ids.Object.{Object}
-use Rattle.psb_bytes.specs.declared.ids.Object.TheVariants.{Chunk}
 use Rattle.psb_station.proofs.Spans.{same_some}
 use Rattle.psb_settings.specs.declared.settings.Settings.{Settings}
-use Rattle.psb_model.specs.Words.{has}
-use Rattle.psb_model.specs.State.{State, Row, row_in, in_key, own_has, is_held}
+use Rattle.psb_model.specs.State.{State, is_held}
 use Rattle.psb_model.specs.Heads.{body_of}
 use Rattle.psb_model.specs.Grammar.{in_grammar, is_chunk_len, chunk_fits, numbers_listed}
 use Rattle.psb_model.specs.History.{state, lawful_from}
@@ -20,36 +16,14 @@ use Rattle.psb_model.specs.declared.change.Change.TheVariants.{Kept, TookFresh, 
 use Rattle.wire_codec.specs.Frames.{datagram}
 use Rattle.wire_codec.specs.declared.frame.Frame.TheVariants.{Here}
 use Rattle.psb_machine.specs.Commands.{get_by, gets}
-use Rattle.psb_machine.specs.Gets.{has_chunk}
 use Rattle.psb_machine.specs.Machine.{Situation}
 use Rattle.node_letters.specs.Peers.{PeersView}
 use Rattle.node_letters.specs.declared.message.Sender.{Sender}
 use Rattle.node_core.specs.declared.node.Node.{Node}
 use Rattle.node_core.specs.Hearing.{IsGiven}
 use Rattle.node_core.specs.Stored.{Knows}
+use Rattle.node_facts.proofs.Probed.{chunk_held}
 use Rattle.node_history.proofs.Brought.{or_this, bytes_of}
-
--- ---- what a peer has here is held
-
-or_later : (a b : Bool) → b ≡ true → (a || b) ≡ true
-or_later true b h = refl
-or_later false b h = h
-
-or_first : (a b : Bool) → a ≡ true → (a || b) ≡ true
-or_first true b h = refl
-or_first false b h = absurd (false≢true h)
-
-some_row : (rows : List (ℕ × Row)) (p : ℕ) (o : Object) → has in_key (row_in rows p).ins o ≡ true → list_any (λ (x : ℕ × Row). has in_key x.1.ins o) rows ≡ true
-some_row [] p o h = absurd (false≢true h)
-some_row (x ∷ xs) p o h = at (x.0 == p) (λ is. some_row xs p o is) h
-  where
-    at : (b : Bool) → (has in_key (row_in xs p).ins o ≡ true → list_any (λ (y : ℕ × Row). has in_key y.1.ins o) xs ≡ true) → has in_key (cond b x.1 (row_in xs p)).ins o ≡ true
-        → (has in_key x.1.ins o || list_any (λ (y : ℕ × Row). has in_key y.1.ins o) xs) ≡ true
-    at true rest is = or_first (has in_key x.1.ins o) (list_any (λ (y : ℕ × Row). has in_key y.1.ins o) xs) is
-    at false rest is = or_later (has in_key x.1.ins o) (list_any (λ (y : ℕ × Row). has in_key y.1.ins o) xs) (rest is)
-
-pub chunk_held : (s : State) (p : ℕ) (name : List ℕ) → has_chunk s p name ≡ true → is_held s name ≡ true
-chunk_held s p name h = or_later (own_has s.own name) (list_any (λ (x : ℕ × Row). has in_key x.1.ins (Chunk name)) s.rows) (some_row s.rows p (Chunk name) h)
 
 -- ---- the bytes of a name are those of a chunk
 

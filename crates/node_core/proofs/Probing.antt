@@ -5,6 +5,7 @@ use Rattle.psb_model.specs.State.{State}
 use Rattle.psb_model.specs.History.{state}
 use Rattle.psb_model.specs.Needed.{IsValid}
 use Rattle.psb_model.specs.declared.change.Change.{Change}
+use Rattle.wire_codec.specs.Frames.{datagram}
 use Rattle.wire_codec.specs.declared.frame.Frame.{Frame}
 use Rattle.psb_machine.specs.Messages.{Probes}
 use Rattle.psb_machine.specs.Probing.{missing_from, proof_by, proof_of}
@@ -31,7 +32,7 @@ use Rattle.node_core.specs.Hearing.{Heard, Hears, HearsSo, TellsBack, IsPlain}
 use Rattle.peer_states.specs.PeerStates.{note_in}
 use Rattle.node_core.specs.Reacting.{Reacts}
 use Rattle.node_core.proofs.Heard.{none_spelled}
-use Rattle.node_core.proofs.Hearing.{hears_by, so_by, one_spelled}
+use Rattle.node_core.proofs.Hearing.{hears_by, so_by, one_spelled, one_letter_is}
 
 -- the machine answers with this frame
 pub probe_hears : {L : Type 0} (r : Reaction) (node : Node L) (n : Situation) (from : Sender) (nonce : List ℕ) (objects : List Object) (o : Option Frame) → (k : Knows node n) → Heard node.peers.keys from (Probes nonce objects) → IsPlain r
@@ -64,8 +65,16 @@ proof_known node n s less p nonce objects o k same is valid answer =
 pub plain_quiet : (r : Reaction) → r.change ≡ None → r.note ≡ note.Nothing → r.dropped ≡ None → r.out ≡ [] → IsPlain r
 plain_quiet r change noted dropped out = record { change = change; note = noted; dropped = dropped; few = omega (arith, ap length out) }
 
-pub plain_made : (r : Reaction) (letter : Letter) → r.change ≡ None → r.note ≡ note.Nothing → r.dropped ≡ None → r.out ≡ letter ∷ [] → IsPlain r
+plain_made : (r : Reaction) (letter : Letter) → r.change ≡ None → r.note ≡ note.Nothing → r.dropped ≡ None → r.out ≡ letter ∷ [] → IsPlain r
 plain_made r letter change noted dropped out = record { change = change; note = noted; dropped = dropped; few = omega (arith, ap length out) }
+
+-- the one letter has the frame with which the machine answers
+pub letter_hears : {L : Type 0} (r : Reaction) (node : Node L) (n : Situation) (from : Sender) (nonce : List ℕ) (objects : List Object) (letter : Letter) (f : Frame) → (k : Knows node n) → Heard node.peers.keys from (Probes nonce objects)
+    → r.change ≡ None → r.note ≡ note.Nothing → r.dropped ≡ None → r.out ≡ letter ∷ [] → letter.to ≡ from.peer → letter.frame ≡ datagram from.key node.peers.own.id from.peer from.number f
+    → Some f ≡ proof_of k.settings.settings n.history from.peer nonce objects → Hears r n (sender_in from) (Probes nonce objects)
+letter_hears r node n from nonce objects letter f k heard change noted dropped out to spelled is =
+    probe_hears r node n from nonce objects (Some f) k heard (plain_made r letter change noted dropped out)
+    (one_letter_is r.out letter from.peer (datagram from.key node.peers.own.id from.peer from.number f) out to spelled) is
 
 -- there is no frame, and no letter
 pub no_frame : {L : Type 0} (letters : List (ℕ × List ℕ)) (node : Node L) (from : Sender) (o : Option Frame) → ((f : Frame) → o ≡ Some f → ⊥) → letters ≡ [] → TellsBack letters node from o
