@@ -5,9 +5,9 @@
     tests/loopback.py --image FILE        writes the image of the program's stored run
 
 This script begins nodes from crates/psb/data/node.toml, and is the node's one peer. It stores 512 bytes
-with the node, sends a forged frame and the longest ones, and asks for a proof of what it stored; it compares the
-answers byte for byte, the lines said, the exit status and the file afterwards, and opens the node again. It counts the
-questions that a node asks in some seconds. It backs up folders with links, empty files, names of other scripts and the
+with the node, sends a forged frame and the longest ones, and asks for a proof of what it stored; it proves in its turn
+that it has the claim that came for that. It compares the frames byte for byte, the lines said, the exit status and the
+file afterwards, and opens the node again. It counts the questions that a node asks in some seconds. It backs up folders with links, empty files, names of other scripts and the
 node's own file, and compares tickets, records and the folders. It runs each command with standard descriptors closed,
 and where strace is installed it counts the syncs of a backup. It works all values out by itself, from the formats of
 docs/FORMATS.md. It ends within about a minute for each program, with status 0 where all is well and 1 where something
@@ -43,6 +43,8 @@ KEY = bytes(range(32, 64))
 LONGEST = 32768
 BODY = bytes(i % 251 for i in range(512))
 STORE, ACCEPTED, REFUSED, DECLINED, PROBE, PROOF, ASK = 1, 4, 5, 6, 9, 10, 11
+# Kinds of changes.
+PROBE_ASKED, PROBE_PASSED, PROBE_FAILED, PROBE_DECLINED = 14, 15, 16, 17
 NOT_THERE = 5
 MASK = 0xFFFFFFFF
 
@@ -64,6 +66,20 @@ def record(head, body):
 
 def image(*records):
     return b"PSBLOG01" + bytes(8) + b"".join(records) + b"\x00"
+
+
+def records_in(data):
+    """The records of an image, each with its gate and the lengths of its two parts in front."""
+    place = len(image()) - 1
+    while data[place]:
+        end = place + 9 + sum(struct.unpack_from(">II", data, place + 1))
+        yield data[place:end]
+        place = end
+
+
+def kinds(data):
+    """The kinds of the changes in an image, in their order."""
+    return [it[9] for it in records_in(data)]
 
 
 def settings(own_address="127.0.0.1:0", peer_address="127.0.0.1:47102"):
@@ -113,6 +129,16 @@ def refused(deal, reason, detail):
     return frame(REFUSED, NODE, PEER, deal, struct.pack(">BQ", reason, detail))
 
 
+def asked(slot):
+    """The record of a probe that asks for one slot."""
+    return record(struct.pack(">BIIBI", PROBE_ASKED, PEER, 1, 1, slot), b"")
+
+
+def passed(number, slot):
+    """The record that the probe of this number passed."""
+    return record(struct.pack(">BIQIBI", PROBE_PASSED, PEER, number, 1, 1, slot), b"")
+
+
 def noted_refusal(deal, reason, detail):
     """The record of a deal that was refused."""
     return record(struct.pack(">BIQBQ", 10, PEER, deal, reason, detail), b"")
@@ -123,7 +149,7 @@ def accepted(deal, slot):
     return frame(ACCEPTED, NODE, PEER, deal, body)
 
 
-# Claims: sixteen links of a chain of hashes, under a keystream of ChaCha20.
+# Probes: what a node and its peers ask of each other, and prove.
 
 
 def probe(number, nonce, names):
@@ -132,15 +158,36 @@ def probe(number, nonce, names):
     return frame(PROBE, PEER, NODE, number, body)
 
 
-def proof(number, nonce, pieces):
+def chained(nonce, pieces):
     value = nonce
     for piece in pieces:
         value = sha(value + piece)
-    return frame(PROOF, NODE, PEER, number, nonce + value)
+    return nonce + value
+
+
+def proof(number, nonce, pieces):
+    return frame(PROOF, NODE, PEER, number, chained(nonce, pieces))
 
 
 def declined(number, nonce, places):
     return frame(DECLINED, NODE, PEER, number, nonce + struct.pack(f">H{len(places)}H", len(places), *places))
+
+
+def own_probe(number, slot):
+    """The probe that the node makes as the change of this number, of the claim that it has with its peer in a slot."""
+    nonce = block(sha(b"psb words" + SEED), number, 0)[:32]
+    return frame(PROBE, NODE, PEER, number, nonce + struct.pack(">HBI", 1, 1, slot))
+
+
+def proved(asked, claims):
+    """The right answer to a node's probe, of one who has the claims in these slots."""
+    sender, receiver, number = struct.unpack_from(">IIQ", asked, 8)
+    nonce, (count,) = asked[28:60], struct.unpack_from(">H", asked, 60)
+    objects = [struct.unpack_from(">BI", asked, 62 + 5 * i) for i in range(count)]
+    return frame(PROOF, receiver, sender, number, chained(nonce, [claims[slot] for _, slot in objects]))
+
+
+# Claims: sixteen links of a chain of hashes, under a keystream of ChaCha20.
 
 
 def rotated(word, by):
@@ -522,13 +569,52 @@ def seconds(program, folder, deadline):
     same(f"whether {asked} questions in {passed:.1f} seconds are one for each second", 3 <= asked <= passed + 2, True)
 
 
+class Peer:
+    """The peer of a node that serves, at this link: it has the claim in slot 0, and proves it whenever it is asked."""
+
+    def __init__(self, link, node, port):
+        self.link, self.node, self.where, self.proofs = link, node, ("127.0.0.1", port), 0
+        link.settimeout(0.1)
+
+    def send(self, data):
+        self.link.sendto(data, self.where)
+
+    def answer(self, deadline):
+        """The next frame that is no probe; none where the node has ended."""
+        while True:
+            has_ended = self.node.poll() is not None
+            try:
+                data, where = self.link.recvfrom(65_536)
+            except socket.timeout:
+                if has_ended:
+                    return None
+                left(deadline)
+                continue
+            same("where a frame came from", where, self.where)
+            if data[4] != PROBE:
+                return data
+            same("a probe of the node", data, own_probe(struct.unpack_from(">Q", data, 16)[0], 0))
+            self.send(proved(data, {0: claim(0)}))
+            self.proofs += 1
+
+
+def without_probes(log):
+    """The records of a log other than those of probes. Each of these was of slot 0 and passed; only the last may be open."""
+    wanted = [it for number, change in enumerate(log) if change == asked(0) for it in (change, passed(number, 0))]
+    made = [it for it in log if it[9] in (PROBE_ASKED, PROBE_PASSED, PROBE_FAILED, PROBE_DECLINED)]
+    same("the records of probes", made, wanted[: max(len(made), len(wanted) - 1)])
+    same("whether a probe passed", len(made) > 1, True)
+    return [it for it in log if it not in made]
+
+
 def serving(program, folder, deadline):
-    """A Store is taken and a forged frame is not; the node opens again with what it took."""
+    """A Store is taken and a forged frame is not; the node and its peer prove what they have; the node opens again with
+    what it took."""
     path = os.path.join(folder, "node.img")
-    with socket.socket(socket.AF_INET, socket.SOCK_DGRAM) as peer:
-        peer.bind(("127.0.0.1", 0))
+    with socket.socket(socket.AF_INET, socket.SOCK_DGRAM) as link:
+        link.bind(("127.0.0.1", 0))
         port = free_port()
-        text = settings(f"127.0.0.1:{port}", f"127.0.0.1:{peer.getsockname()[1]}")
+        text = settings(f"127.0.0.1:{port}", f"127.0.0.1:{link.getsockname()[1]}")
         first = begun(text)
         file = os.path.join(folder, "node.toml")
         write(file, text)
@@ -545,42 +631,40 @@ def serving(program, folder, deadline):
             run(deadline, program, [path, "serve", "1"], 3, b"disk fault\n")
             run(deadline, program, [path, "init", file], 3, b"disk fault\n")
             same("the file that two programs wanted", read(path), image(first))
+            peer = Peer(link, node, port)
             forged = store(1)
-            peer.sendto(forged[:-1] + bytes([forged[-1] ^ 1]), ("127.0.0.1", port))
-            peer.sendto(store(1), ("127.0.0.1", port))
-            peer.settimeout(left(deadline))
-            same("the answer", peer.recvfrom(65536), (accepted(1, 0), ("127.0.0.1", port)))
+            peer.send(forged[:-1] + bytes([forged[-1] ^ 1]))
+            peer.send(store(1))
+            same("the answer", peer.answer(deadline), accepted(1, 0))
             # The longest datagram is no frame, and the longest frame is read to its end.
-            peer.sendto(bytes(65_507), ("127.0.0.1", port))
+            peer.send(bytes(65_507))
             same("the bytes of the longest frame", len(longest_store(2)), 33_122)
-            peer.sendto(longest_store(2), ("127.0.0.1", port))
-            peer.settimeout(left(deadline))
-            same("the answer to the longest", peer.recvfrom(65536), (refused(2, NOT_THERE, 1), ("127.0.0.1", port)))
+            peer.send(longest_store(2))
+            same("the answer to the longest", peer.answer(deadline), refused(2, NOT_THERE, 1))
             # It proves that it has what it took, and tells what it does not have.
             nonce = sha(b"a question")
-            peer.sendto(probe(7, nonce, [sha(BODY)]), ("127.0.0.1", port))
-            peer.settimeout(left(deadline))
-            same("the proof", peer.recvfrom(65536), (proof(7, nonce, [BODY]), ("127.0.0.1", port)))
-            peer.sendto(probe(8, nonce, [sha(BODY), sha(nonce)]), ("127.0.0.1", port))
-            peer.settimeout(left(deadline))
-            same("what is missing", peer.recvfrom(65536), (declined(8, nonce, [1]), ("127.0.0.1", port)))
-            said = b"peer 2 held 1 back 1 debt 0\nturns 40 taken 6 dropped 2 lost 0\n"
-            end(node, deadline, 0, said)
-        except socket.timeout:
-            raise Wrong("no answer came") from None
+            peer.send(probe(7, nonce, [sha(BODY)]))
+            same("the proof", peer.answer(deadline), proof(7, nonce, [BODY]))
+            peer.send(probe(8, nonce, [sha(BODY), sha(nonce)]))
+            same("what is missing", peer.answer(deadline), declined(8, nonce, [1]))
+            # Until it ends it sends nothing but probes.
+            same("a second answer", peer.answer(deadline), None)
+            said, _ = node.communicate(timeout=left(deadline))
+            same("the status of serve", node.returncode, 0)
         finally:
             stop(node)
-        peer.setblocking(False)
-        try:
-            raise Wrong(f"a second answer came: {peer.recv(65536)!r}")
-        except BlockingIOError:
-            pass
-    records = (first, took_fresh(1, 0), noted_refusal(2, NOT_THERE, 1))
-    same("the file", read(path), image(*records))
-    said = b"peer 2 held 1 back 1 debt 0\n"
-    run(deadline, program, [path, "serve", "1"], 0, said + b"turns 1 taken 0 dropped 0 lost 0\n")
-    run(deadline, program, [path, "ledger"], 0, said)
-    same("the file that was looked at", read(path), image(*records))
+    found = read(path)
+    log = list(records_in(found))
+    same("the file", found, image(*log))
+    same("the records that are none of probes", without_probes(log), [first, took_fresh(1, 0), noted_refusal(2, NOT_THERE, 1)])
+    row = b"peer 2 held 1 back 1 debt 0\n"
+    count = re.fullmatch(row + rb"turns 40 taken (\d+) dropped 2 lost 0\n", said)
+    same(f"whether serve said {said!r}", count is not None, True)
+    # Four requests and what was dropped are taken, and the proofs, of which the last may have come too late.
+    same(f"whether {count[1]} frames were taken", 6 + kinds(found).count(PROBE_PASSED) <= int(count[1]) <= 6 + peer.proofs, True)
+    run(deadline, program, [path, "serve", "1"], 0, row + b"turns 1 taken 0 dropped 0 lost 0\n")
+    run(deadline, program, [path, "ledger"], 0, row)
+    same("the file that was looked at", read(path), found)
 
 
 # Programs that are tried.
@@ -637,8 +721,8 @@ def main(words):
     return try_all("loopback", words, __doc__, course,
         "nodes began once each, in files that nobody else may read; folders were backed up, with the tickets and records"
         " that were worked out here, and without the node's own file; no command wrote a line into that, whatever was"
-        " closed; a second program was refused; a Store was taken, answered byte for byte, proved and found again; a forged frame"
-        " and one that is too long were dropped")
+        " closed; a second program was refused; a Store was taken, answered byte for byte, proved and found again; the node"
+        " probed for its claim, and noted that it passed; a forged frame and one that is too long were dropped")
 
 
 if __name__ == "__main__":

@@ -29,7 +29,8 @@ from restoring import HERE, bodies, counts, new_folder, same_tree
 
 PROPOSED, SETTLED, CHOSE = 11, 12, 19
 PLACES = 1, 2
-TURNS = "40"
+# Six seconds: a node that goes on alone ends before a probe of it is late.
+TURNS = "24"
 
 # Less than a chunk at least has, so that it is one chunk of each folder.
 COMMON = random.Random(0).randbytes(2_000)

@@ -5,9 +5,12 @@
 
 Node 1 has chosen node 2, which this script writes into its log, and backs a folder up. Node 2 serves, and is killed
 in the end; node 1 serves in short calls, until the ledger says that each chunk is placed. Then the ledgers of both
-balance, and the disk of node 2 has each chunk once. A node 1 that lost its disk restores the folder by its ticket, from
-node 2. Last, node 1 gives the snapshot up, and serves until neither has anything of the other. It ends within about half
-a minute for each program, with status 0 where all is well and 1 where something is not.
+balance, and the disk of node 2 has each chunk once. Both serve for a minute, in which each probes the other, and no debt
+arises. Then node 2 goes on with a copy of its disk from before the chunks were placed, and is found out: the ledger of
+node 1 says that all units are lost, and by which change of the log. With its own disk it proves what it has, and the debt
+goes. A node 1 that lost its disk restores the folder by its ticket, from node 2. Last, node 1 gives the snapshot up, and
+serves until neither has anything of the other. It ends within about two minutes for each program, with status 0 where
+all is well and 1 where something is not.
 """
 
 import os
@@ -20,10 +23,12 @@ import time
 
 import loopback
 import restoring
-from loopback import Wrong, begun, image, left, read, record, same, sealed, start, stop, write
+from loopback import PROBE_ASKED, PROBE_DECLINED, PROBE_FAILED, PROBE_PASSED
+from loopback import Wrong, begun, image, kinds, left, read, record, same, sealed, start, stop, write
 from restoring import HERE, counts, new_folder, same_tree
 
 CHOSE = 19
+PROBED = 60
 TREE = {"letter": random.Random(2).randbytes(1_500), "notes": None, "notes/zeros": bytes(70_000)}
 SEEDS = {1: bytes(range(32)).hex(), 2: bytes(range(64, 96)).hex()}
 TURNS = "6"
@@ -61,18 +66,6 @@ key = "{loopback.KEY.hex()}"
         same("the status of serve", process.returncode, 0)
         same(f"whether {last!r} has no drops", bool(last and re.fullmatch(rb"turns 6 taken \d+ dropped 0 lost \d+", last[0])), True)
 
-    def ledger(self, deadline):
-        """What the ledger says."""
-        process = start(self.program, self.disk, "ledger")
-        try:
-            said, _ = process.communicate(timeout=left(deadline))
-        except subprocess.TimeoutExpired:
-            raise Wrong("ledger had not ended") from None
-        finally:
-            stop(process)
-        same("the status of ledger", process.returncode, 0)
-        return said
-
 
 def balanced(peer, units):
     return b"peer %d held %d back %d debt 0\n" % (peer.number, units, units)
@@ -84,6 +77,46 @@ def serve_until(deadline, first, second, units):
         while first.ledger(deadline) != balanced(second, units):
             first.serve(deadline)
     same("the ledger of the other node", second.ledger(deadline), balanced(first, units))
+
+
+def made_since(node, count):
+    """The kinds of the changes that a node made behind so many."""
+    return kinds(read(node.disk))[count:]
+
+
+def probe(deadline, first, second, units):
+    """Both serve for a minute: what they probe of one another is there."""
+    nodes = (first, second)
+    before = [len(kinds(read(node.disk))) for node in nodes]
+    with second.serving(deadline), first.serving(deadline):
+        time.sleep(PROBED)
+    for node, peer, count in zip(nodes, nodes[::-1], before):
+        made = made_since(node, count)
+        same(f"whether {made.count(PROBE_PASSED)} probes of node {node.number} that passed are some in a minute", made.count(PROBE_PASSED) >= 4, True)
+        same("the kinds of the changes of a minute", set(made), {PROBE_ASKED, PROBE_PASSED})
+        same("the ledger after a minute of probes", node.ledger(deadline), balanced(peer, units))
+
+
+def probe_until(deadline, first, second, outcomes):
+    """Both serve until a probe of the first node has one of these outcomes; answers which that was."""
+    count = len(kinds(read(first.disk)))
+    with second.serving(deadline), first.serving(deadline):
+        while not (found := outcomes.keys() & made_since(first, count)):
+            left(deadline)
+            time.sleep(0.1)
+    return {(count + made_since(first, count).index(kind), outcomes[kind]) for kind in found}
+
+
+def find_out(deadline, first, second, older, units):
+    """The second node has an older disk, and the first one finds it out. With its own disk the debt goes."""
+    whole = read(second.disk)
+    write(second.disk, older)
+    found = probe_until(deadline, first, second, {PROBE_FAILED: "failed", PROBE_DECLINED: "declined"})
+    same("what is held for a node with an older disk, and which change found that out", first.balance(deadline, second), (units, found))
+    same("whether nothing is there any more", first.ledger(deadline).startswith(b"peer %d held %d back 0 " % (second.number, units)), True)
+    write(second.disk, whole)
+    probe_until(deadline, first, second, {PROBE_PASSED: "passed"})
+    same("the ledger once the lost chunks are there again", first.ledger(deadline), balanced(second, units))
 
 
 def course(program, folder):
@@ -101,10 +134,17 @@ def course(program, folder):
     first.run(deadline(), ["backup", home], 0, line)
 
     chunks = {sealed(piece)[1][:32]: sealed(piece)[0] for piece in kept}
-    serve_until(deadline(), first, second, sum((len(body) + 511) // 512 for body in chunks.values()))
+    units = sum((len(body) + 511) // 512 for body in chunks.values())
+    older = read(second.disk)
+    serve_until(deadline(), first, second, units)
     found = read(second.disk)
     same("how often the other disk has each chunk", [found.count(body) for body in chunks.values()], [1] * len(chunks))
 
+    probe(deadline() + PROBED, first, second, units)
+    find_out(deadline(), first, second, older, units)
+
+    # What node 2 notes of a node that lost all is not kept.
+    whole = read(second.disk)
     lost = Node(program, folder, 1)
     lost.disk, lost.port = os.path.join(folder, "lost.img"), first.port
     lost.run(deadline(), ["init", first.settings], 0, b"node 1 peers 1\n")
@@ -113,6 +153,7 @@ def course(program, folder):
         out = new_folder(folder, "from the other node")
         lost.restore(deadline(), ticket, out, restoring.TURNS, 0, b"restored %s\n" % counts(TREE))
         same_tree("the tree that was restored from the other node", out, TREE)
+    write(second.disk, whole)
 
     first.run(deadline(), ["forget", "1"], 0, b"forgot 1\n")
     serve_until(deadline(), first, second, 0)
@@ -120,7 +161,8 @@ def course(program, folder):
 
 def main(words):
     return loopback.try_all("placing", words, __doc__, course,
-        "a snapshot was placed with a peer, came back from there when its disk was lost, and was let go; both ledgers balanced")
+        "a snapshot was placed with a peer, which proved for a minute that it had it, was found out with an older disk and then"
+        " had no debt again; it came back from there when the node's own disk was lost, and was let go; both ledgers balanced")
 
 
 if __name__ == "__main__":

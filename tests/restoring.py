@@ -27,7 +27,7 @@ import time
 import loopback
 from loopback import Wrong, frame, free_port, is_bound, left, read, run, same, sealed, sha, start, stop, write
 
-ACCEPTED, ASK, STORE = loopback.ACCEPTED, loopback.ASK, loopback.STORE
+ACCEPTED, ASK, PROBE, STORE = loopback.ACCEPTED, loopback.ASK, loopback.PROBE, loopback.STORE
 HERE = "127.0.0.1"
 BIG = "\u5199\u771f/\u5927 big.raw"
 TURNS = "40"
@@ -209,8 +209,8 @@ class Node:
         front = before[:-1]
         same("whether the disk has what it had before a restore", read(self.disk)[: len(front)] == front, True)
 
-    def balanced(self, deadline, peer, least):
-        """Says that it holds so much for the peer, or more where it placed chunks with it meanwhile, and has as much there."""
+    def ledger(self, deadline):
+        """What the ledger says."""
         process = start(self.program, self.disk, "ledger")
         try:
             said, _ = process.communicate(timeout=left(deadline))
@@ -218,9 +218,20 @@ class Node:
             raise Wrong("ledger had not ended") from None
         finally:
             stop(process)
-        row = re.fullmatch(rb"peer (\d+) held (\d+) back (\d+) debt 0\n", said)
-        same(f"whether {said!r} is a line of that peer in balance", bool(row) and int(row[1]) == peer.number and row[2] == row[3], True)
-        same(f"whether {said!r} has all that was stored", int(row[2]) >= least, True)
+        same("the status of ledger", process.returncode, 0)
+        return said
+
+    def balance(self, deadline, peer):
+        """The units that it holds for its peer, which has as many of its own or owes them, and the changes by which these
+        were lost, each with how that came."""
+        said = self.ledger(deadline)
+        row, *lines = said.splitlines()
+        found = re.fullmatch(rb"peer %d held (\d+) back (\d+) debt (\d+)" % peer.number, row)
+        rows = [re.fullmatch(rb"debt (\d+) of \d+ change (\d+) (failed|declined)", line) for line in lines]
+        same(f"whether {said!r} is a row of that peer with its debt", bool(found) and all(rows), True)
+        held, back, debt = map(int, found.groups())
+        same(f"what is back and in debt in {said!r}", (back + debt, sum(int(it[1]) for it in rows)), (held, debt))
+        return held, {(int(it[2]), it[3].decode()) for it in rows}
 
     @contextlib.contextmanager
     def serving(self, deadline):
@@ -245,29 +256,40 @@ class Node:
             yield it
 
 
-def answered(deadline, link):
-    """The next frame that is no question which chunks are held, as a node asks each second before it chooses its buddies."""
+def answered(deadline, link, claims):
+    """The next frame that is no question which chunks are held, as a node asks each second before it chooses its buddies,
+    and no probe of the claims that it gave: these are proved."""
     while True:
         link.settimeout(left(deadline))
         try:
-            answer = link.recv(65_536)
+            answer, where = link.recvfrom(65_536)
         except socket.timeout:
             return None
-        if answer[4] != ASK:
+        if answer[4] == PROBE:
+            link.sendto(loopback.proved(answer, claims), where)
+        elif answer[4] != ASK:
             return answer
+
+
+def claims_in(accepted):
+    """The claims that an Accepted brings, by their slots."""
+    (count,) = struct.unpack_from(">H", accepted, 28)
+    return dict(struct.unpack_from(">I512s", accepted, 30 + 516 * i) for i in range(count))
 
 
 def store_all(deadline, held, at, owner):
     """Stores all bodies with the node that serves at a place, in the name of their owner."""
+    claims = {}
     with owner.posing() as link:
         for deal, (name, (_, body)) in enumerate(held.items(), 1):
             text = name + struct.pack(">HI", 0, len(body)) + body
             link.sendto(frame(STORE, owner.number, at.number, deal, text), (HERE, at.port))
-            answer = answered(deadline, link)
+            answer = answered(deadline, link, claims)
             if answer is None:
                 raise Wrong(f"no answer to Store {deal} came")
             accepted = frame(ACCEPTED, at.number, owner.number, deal, answer[28:-32])
             same(f"whether the answer to Store {deal} is an Accepted", answer == accepted, True)
+            claims.update(claims_in(answer))
 
 
 def new_folder(folder, name):
@@ -329,7 +351,10 @@ def from_peer(folder, deadline, tree, ticket, first, second):
         second.restore_among_peers(deadline, ticket, out, TURNS, 0, b"restored %s\n" % counts(tree))
         same_tree("the tree that was restored by its ticket", out, tree)
     units = sum((len(body) + 511) // 512 for _, body in held.values())
-    first.balanced(deadline, second, units)
+    # Node 2 has none of the claims that this script got for the bodies: where node 1 probed for some, it found that out.
+    held, lost = first.balance(deadline, second)
+    same(f"whether {held} units are all that was stored", held >= units, True)
+    same("how any debt came", {how for _, how in lost} - {"declined"}, set())
 
 
 def altered(folder, deadline, tree, ticket, first, second):

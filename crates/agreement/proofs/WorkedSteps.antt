@@ -1,5 +1,5 @@
 -- The worked world, from what the settings texts say: each letter is read as what it spells.
-use Rattle.std.proofs.Common.{◌≡◌, ℕ, true, false, List, [], ◌∷◌, ◌++◌, slice_get, option_map, Option, Some, None, refl, ap, ◌∙◌, arith}
+use Rattle.std.proofs.Common.{◌≡◌, ℕ, nat_le, true, false, List, [], ◌∷◌, ◌++◌, slice_get, option_map, Option, Some, None, refl, ap, ◌∙◌, arith}
 use Rattle.psb_digest.specs.Hashes.{sha}
 use Rattle.psb_settings.specs.Settings.{settings_of}
 use Rattle.psb_settings.specs.declared.settings.Settings.{Settings}
@@ -16,14 +16,15 @@ use Rattle.wire_codec.specs.Laws.{IsFrame}
 use Rattle.wire_codec.specs.declared.frame.Frame.TheVariants.{Store, Accepted}
 use Rattle.wire_codec.proofs.FrameLaws.{reads}
 use Rattle.psb_machine.specs.Letters.{Letter, keys_of, all_spelled}
-use Rattle.psb_machine.specs.Volatile.{of_peer}
+use Rattle.psb_machine.specs.Volatile.{of_peer, later}
+use Rattle.psb_machine.specs.OwnProbes.{Run}
 use Rattle.psb_machine.specs.Deals.{StoreFresh, claims_joined, standing, judged_at}
 use Rattle.psb_machine.specs.Messages.{Deals, Replies}
 use Rattle.psb_machine.specs.Settling.{Accepts}
 use Rattle.psb_machine.specs.Replies.{claims_from, reply}
 use Rattle.psb_machine.specs.Proposals.{Offer, proposed_at}
 use Rattle.psb_machine.specs.Sampling.{questions}
-use Rattle.psb_machine.specs.Machine.{Situation, Input, Datagram, Tick, Reaction, answers_with, by_standing, on_deal, on_reply, sends, then_by, by_choice, choice_at, by_offer, offer_by, offer_at, ruled, on_tick, react, fresh, settled}
+use Rattle.psb_machine.specs.Machine.{Situation, Input, Datagram, Tick, Reaction, answers_with, by_standing, on_deal, on_reply, sends, then_by, by_choice, choice_at, by_offer, offer_by, offer_at, ruled, on_tick, react, fresh, settled, Rule, run_at, by_late, by_run}
 use Rattle.psb_machine.proofs.Causes.{react-message}
 use Rattle.model_laws.specs.Worked.{bytes_from, plain_ticket}
 use Rattle.agreement.specs.Worlds.{Party, Give, Stop, moved}
@@ -62,13 +63,22 @@ store_fits = record { frame_fits = refl; from_fits = omega arith; to_fits = omeg
 -- ---- ticks
 
 -- a tick at node 1, where no choice is to be made and nothing is asked besides
-ticks : (n : Situation) (o : Offer) → (state n.history).settings ≡ Some (node_settings 1 2) → choice_at (node_settings 1 2) n 2 ≡ None → questions (state n.history) 2 ≡ [] → offer_at (node_settings 1 2) n 2 ≡ Some o
-    → react n (Tick 2) ≡ ruled 2 (then_by (by_offer (node_settings 1 2) n.history 2 (Some o)) (sends []))
-ticks n o has none no_question offer =
+-- and no probe runs or is due
+ticks : (n : Situation) (o : Offer) → (state n.history).settings ≡ Some (node_settings 1 2) → run_at n 2 ≡ None → nat_le 4 (later (of_peer n.volatile 2).clock) ≡ false → (of_peer n.volatile 2).ended ≡ 0 → choice_at (node_settings 1 2) n 2 ≡ None → questions (state n.history) 2 ≡ []
+    → offer_at (node_settings 1 2) n 2 ≡ Some o → react n (Tick 2) ≡ ruled 2 (then_by (by_offer (node_settings 1 2) n.history 2 (Some o)) (sends []))
+ticks n o has idle early ended none no_question offer =
+    let st = node_settings 1 2 in
+    let last = sends (questions (state n.history) 2) in
+    let probed = then_by (by_run st.seed (state n.history) 2 (of_peer n.volatile 2) (run_at n 2)) last in
+    let offered = then_by (by_offer st n.history 2 (offer_at st n 2)) probed in
     ap (λ (s : Option Settings). ruled 2 (on_tick s n 2)) has
-    ∙ ap (λ (c : Option (List Candidate)). ruled 2 (then_by (by_choice c) (then_by (by_offer (node_settings 1 2) n.history 2 (offer_at (node_settings 1 2) n 2)) (sends (questions (state n.history) 2))))) none
-    ∙ ap (λ (ls : List Letter). ruled 2 (then_by (by_offer (node_settings 1 2) n.history 2 (offer_at (node_settings 1 2) n 2)) (sends ls))) no_question
-    ∙ ap (λ (a : Option Offer). ruled 2 (then_by (by_offer (node_settings 1 2) n.history 2 a) (sends []))) offer
+    ∙ ap (λ (r : Option Run). ruled 2 (then_by (by_late 2 (later (of_peer n.volatile 2).clock) r) (then_by (by_choice (choice_at st n 2)) offered))) idle
+    ∙ ap (λ (c : Option (List Candidate)). ruled 2 (then_by (by_choice c) offered)) none
+    ∙ ap (λ (a : Option Offer). ruled 2 (then_by (by_offer st n.history 2 a) probed)) offer
+    ∙ ap (λ (q : Rule). ruled 2 (then_by (by_offer st n.history 2 (Some o)) q)) (not_due n last idle early ended ∙ ap (λ (ls : List Letter). sends ls) no_question)
+  where
+    not_due : (n : Situation) (last : Rule) → run_at n 2 ≡ None → nat_le 4 (later (of_peer n.volatile 2).clock) ≡ false → (of_peer n.volatile 2).ended ≡ 0 → then_by (by_run (node_settings 1 2).seed (state n.history) 2 (of_peer n.volatile 2) (run_at n 2)) last ≡ last
+    not_due n last idle early ended = rw (idle, ended, early) refl
 
 -- what node 1 is when it has begun, and the changes after that
 begun_state : (text : List ℕ) → settings_of text ≡ Some (node_settings 1 2) → after nothing_yet (Begun (record { body = Some text })) ≡ record nothing_yet { changes = 1; settings = Some (node_settings 1 2); rows = (2, blank) ∷ [] }
@@ -99,12 +109,12 @@ steps_worked text other says others is =
     let last : IsLast (took other) = record { number = rw others refl; change = rw others refl } in
     let pending : (row (state (chosen text)) 2).pending ≡ None = rw says refl in
     let next : offer_at (node_settings 1 2) first 2 ≡ Some (record { deal = record { number = 1; what = Fresh name }; is_new = true }) =
-    ap (λ (o : Option OwnDeal). offer_by (node_settings 1 2) (state first.history) 2 (of_peer first.volatile 2) o) pending ∙ ap (λ (s : State). proposed_at (node_settings 1 2) (state_from s later_changes) 2 []) (begun_state text says) in
-    let proposes = ticks first (record { deal = record { number = 1; what = Fresh name }; is_new = true }) says (rw says refl) (rw says refl) next in
-    let repeats = ticks again (record { deal = record { number = 1; what = Fresh name }; is_new = false }) says (rw says refl) (rw says refl) (rw says refl) in
+    ap (λ (o : Option OwnDeal). offer_by (node_settings 1 2) (state first.history) 2 (of_peer first.volatile 2) [] o) pending ∙ ap (λ (s : State). proposed_at (node_settings 1 2) (state_from s later_changes) 2 []) (begun_state text says) in
+    let proposes = ticks first (record { deal = record { number = 1; what = Fresh name }; is_new = true }) says refl refl refl (rw says refl) (rw says refl) next in
+    let repeats = ticks again (record { deal = record { number = 1; what = Fresh name }; is_new = false }) says refl refl refl (rw says refl) (rw says refl) (rw says refl) in
     let tells = asks_it taken others store_fits ∙ answers_last taken last in
     record {
-      asks = given (opened (chosen text) []) (Tick 2) (node_settings 1 2) _ says proposes;
+      asks = given (opened (chosen text) []) (Tick 2) (node_settings 1 2) _ says proposes ∙ rw says refl;
       asks_again = given (first_node (asked text) 1 (store ∷ [])) (Tick 2) (node_settings 1 2) _ says repeats;
       forgets = ap (λ r. record { now = fresh (settled again r).history; sent = store ∷ [] }) repeats;
       restarts = refl;

@@ -100,7 +100,7 @@ accepted = (1, datagram pair_key 2 1 1 (Accepted (claims_from (bytes_from 2 32) 
 
 -- a node with this history, the clock of its peer and these letters
 abbrev pub clock_of : ℕ → ℕ → Volatile
-clock_of peer ticks = record { peers = (peer, record { clock = ticks; wait = 0; sample = None }) ∷ [] }
+clock_of peer ticks = record { peers = (peer, record { clock = ticks; wait = 0; sample = None; began = None; ended = 0 }) ∷ [] }
 
 abbrev pub first_node : List Change → ℕ → List (ℕ × List ℕ) → Party
 first_node h ticks sent = record { now = record { history = h; volatile = clock_of 2 ticks }; sent = sent }

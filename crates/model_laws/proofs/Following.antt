@@ -1,13 +1,15 @@
 -- What stands before what, in every lawful history: each discard comes after a failure, and each outcome after its Asked.
-use Rattle.std.proofs.Common.{◌≡◌, ◌⊎◌, inl, inr, ℕ, Bool, true, false, cond, List, [], ◌∷◌, ◌++◌, length, Option, Some, None, refl, sym, ap, ◌∙◌, subst, ⊎_elim, append_assoc, append-nil, arith}
+use Rattle.std.proofs.Common.{◌≡◌, ◌≤◌, ◌<◌, ◌⊎◌, inl, inr, ℕ, Bool, true, false, cond, List, [], ◌∷◌, ◌++◌, length, Option, Some, None, refl, sym, ap, ◌∙◌, subst, ⊎_elim, append_assoc, append-nil, length-append, arith}
 use Rattle.std.specs.Prelude.{◌==◌, nat_lt, is_some}
 use Rattle.std.specs.List.{list_any, list_all}
-use Rattle.std.proofs.lemmas.Bool.{false≢true, eqb-true, eq-eqb, and_parts}
-use Rattle.std.proofs.lemmas.List.Folds.{list_any-append}
+use Rattle.std.proofs.lemmas.Bool.{false≢true, eqb-true, eq-eqb, and_parts, leb-true}
+use Rattle.std.proofs.lemmas.List.Folds.{list_any-append, list_all-append}
 use Rattle.psb_bytes.specs.declared.ids.Object.{Object}
 use Rattle.psb_model.specs.declared.change.Change.{Change}
 use Rattle.psb_model.specs.declared.change.Change.TheVariants.{Begun, Kept, Snapped, Forgot, TookFresh, TookSwap, LetGo, LetGoBack, Replaced, Refused, Proposed, Settled, Turned, Asked, Passed, Failed, Declined, Discarded, Chose}
 use Rattle.psb_model.specs.Words.{all_of}
+use Rattle.psb_model.specs.Grammar.{is_u32, objects_listed, object_fits, fits_widths}
+use Rattle.psb_model.specs.Needed.{IsValid}
 use Rattle.psb_model.specs.State.{Row, State, nothing_yet, row, is_peer}
 use Rattle.psb_model.specs.Conditions.{peer_of, settings_of_body, asked_objects, asked_count, same_objects, is_outcome, tests, allowed}
 use Rattle.psb_model.specs.Effects.{after}
@@ -17,18 +19,18 @@ use Rattle.psb_model.proofs.Standing.{same_objects-same}
 use Rattle.psb_model.proofs.Steps.{parts}
 use Rattle.psb_model.proofs.Rows.{row_in-first_rows}
 use Rattle.psb_model.proofs.Prefixes.{state_snoc, changes_counted, lawful_app, lawful_cons}
-use Rattle.psb_model.proofs.Steady.{allows, or_true}
+use Rattle.psb_model.proofs.Steady.{allows, begun_before, or_true}
 use Rattle.psb_model.proofs.Bare.{changed, row_bare}
 use Rattle.model_laws.specs.Following.{is_failure, is_discard, HasFailure, AllDiscardsFollow, probe_of, probes, HasAsked, Suits, Answers, AllOutcomesOnce}
 
 -- ---- what a change does to the open probe of a peer, and to its discard that is due
 
 -- the row of p after change c, whose row was r
-record Noted (n : ℕ) (c : Change) (p : ℕ) (r r' : Row) : Type 0 where
-  asked : (m : ℕ) (os : List Object) → r'.asked ≡ Some (m, os) → ((c ≡ Asked (record { peer = p; objects = os })) × (n ≡ m)) ⊎ ((probes p c ≡ false) × (r.asked ≡ Some (m, os)))
-  due : r'.due ≡ true → (is_failure p c ≡ true) ⊎ ((is_discard p c ≡ false) × (r.due ≡ true))
+pub record Noted (n : ℕ) (c : Change) (p : ℕ) (r r' : Row) : Type 0 where
+  pub asked : (m : ℕ) (os : List Object) → r'.asked ≡ Some (m, os) → ((c ≡ Asked (record { peer = p; objects = os })) × (n ≡ m)) ⊎ ((probes p c ≡ false) × (r.asked ≡ Some (m, os)))
+  pub due : r'.due ≡ true → (is_failure p c ≡ true) ⊎ ((is_discard p c ≡ false) × (r.due ≡ true))
 
-abbrev Notes : State → Change → ℕ → Type 0
+abbrev pub Notes : State → Change → ℕ → Type 0
 Notes s c p = Noted s.changes c p (row s p) (row (after s c) p)
 
 -- a change that is no probe and no discard of p leaves both
@@ -75,7 +77,7 @@ of_other true a p h = refl
 of_other false a p h = h
 
 -- of each kind
-noted : (s : State) (c : Change) (p : ℕ) → allowed s c ≡ true → Notes s c p
+pub noted : (s : State) (c : Change) (p : ℕ) → allowed s c ≡ true → Notes s c p
 noted s (Begun x) p h =
     let is = row_in-first_rows (settings_of_body x.body) p in
     record {
@@ -178,6 +180,9 @@ shows_from p h (c ∷ cs) y v =
     let w = lawful_cons (state h) c cs v in
     subst (λ l. Shows l p) (append_assoc h (c ∷ []) cs) (shows_from p (h ++ c ∷ []) cs (shows_snoc h c p w.allows y) (ap (λ (s : State). lawful_from s cs) (state_snoc h c) ∙ w.rest))
 
+shows_state : (h : List Change) (p : ℕ) → is_lawful h ≡ true → Shows h p
+shows_state h p v = shows_from p [] h (record { asked = λ n os e. none_open (n, os) e; due = λ e. absurd (false≢true e) }) v
+
 -- the changes before one of a lawful history, and that it may be made after them
 record Reached (before : List Change) (c : Change) : Type 0 where
   shows : (p : ℕ) → Shows before p
@@ -187,7 +192,7 @@ reached : (before : List Change) (c : Change) (later : List Change) → is_lawfu
 reached before c later v =
     let two = and_parts (is_lawful before) (lawful_from (state before) (c ∷ later)) (sym (lawful_app nothing_yet before (c ∷ later)) ∙ v) in
     record {
-      shows = λ p. shows_from p [] before (record { asked = λ n os e. none_open (n, os) e; due = λ e. absurd (false≢true e) }) two.0;
+      shows = λ p. shows_state before p two.0;
       may = (lawful_cons (state before) c later two.1).allows;
     }
 
@@ -197,6 +202,39 @@ discards_follow before later p objects v =
     let c : Change = Discarded (record { peer = p; objects = objects }) in
     let r = reached before c later v in
     (r.shows p).due (parts (tests (state before) c) (allows (state before) c r.may).tests).0
+
+-- ---- a probe that is open
+
+-- its number is that of a change behind the first, and its objects are distinct, fit their fields, and are 1 to 32
+pub record IsAsked (h : List Change) (n : ℕ) (objects : List Object) : Type 0 where
+  pub behind : 1 ≤ n
+  pub within : n < length h
+  pub listed : objects_listed objects ≡ true
+  pub fit : list_all object_fits objects ≡ true
+  pub some : 1 ≤ length objects
+  pub few : length objects ≤ 32
+
+asked_at : (earlier since : List Change) (p : ℕ) (objects : List Object) → IsValid (earlier ++ Asked (record { peer = p; objects = objects }) ∷ since) → IsAsked (earlier ++ Asked (record { peer = p; objects = objects }) ∷ since) (length earlier) objects
+asked_at earlier since p objects v =
+    let c : Change = Asked (record { peer = p; objects = objects }) in
+    let two = and_parts (is_lawful earlier) (lawful_from (state earlier) (c ∷ since)) (sym (lawful_app nothing_yet earlier (c ∷ since)) ∙ v.lawful) in
+    let w = lawful_cons (state earlier) c since two.1 in
+    let ts = parts (tests (state earlier) c) (allows (state earlier) c w.allows).tests in
+    let widths = and_parts (list_all fits_widths earlier) (list_all fits_widths (c ∷ since)) (sym (list_all-append fits_widths earlier (c ∷ since)) ∙ v.fit) in
+    let own = and_parts (fits_widths c) (list_all fits_widths since) widths.1 in
+    record {
+      behind = subst (λ n. 1 ≤ n) (changes_counted earlier) (begun_before (state earlier) c refl w.allows);
+      within = omega (arith, length-append earlier (c ∷ since));
+      listed = w.grammar;
+      fit = (and_parts (is_u32 p) (list_all object_fits objects) own.0).1;
+      some = leb-true 1 (length objects) ts.0;
+      few = leb-true (length objects) 32 ts.1.0;
+    }
+
+pub asked_is : (h : List Change) (p n : ℕ) (objects : List Object) → IsValid h → (row (state h) p).asked ≡ Some (n, objects) → IsAsked h n objects
+asked_is h p n objects v is =
+    let y = (shows_state h p v.lawful).asked n objects is in
+    subst (λ l. IsAsked l n objects) (sym y.parts) (subst (λ m. IsAsked (y.earlier ++ Asked (record { peer = p; objects = objects }) ∷ y.since) m objects) y.number (asked_at y.earlier y.since p objects (subst IsValid y.parts v)))
 
 -- ---- outcomes
 

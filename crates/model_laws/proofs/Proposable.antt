@@ -3,7 +3,7 @@ use Rattle.std.proofs.Common.{◌≡◌, ℕ, ◌+◌, ◌≤◌, ◌^◌, Bool,
 use Rattle.std.specs.Prelude.{zero, suc, ◌==◌, nat_le, nat_lt, is_none, find, if◌then◌else◌}
 use Rattle.std.specs.List.{list_any, list_all}
 use Rattle.std.specs.Option.{option_map, option_or}
-use Rattle.std.proofs.lemmas.Bool.{and_parts, false≢true, leb-true, lt-ltb, eq-eqb}
+use Rattle.std.proofs.lemmas.Bool.{and_parts, or_parts, false≢true, leb-true, lt-ltb, eq-eqb}
 use Rattle.std.proofs.lemmas.List.{length-take-le}
 use Rattle.psb_bytes.specs.declared.ids.Object.{Object}
 use Rattle.psb_bytes.specs.declared.ids.Object.TheVariants.{Chunk, Slot}
@@ -13,12 +13,13 @@ use Rattle.psb_model.specs.declared.entries.OwnEntry.{OwnEntry}
 use Rattle.psb_model.specs.declared.deals.DealWhat.{DealWhat}
 use Rattle.psb_model.specs.declared.deals.DealWhat.TheVariants.{Fresh, Swap, Cancel, PutBack}
 use Rattle.psb_model.specs.declared.change.Change.TheVariants.{Proposed}
-use Rattle.psb_model.specs.Words.{units, units_at, all_of, listed, name_listed, name_eq, object_eq, has, has_so, occurs, In}
-use Rattle.psb_model.specs.State.{State, row, is_peer, in_key, out_key, out_size, debt_key, own_has, own_len, own_marked, is_wanted, is_barred, tied_in, tied_out, used}
+use Rattle.psb_model.specs.Words.{units, units_at, all_of, slots, listed, name_listed, name_eq, object_eq, has, has_so, occurs, In}
+use Rattle.psb_model.specs.State.{State, row, is_peer, in_key, out_key, out_size, debt_key, own_has, own_len, own_marked, is_wanted, is_barred, out_ties, tied_in, tied_out, used}
 use Rattle.psb_model.specs.Grammar.{ascend, numbers_listed, what_in_grammar, is_u32, is_digest, object_fits, what_fits}
 use Rattle.psb_model.specs.Conditions.{capacity, most_claims, is_own, is_direct_or_home, each_slot, place_tests, propose_tests, allowed}
 use Rattle.psb_model.specs.Proposing.{ProposeFacts, is_free, as_many, slot_number, slots_to_give, may_release, cancel, put_back, release_of, release, slots_to_fill, is_missing, swap, fresh, place_of, first_place, place, proposal}
-use Rattle.psb_model.proofs.ByObject.{by_cases, object_eq-refl, has-occurs}
+use Rattle.psb_model.proofs.ByObject.{by_cases, object_eq-refl, object_eq-swap, has-occurs}
+use Rattle.psb_model.proofs.Steps.{not_true}
 use Rattle.psb_model.proofs.Standing.{occurs_none}
 use Rattle.model_laws.proofs.RowOrder.{IsSortedRow, numbers_that, numbers_ascend, ascend_take}
 use Rattle.psb_model.proofs.Own.{name_refl, name_same}
@@ -237,6 +238,65 @@ proposable s p probed facts what plain fit wide sorted issued most h =
     option_cases (release s p probed facts.issued) (place s p probed facts.capacity) what h
     (λ is. released s p probed what plain fit wide sorted (ap (release s p probed) (sym issued) ∙ is))
     (λ is. placed s p probed what plain fit wide sorted (ap (place s p probed) (sym most) ∙ is))
+
+-- ---- what is proposed ties nothing that a probe lists
+
+abbrev spares : List Object → DealWhat → Bool
+spares probed what = list_all (λ o. not (listed probed o)) (out_ties what)
+
+each_slots : (test : Object → Bool) (ns : List ℕ) → list_all test (slots ns) ≡ each_slot test ns
+each_slots test [] = refl
+each_slots test (n ∷ ns) = ap (λ b. test (Slot n) && b) (each_slots test ns)
+
+swap_spares : (s : State) (p : ℕ) (probed : List Object) (most : ℕ) (l : List OwnEntry) (what : DealWhat) → first_place s p probed most l ≡ Some what → spares probed what ≡ true
+swap_spares s p probed most l what h = first_cases s p probed most l what h (λ e there is.
+    place_cases s p probed most e what is
+    (λ missing ms many same.
+    let test : OutEntry → Bool = λ x. is_own x && is_free s p probed x.object in
+    let free = each_of (λ o. not (listed probed o)) (units e.len) (slots_to_fill s p probed) ms many (all_numbers out_key test (λ o. not (listed probed o)) (row s p).outs (λ x at passes. (and_parts (not (tied_out s p x.object)) (not (listed probed x.object)) (and_parts (is_own x) (is_free s p probed x.object) passes).1).1)) in
+    subst (λ w. spares probed w ≡ true) same (each_slots (λ o. not (listed probed o)) ms ∙ free))
+    (λ missing fits same. subst (λ w. spares probed w ≡ true) same refl))
+
+release_spares : (s : State) (p : ℕ) (probed : List Object) (issued : ℕ) (what : DealWhat) → release s p probed issued ≡ Some what → spares probed what ≡ true
+release_spares s p probed issued what h =
+    release_cases s p probed issued what h
+    (λ e name there is passes ms many same. subst (λ w. spares probed w ≡ true) same (one_spared s p probed name passes))
+    (λ e name there is passes fits same. subst (λ w. spares probed w ≡ true) same (one_spared s p probed name passes))
+  where
+    one_spared : (s : State) (p : ℕ) (probed : List Object) (name : List ℕ) → (own_marked s.own name && is_free s p probed (Chunk name)) ≡ true → list_all (λ o. not (listed probed o)) (Chunk name ∷ []) ≡ true
+    one_spared s p probed name passes =
+        let mark = and_parts (own_marked s.own name) (is_free s p probed (Chunk name)) passes in
+        rw ((and_parts (not (tied_out s p (Chunk name))) (not (listed probed (Chunk name))) mark.1).1) refl
+
+proposal_spares : (s : State) (p : ℕ) (probed : List Object) (facts : ProposeFacts) (what : DealWhat) → proposal s p probed facts ≡ Some what → spares probed what ≡ true
+proposal_spares s p probed facts what h =
+    option_cases (release s p probed facts.issued) (place s p probed facts.capacity) what h
+    (λ is. release_spares s p probed facts.issued what is)
+    (λ is. by_cases (list_any (λ q. q == p) s.chosen)
+    (λ chosen. let is' : first_place s p probed facts.capacity s.own ≡ Some what = rw chosen at is in swap_spares s p probed facts.capacity s.own what is')
+    (λ other. let is' : None ≡ Some what = rw other at is in absurd (cc (is'))))
+
+-- so none of that is tied by it
+all_true : {E : Type 0} (test : E → Bool) → ((e : E) → test e ≡ true) → (l : List E) → list_all test l ≡ true
+all_true test h [] = refl
+all_true test h (e ∷ es) = rw (h e) (all_true test h es)
+
+one_more : (t : Object) (ts probed : List Object) → listed probed t ≡ false → list_all (λ o. not (listed ts o)) probed ≡ true → list_all (λ o. not (listed (t ∷ ts) o)) probed ≡ true
+one_more t ts [] k h = refl
+one_more t ts (o ∷ os) k h =
+    let apart = or_parts (object_eq o t) (listed os t) k in
+    let a = and_parts (not (listed ts o)) (list_all (λ x. not (listed ts x)) os) h in
+    let here : object_eq t o ≡ false = object_eq-swap t o ∙ apart.0 in
+    rw (here, a.0) (one_more t ts os apart.1 a.1)
+
+each_other : (ties probed : List Object) → list_all (λ o. not (listed probed o)) ties ≡ true → list_all (λ o. not (listed ties o)) probed ≡ true
+each_other [] probed h = all_true (λ o. not (listed [] o)) (λ o. refl) probed
+each_other (t ∷ ts) probed h =
+    let a = and_parts (not (listed probed t)) (list_all (λ o. not (listed probed o)) ts) h in
+    one_more t ts probed (not_true (listed probed t) a.0) (each_other ts probed a.1)
+
+pub proposal_ties_none : (s : State) (p : ℕ) (probed : List Object) (facts : ProposeFacts) (what : DealWhat) → proposal s p probed facts ≡ Some what → list_all (λ o. not (listed (out_ties what) o)) probed ≡ true
+proposal_ties_none s p probed facts what h = each_other (out_ties what) probed (proposal_spares s p probed facts what h)
 
 -- with the next number it may be made, where none is pending
 pub proposal_allowed : (s : State) (p deal : ℕ) (what : DealWhat) → MayBe s p what → nat_lt 0 s.changes ≡ true → is_peer s p ≡ true → (row s p).pending ≡ None → deal ≡ (row s p).mine + 1 → allowed s (Proposed (record { peer = p; deal = deal; what = what })) ≡ true

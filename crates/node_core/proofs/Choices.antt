@@ -26,7 +26,7 @@ use Rattle.psb_model.proofs.ByObject.{by_cases}
 use Rattle.psb_machine.specs.Letters.{Letter as MachineLetter, key_of_row, spelled, all_spelled}
 use Rattle.psb_machine.specs.Proposals.{Offer}
 use Rattle.psb_machine.specs.Volatile.{Volatile, PeerState as MachineState, of_peer, later}
-use Rattle.psb_machine.specs.Machine.{Situation, Rule, sends, then_by, choice_at, choice_of, by_choice, by_offer, offer_at, on_tick, sample_of as machine_sample}
+use Rattle.psb_machine.specs.Machine.{Situation, Rule, passes, ends_with, then_by, by_late, run_at, choice_at, choice_of, by_choice, by_offer, offer_at, on_tick, sample_of as machine_sample}
 use Rattle.psb_machine.proofs.Choosing.{choice_cases, choice_may, found_asked, found_distinct, found_few, open_is}
 use Rattle.psb_machine.proofs.Peers.{settings_read}
 use Rattle.peer_states.specs.declared.peer_state.PeerState.{PeerState}
@@ -36,13 +36,15 @@ use Rattle.node_letters.specs.Letters.{letters_of}
 use Rattle.node_letters.specs.Peers.{PeersView, peers_of}
 use Rattle.node_core.specs.declared.reaction.Reaction.{Reaction}
 use Rattle.peer_states.specs.PeerStates.{state_of, sample_of, KnowsStates}
-use Rattle.node_core.specs.Ticking.{IsRule, Follows, FollowsSo, OffersDeal, OffersDealSo}
+use Rattle.node_core.specs.declared.reaction.Asking.{Asking}
+use Rattle.node_core.specs.Ticking.{IsRule, asked_at, Asks, Follows, FollowsSo, OffersDeal, OffersDealSo}
 use Rattle.node_core.specs.Making.{MayMake}
-use Rattle.node_core.specs.Reacting.{MayCome, IsSame}
+use Rattle.node_core.specs.Reacting.{MayFollow, MayCome, IsSame}
 use Rattle.node_core.specs.Stored.{Knows}
+use Rattle.own_probes.proofs.Reactions.{late_ends, late_passes}
 use Rattle.node_core.proofs.Heard.{none_spelled}
 use Rattle.node_core.proofs.Ticking.{has_key, spelled_with}
-use Rattle.node_core.proofs.Committing.{same_knows}
+use Rattle.node_core.proofs.Committing.{same_knows, may_follow}
 
 -- ---- the candidates
 
@@ -180,7 +182,7 @@ chosen_few settings n p cs v present is =
 
 pub record MayChoose (n : Situation) (c : Change) : Type 0 where
   pub make : MayMake (state n.history) c
-  pub valid : IsValid (n.history ++ c ∷ [])
+  pub follow : MayFollow n c
 
 may_choose : (settings : Settings) (n : Situation) (p : ℕ) (cs : List Candidate) → IsValid n.history → (state n.history).settings ≡ Some settings → (state n.history).changes < 2 ^ 62 → choice_at settings n p ≡ Some cs → MayChoose n (choice_of cs)
 may_choose settings n p cs v present few is =
@@ -193,7 +195,7 @@ may_choose settings n p cs v present few is =
         there = refl;
         short = omega (arith, chose_short cs (chosen_few settings n p cs v present is));
       };
-      valid = valid_snoc n.history (choice_of cs) v m.grammar m.may m.widths m.brings;
+      follow = may_follow n (choice_of cs) refl (valid_snoc n.history (choice_of cs) v m.grammar m.may m.widths m.brings);
     }
 
 by_choice_made : {P : Type 0} (o : Option (List Candidate)) (c : Change) → Some c ≡ option_map choice_of o → ((cs : List Candidate) → o ≡ Some cs → c ≡ choice_of cs → P) → P
@@ -204,7 +206,7 @@ by_choice_made (Some cs) c is f = f cs refl (cc (is))
 pub choice_may_come : {L : Type 0} (node : Node L) (p : ℕ) (c : Change) → node.ledger.state.changes < 2 ^ 62 → (n : Situation) × Knows node n → ((n : Situation) (settings : Settings) → Knows node n → (state n.history).settings ≡ Some settings → Some c ≡ option_map choice_of (choice_at settings n p)) → MayCome Knows node c
 choice_may_come node p c few known choice = (
   subst (λ (s : State). MayMake s c) (sym known.1.ledger) (made known.0 known.1).make,
-  λ n k. (made n k).valid,
+  λ n k. (made n k).follow,
 )
   where
     made : (n : Situation) → Knows node n → MayChoose n c
@@ -227,34 +229,60 @@ spelled_joined (Some settings) a b = map_joined a
 
 -- ---- what comes of a tick
 
+-- the rules behind a choice, and behind the end of a late probe
+abbrev pub after_choice : Settings → Situation → ℕ → Rule
+after_choice settings n p = then_by (by_offer settings n.history p (offer_at settings n p)) (asked_at settings n p)
+
+abbrev pub after_late : Settings → Situation → ℕ → Rule
+after_late settings n p = then_by (by_choice (choice_at settings n p)) (after_choice settings n p)
+
+-- what a late probe comes to at this tick
+abbrev pub late_rule : Situation → ℕ → Rule
+late_rule n p = by_late p (later (of_peer n.volatile p).clock) (run_at n p)
+
+-- a probe that is late
+pub late_follows : {L : Type 0} (r : Reaction) (node : Node L) (n : Situation) (p : ℕ) (x : PeerState) (c : Change) → Knows node n → state_of node.states.items p ≡ Some x → Some c ≡ (late_rule n p).grown → r.change ≡ Some c → r.dropped ≡ None → r.out ≡ [] → Follows r n p
+late_follows r node n p x c k found late change dropped out =
+    let settings = k.settings.settings in
+    let h = has_key node n p x k found in
+    subst (λ (m : Rule). IsRule r n m) (sym (h.follows ∙ ap (λ (m : Rule). then_by m (after_late settings n p)) (late_ends p (later (of_peer n.volatile p).clock) (run_at n p) c (sym late)))) (record {
+      change = change;
+      letters = ap letters_of out ∙ none_spelled (state n.history).settings;
+      dropped = dropped;
+    })
+
+-- none is late: the rules behind it
+no_late : {L : Type 0} (node : Node L) (n : Situation) (p : ℕ) (x : PeerState) (k : Knows node n) → state_of node.states.items p ≡ Some x → None ≡ (late_rule n p).grown → on_tick (state n.history).settings n p ≡ after_late k.settings.settings n p
+no_late node n p x k found late =
+    let settings = k.settings.settings in
+    let h = has_key node n p x k found in
+    h.follows ∙ ap (λ (m : Rule). then_by m (after_late settings n p)) (late_passes p (later (of_peer n.volatile p).clock) (run_at n p) (sym late))
+
 by_choice_none : (o : Option (List Candidate)) → None ≡ option_map choice_of o → o ≡ None
 by_choice_none None is = refl
 by_choice_none (Some cs) is = absurd (cc (is))
 
 -- a choice
-pub choice_follows : {L : Type 0} (r : Reaction) (node : Node L) (n : Situation) (p : ℕ) (x : PeerState) (c : Change) → Knows node n → state_of node.states.items p ≡ Some x
+pub choice_follows : {L : Type 0} (r : Reaction) (node : Node L) (n : Situation) (p : ℕ) (x : PeerState) (c : Change) → Knows node n → state_of node.states.items p ≡ Some x → None ≡ (late_rule n p).grown
     → ((n : Situation) (settings : Settings) → Knows node n → (state n.history).settings ≡ Some settings → Some c ≡ option_map choice_of (choice_at settings n p))
     → r.change ≡ Some c → r.dropped ≡ None → r.out ≡ [] → Follows r n p
-choice_follows r node n p x c k found choice change dropped out =
+choice_follows r node n p x c k found late choice change dropped out =
     let settings = k.settings.settings in
-    let h = has_key node n p x k found in
-    let next = then_by (by_offer settings n.history p (offer_at settings n p)) (sends (questions (state n.history) p)) in
     by_choice_made (choice_at settings n p) c (choice n settings k k.settings.present) (λ cs is same.
-    subst (λ (m : Rule). IsRule r n m) (sym (h.follows ∙ ap (λ (o : Option (List Candidate)). then_by (by_choice o) next) is)) (record {
+    subst (λ (m : Rule). IsRule r n m) (sym (no_late node n p x k found late ∙ ap (λ (o : Option (List Candidate)). then_by (by_choice o) (after_choice settings n p)) is)) (record {
       change = change ∙ ap (λ (d : Change). Some d) same;
       letters = ap letters_of out ∙ none_spelled (state n.history).settings;
       dropped = dropped;
     }))
 
--- no choice: the rule of the deal, and behind it the question
-no_choice : {L : Type 0} (node : Node L) (n : Situation) (p : ℕ) (x : PeerState) (k : Knows node n) → state_of node.states.items p ≡ Some x
+-- no choice: the rule of the deal, and behind it what is asked
+no_choice : {L : Type 0} (node : Node L) (n : Situation) (p : ℕ) (x : PeerState) (k : Knows node n) → state_of node.states.items p ≡ Some x → None ≡ (late_rule n p).grown
     → ((n : Situation) (settings : Settings) → Knows node n → (state n.history).settings ≡ Some settings → None ≡ option_map choice_of (choice_at settings n p))
-    → on_tick (state n.history).settings n p ≡ then_by (by_offer k.settings.settings n.history p (offer_at k.settings.settings n p)) (sends (questions (state n.history) p))
-no_choice node n p x k found choice =
+    → on_tick (state n.history).settings n p ≡ after_choice k.settings.settings n p
+no_choice node n p x k found late choice =
     let settings = k.settings.settings in
-    let h = has_key node n p x k found in
-    let next = then_by (by_offer settings n.history p (offer_at settings n p)) (sends (questions (state n.history) p)) in
-    h.follows ∙ ap (λ (o : Option (List Candidate)). then_by (by_choice o) next) (by_choice_none (choice_at settings n p) (choice n settings k k.settings.present))
+    no_late node n p x k found late
+    ∙ ap (λ (o : Option (List Candidate)). then_by (by_choice o) (after_choice settings n p)) (by_choice_none (choice_at settings n p) (choice n settings k k.settings.present))
 
 -- a rule that makes a change is the last, and one that makes none is not
 offer_ends : (settings : Settings) (h : List Change) (p : ℕ) (o : Option Offer) (c : Change) → (by_offer settings h p o).grown ≡ Some c → (by_offer settings h p o).goes_on ≡ false
@@ -269,70 +297,89 @@ offer_goes_on settings h p (Some o) is = by_new o.is_new is
     by_new true e = absurd (cc (e))
     by_new false e = refl
 
+not_some : (o : Option Change) → is_some o ≡ false → o ≡ None
+not_some None h = refl
+not_some (Some c) h = absurd (false≢true (sym h))
+
+some_change : (o : Option Change) → is_some o ≡ true → (c : Change) × (o ≡ Some c)
+some_change None h = absurd (false≢true h)
+some_change (Some c) h = (c, refl)
+
+stopped : (a b : Rule) → a.goes_on ≡ false → then_by a b ≡ a
+stopped a b stops = ap (λ (t : Bool). cond t (record { grown = b.grown; letters = a.letters ++ b.letters; goes_on = b.goes_on }) a) stops
+
+went_on : (a b : Rule) → a.goes_on ≡ true → then_by a b ≡ record { grown = b.grown; letters = a.letters ++ b.letters; goes_on = b.goes_on }
+went_on a b goes = ap (λ (t : Bool). cond t (record { grown = b.grown; letters = a.letters ++ b.letters; goes_on = b.goes_on }) a) goes
+
 -- the deal, where it makes a change
-pub deal_follows : {L : Type 0} (r : Reaction) (node : Node L) (n : Situation) (p : ℕ) (x : PeerState) → Knows node n → state_of node.states.items p ≡ Some x
+deal_alone : {L : Type 0} (r : Reaction) (node : Node L) (n : Situation) (p : ℕ) (x : PeerState) (k : Knows node n) → state_of node.states.items p ≡ Some x → None ≡ (late_rule n p).grown
+    → ((n : Situation) (settings : Settings) → Knows node n → (state n.history).settings ≡ Some settings → None ≡ option_map choice_of (choice_at settings n p))
+    → is_some r.change ≡ true → r.change ≡ (by_offer k.settings.settings n.history p (offer_at k.settings.settings n p)).grown
+    → on_tick (state n.history).settings n p ≡ by_offer k.settings.settings n.history p (offer_at k.settings.settings n p)
+deal_alone r node n p x k found late choice made change =
+    let settings = k.settings.settings in
+    let offered = by_offer settings n.history p (offer_at settings n p) in
+    let c = some_change r.change made in
+    no_choice node n p x k found late choice ∙ stopped offered (asked_at settings n p) (offer_ends settings n.history p (offer_at settings n p) c.0 (sym change ∙ c.1))
+
+pub deal_follows : {L : Type 0} (r : Reaction) (node : Node L) (n : Situation) (p : ℕ) (x : PeerState) → Knows node n → state_of node.states.items p ≡ Some x → None ≡ (late_rule n p).grown
     → ((n : Situation) (settings : Settings) → Knows node n → (state n.history).settings ≡ Some settings → None ≡ option_map choice_of (choice_at settings n p))
     → is_some r.change ≡ true → OffersDeal r node n p → Follows r n p
-deal_follows r node n p x k found choice made offers =
-    let settings = k.settings.settings in
+deal_follows r node n p x k found late choice made offers =
     let h = has_key node n p x k found in
-    let asked = sends (questions (state n.history) p) in
-    subst (λ (m : Rule). IsRule r n m) (sym (no_choice node n p x k found choice))
-    (ended (by_offer settings n.history p (offer_at settings n p)) asked (offers settings h.key k.settings.present h.here) (λ c. offer_ends settings n.history p (offer_at settings n p) c))
-  where
-    ended : (offered asked : Rule) → IsRule r n offered → ((c : Change) → offered.grown ≡ Some c → offered.goes_on ≡ false) → IsRule r n (then_by offered asked)
-    ended offered asked it ends = by_grown offered.grown refl
-      where
-        by_grown : (o : Option Change) → offered.grown ≡ o → IsRule r n (then_by offered asked)
-        by_grown None none = absurd (false≢true (sym (ap (λ (q : Option Change). is_some q) (it.change ∙ none)) ∙ made))
-        by_grown (Some c) some = subst (λ (m : Rule). IsRule r n m) (sym (ap (λ (t : Bool). cond t (record { grown = asked.grown; letters = offered.letters ++ asked.letters; goes_on = asked.goes_on }) offered) (ends c some))) it
+    let it = offers k.settings.settings h.key k.settings.present h.here in
+    subst (λ (m : Rule). IsRule r n m) (sym (deal_alone r node n p x k found late choice made it.change)) it
 
--- and with the question, where it makes none
-pub question_follows : {L : Type 0} (r q : Reaction) (node : Node L) (n : Situation) (p : ℕ) (x : PeerState) (letter : Option Letter) → Knows node n → state_of node.states.items p ≡ Some x
+pub deal_follows_so : {L : Type 0} (r : Reaction) (node : Node L) (n : Situation) (p : ℕ) (x : PeerState) → Knows node n → state_of node.states.items p ≡ Some x → None ≡ (late_rule n p).grown
     → ((n : Situation) (settings : Settings) → Knows node n → (state n.history).settings ≡ Some settings → None ≡ option_map choice_of (choice_at settings n p))
-    → is_some r.change ≡ false → q.change ≡ r.change → q.dropped ≡ r.dropped → q.out ≡ r.out ++ option_to_list letter
-    → ((settings : Settings) (key : List ℕ) → (state n.history).settings ≡ Some settings → key_in node.peers.keys p ≡ Some key → letters_of (option_to_list letter) ≡ map (spelled settings) (questions (state n.history) p))
-    → OffersDeal r node n p → Follows q n p
-question_follows r q node n p x letter k found choice none change dropped out letters offers =
+    → is_some r.change ≡ true → OffersDealSo r n p → FollowsSo r n p
+deal_follows_so r node n p x k found late choice made offers =
+    let it = offers k.settings.settings k.settings.present in
+    (it.0 ∙ sym (ap (λ (m : Rule). m.grown) (deal_alone r node n p x k found late choice made it.0)), it.1)
+
+-- and what is asked, where it makes none
+deal_passes : {L : Type 0} (r : Reaction) (node : Node L) (n : Situation) (p : ℕ) (x : PeerState) (k : Knows node n) → state_of node.states.items p ≡ Some x → None ≡ (late_rule n p).grown
+    → ((n : Situation) (settings : Settings) → Knows node n → (state n.history).settings ≡ Some settings → None ≡ option_map choice_of (choice_at settings n p))
+    → is_some r.change ≡ false → r.change ≡ (by_offer k.settings.settings n.history p (offer_at k.settings.settings n p)).grown
+    → on_tick (state n.history).settings n p ≡ record {
+      grown = (asked_at k.settings.settings n p).grown;
+      letters = (by_offer k.settings.settings n.history p (offer_at k.settings.settings n p)).letters ++ (asked_at k.settings.settings n p).letters;
+      goes_on = (asked_at k.settings.settings n p).goes_on;
+    }
+deal_passes r node n p x k found late choice none change =
+    let settings = k.settings.settings in
+    let offered = by_offer settings n.history p (offer_at settings n p) in
+    no_choice node n p x k found late choice ∙ went_on offered (asked_at settings n p) (offer_goes_on settings n.history p (offer_at settings n p) (sym change ∙ not_some r.change none))
+
+pub asking_follows : {L : Type 0} (r q : Reaction) (node : Node L) (n : Situation) (p : ℕ) (x : PeerState) (a : Asking) → Knows node n → state_of node.states.items p ≡ Some x → None ≡ (late_rule n p).grown
+    → ((n : Situation) (settings : Settings) → Knows node n → (state n.history).settings ≡ Some settings → None ≡ option_map choice_of (choice_at settings n p))
+    → is_some r.change ≡ false → q.change ≡ a.change → q.dropped ≡ r.dropped → q.out ≡ r.out ++ option_to_list a.letter → Asks a node n p → OffersDeal r node n p → Follows q n p
+asking_follows r q node n p x a k found late choice none change dropped out asks offers =
     let settings = k.settings.settings in
     let h = has_key node n p x k found in
     let offered = by_offer settings n.history p (offer_at settings n p) in
     let it = offers settings h.key k.settings.present h.here in
-    let nothing : offered.grown ≡ None = sym it.change ∙ not_some r.change none in
-    let goes = offer_goes_on settings n.history p (offer_at settings n p) nothing in
-    let asked = letters settings h.key k.settings.present h.here in
-    subst (λ (m : Rule). IsRule q n m) (sym (no_choice node n p x k found choice ∙ went_on offered (sends (questions (state n.history) p)) goes)) (record {
-      change = change ∙ not_some r.change none;
+    let asked = asks settings h.key k.settings.present h.here in
+    subst (λ (m : Rule). IsRule q n m) (sym (deal_passes r node n p x k found late choice none it.change)) (record {
+      change = change ∙ asked.change;
       letters =
           ap letters_of out
-          ∙ letters_joined r.out (option_to_list letter)
-          ∙ ap (λ (l : List (ℕ × List ℕ)). l ++ letters_of (option_to_list letter)) it.letters
-          ∙ ap (λ (l : List (ℕ × List ℕ)). all_spelled (state n.history).settings offered.letters ++ l) (asked ∙ ap (λ (o : Option Settings). all_spelled o (questions (state n.history) p)) (sym k.settings.present))
-          ∙ sym (spelled_joined (state n.history).settings offered.letters (questions (state n.history) p));
+          ∙ letters_joined r.out (option_to_list a.letter)
+          ∙ ap (λ (l : List (ℕ × List ℕ)). l ++ letters_of (option_to_list a.letter)) it.letters
+          ∙ ap (λ (l : List (ℕ × List ℕ)). all_spelled (state n.history).settings offered.letters ++ l) asked.letters
+          ∙ sym (spelled_joined (state n.history).settings offered.letters (asked_at settings n p).letters);
       dropped = dropped ∙ it.dropped;
     })
-  where
-    not_some : (o : Option Change) → is_some o ≡ false → o ≡ None
-    not_some None h = refl
-    not_some (Some c) h = absurd (false≢true (sym h))
 
-    went_on : (a b : Rule) → a.goes_on ≡ true → then_by a b ≡ record { grown = b.grown; letters = a.letters ++ b.letters; goes_on = b.goes_on }
-    went_on a b goes = ap (λ (t : Bool). cond t (record { grown = b.grown; letters = a.letters ++ b.letters; goes_on = b.goes_on }) a) goes
-
--- on every disk the change is the same
-pub offer_follows_so : {L : Type 0} (r q : Reaction) (node : Node L) (n : Situation) (p : ℕ) (x : PeerState) → Knows node n → state_of node.states.items p ≡ Some x
+pub asking_follows_so : {L : Type 0} (r q : Reaction) (node : Node L) (n : Situation) (p : ℕ) (x : PeerState) (a : Asking) → Knows node n → state_of node.states.items p ≡ Some x → None ≡ (late_rule n p).grown
     → ((n : Situation) (settings : Settings) → Knows node n → (state n.history).settings ≡ Some settings → None ≡ option_map choice_of (choice_at settings n p))
-    → q.change ≡ r.change → q.dropped ≡ r.dropped → OffersDealSo r n p → FollowsSo q n p
-offer_follows_so r q node n p x k found choice change dropped offers =
+    → is_some r.change ≡ false → q.change ≡ a.change → q.dropped ≡ r.dropped → Asks a node n p → OffersDealSo r n p → FollowsSo q n p
+asking_follows_so r q node n p x a k found late choice none change dropped asks offers =
     let settings = k.settings.settings in
-    let it = offers settings k.settings.present in (
-      change ∙ it.0 ∙ sym (then_grown settings n.history p (offer_at settings n p) (questions (state n.history) p)) ∙ sym (ap (λ (m : Rule). m.grown) (no_choice node n p x k found choice)),
-      dropped ∙ it.1,
-    )
-  where
-    then_grown : (settings : Settings) (h : List Change) (p : ℕ) (o : Option Offer) (letters : List MachineLetter) → (then_by (by_offer settings h p o) (sends letters)).grown ≡ (by_offer settings h p o).grown
-    then_grown settings h p None letters = refl
-    then_grown settings h p (Some o) letters = by_cases o.is_new (λ k. rw k refl) (λ k. rw k refl)
+    let h = has_key node n p x k found in
+    let it = offers settings k.settings.present in
+    let asked = asks settings h.key k.settings.present h.here in
+    (change ∙ asked.change ∙ sym (ap (λ (m : Rule). m.grown) (deal_passes r node n p x k found late choice none it.0)), dropped ∙ it.1)
 
 -- ---- the question
 
@@ -361,7 +408,5 @@ some_may_back old mid o p same is m = subst (λ (x : Option Change). IfSome x (M
     by_change (Some c) m = may_back old mid c same m
 
 -- what is asked by a node that only looked since is what this one asks
-pub questions_back : {L : Type 0} (old mid : Node L) (p : ℕ) (letters : List (ℕ × List ℕ)) → IsSame old mid
-    → ((n : Situation) (settings : Settings) (key : List ℕ) → Knows mid n → (state n.history).settings ≡ Some settings → key_in mid.peers.keys p ≡ Some key → letters ≡ map (spelled settings) (questions (state n.history) p))
-    → (n : Situation) → Knows old n → (settings : Settings) (key : List ℕ) → (state n.history).settings ≡ Some settings → key_in old.peers.keys p ≡ Some key → letters ≡ map (spelled settings) (questions (state n.history) p)
-questions_back old mid p letters same asks n k settings key present here = asks n settings key (same_knows old mid n same k) present (ap (λ (v : PeersView). key_in v.keys p) same.rest.peers ∙ here)
+pub asks_back : {L : Type 0} (old mid : Node L) (a : Asking) (p : ℕ) → IsSame old mid → ((n : Situation) → Knows mid n → Asks a mid n p) → (n : Situation) → Knows old n → Asks a old n p
+asks_back old mid a p same asks n k settings key present here = asks n (same_knows old mid n same k) settings key present (ap (λ (v : PeersView). key_in v.keys p) same.rest.peers ∙ here)

@@ -9,7 +9,7 @@ use Rattle.psb_station.proofs.Spans.{weakened, then_run, shows_keeps, shows_wide
 use Rattle.node_journal.specs.Entry.{Entry, entry}
 use Rattle.psb_model.specs.State.{State}
 use Rattle.psb_model.specs.Heads.{head_of, body_of}
-use Rattle.psb_model.specs.Conditions.{allowed, tests}
+use Rattle.psb_model.specs.Conditions.{peer_of as change_of, allowed, tests}
 use Rattle.psb_model.specs.Effects.{after}
 use Rattle.psb_model.specs.History.{state}
 use Rattle.psb_model.specs.Needed.{IsValid}
@@ -23,11 +23,14 @@ use Rattle.psb_machine.specs.Machine.{Situation, Reaction as MachineReaction, se
 use Rattle.psb_machine.specs.Volatile.{Note, noted, by_changes}
 use Rattle.psb_machine.specs.Sampling.{question_of, keeps_question}
 use Rattle.psb_machine.specs.declared.question.Question.{Question}
+use Rattle.model_laws.specs.Finding.{deal_proposed}
+use Rattle.psb_machine.specs.Laws.{IsUntied}
 use Rattle.psb_machine.proofs.Questions.{question_stays}
+use Rattle.psb_machine.proofs.Untied.{none_spares, grown_untied, same_untied}
 use Rattle.psb_model.proofs.Steady.{steady_state}
 use Rattle.node_letters.specs.Peers.{PeersView}
 use Rattle.node_history.specs.Names.{KnowsNames}
-use Rattle.peer_states.specs.PeerStates.{KnowsStates, states_noted, states_changed}
+use Rattle.peer_states.specs.PeerStates.{KnowsStates, states_noted, states_changed, states_probed}
 use Rattle.node_core.specs.Ticking.{IsWorkedOut}
 use Rattle.peer_states.proofs.PeerTables.{states_grown, states_then}
 use Rattle.peer_states.specs.declared.peer_state.PeerState.{PeerState}
@@ -38,7 +41,7 @@ use Rattle.node_history.specs.Names.{SameNames, Enters}
 use Rattle.node_history.specs.Less.{IsLess}
 use Rattle.node_core.specs.Making.{MayMake}
 use Rattle.node_core.specs.declared.reaction.Reaction.{Reaction}
-use Rattle.node_core.specs.Reacting.{IsStep, Reacts, SameOwner, IsSame, IsNoted, numbered}
+use Rattle.node_core.specs.Reacting.{MayFollow, IsStep, Reacts, SameOwner, IsSame, IsNoted, numbered}
 use Rattle.node_history.specs.Stands.{HoldsHistory, ReopensTo}
 use Rattle.node_core.specs.Stored.{Knows, KnowsSettings, IsKnown, Stored, IsCounted}
 use Rattle.slot_places.specs.declared.tables.SlotTables.{SlotTables}
@@ -67,7 +70,7 @@ settings_stay s _ may some = refl
 -- ---- what a node knows after it
 
 -- what it keeps of its peers is as the note and then the change leave it
-states_stepped : {L : Type 0} (old new : Node L) (n : Situation) (m : MachineReaction) (c : Change) → Knows old n → m.grown ≡ Some c → new.peers ≡ old.peers → new.states.items ≡ states_changed old.peers.own.id c (states_noted m.note old.states.items)
+states_stepped : {L : Type 0} (old new : Node L) (n : Situation) (m : MachineReaction) (c : Change) → Knows old n → m.grown ≡ Some c → new.peers ≡ old.peers → new.states.items ≡ states_probed (after old.ledger.state c) (change_of c) (states_changed old.peers.own.id c (states_noted m.note old.states.items))
     → KnowsStates new.states.items new.peers.keys (settled n m).volatile
 states_stepped old new n m c k grown peers states =
     let s = state n.history in
@@ -75,9 +78,15 @@ states_stepped old new n m c k grown peers states =
     let noted_states = states_noted m.note old.states.items in
     let own : old.peers.own.id ≡ st.id = ap (λ (v : PeersView). v.own.id) k.settings.peers in
     let known = states_grown noted_states old.peers.keys s st c (noted m.note n.volatile) k.settings.present (states_then m.note old.states.items old.peers.keys n.volatile k.states) in
-    let made = subst (λ (o : Option Change). KnowsStates (states_changed st.id c noted_states) old.peers.keys (by_changes s o (noted m.note n.volatile))) (sym grown) known in
-    let keyed = subst (λ (v : PeersView). KnowsStates (states_changed st.id c noted_states) v.keys (settled n m).volatile) (sym peers) made in
-    subst (λ (l : List PeerState). KnowsStates l new.peers.keys (settled n m).volatile) (sym (states ∙ ap (λ (i : ℕ). states_changed i c noted_states) own)) keyed
+    let after_it = states_probed (after s c) (change_of c) (states_changed st.id c noted_states) in
+    let made = subst (λ (o : Option Change). KnowsStates after_it old.peers.keys (by_changes s o (noted m.note n.volatile))) (sym grown) known in
+    let keyed = subst (λ (v : PeersView). KnowsStates after_it v.keys (settled n m).volatile) (sym peers) made in
+    subst (λ (l : List PeerState). KnowsStates l new.peers.keys (settled n m).volatile)
+    (sym (
+    states
+    ∙ ap (λ (i : ℕ). states_probed (after old.ledger.state c) (change_of c) (states_changed i c noted_states)) own
+    ∙ ap (λ (t : State). states_probed (after t c) (change_of c) (states_changed st.id c noted_states)) k.ledger))
+    keyed
 
 -- the question is the same, or is worked out anew
 question_stepped : {L : Type 0} (old : Node L) (n : Situation) (c : Change) (q : Option Question) → Knows old n → allowed (state n.history) c ≡ true → ((q ≡ old.question) × (keeps_question c ≡ true)) ⊎ (q ≡ None) → IsKnown q (after (state n.history) c)
@@ -95,7 +104,7 @@ question_stepped old n c q k may kept =
 -- a node that made a change is where the machine is
 pub step_knows : {L : Type 0} (old new : Node L) (n : Situation) (m : MachineReaction) (c : Change) (mid : Store) (size : ℕ) → MayMake old.ledger.state c → Knows old n → IsStep n m c
     → new.ledger.state ≡ after old.ledger.state c → SameNames old.names mid → Enters old.ledger.state mid new.names c size → old.ledger.state.changes ≡ size → SameOwner old new → new.ledger.state.issued ≤ new.claims.issued → KnowsSlots new.slots (n.history ++ c ∷ [])
-    → new.states.items ≡ states_changed old.peers.own.id c (states_noted m.note old.states.items) → ((new.question ≡ old.question) × (keeps_question c ≡ true)) ⊎ (new.question ≡ None) → Knows new (settled n m)
+    → new.states.items ≡ states_probed (after old.ledger.state c) (change_of c) (states_changed old.peers.own.id c (states_noted m.note old.states.items)) → ((new.question ≡ old.question) × (keeps_question c ≡ true)) ⊎ (new.question ≡ None) → Knows new (settled n m)
 step_knows old new n m c mid size may k step grown same enters counted rest issued slots states question =
     let h = n.history in
     let here : old.ledger.state.changes ≡ length h = ap (λ (s : State). s.changes) k.ledger ∙ changes_counted h in
@@ -109,6 +118,9 @@ step_knows old new n m c mid size may k step grown same enters counted rest issu
     } in
     let knows : Knows new (record { history = h ++ c ∷ []; volatile = (settled n m).volatile }) = record {
       valid = with_it n m c step;
+      untied =
+          subst (λ (o : Option Change). IsUntied (record { history = h ++ c ∷ []; volatile = by_changes (state h) o (noted m.note n.volatile) })) (sym step.grown)
+          (grown_untied n m.note c k.valid.some allowed_here k.untied step.spares);
       ledger = grown ∙ ap (λ (s : State). after s c) k.ledger ∙ after_is;
       settings = subst (λ (s : State). KnowsSettings new s) after_is settings;
       names = names_grown mid new.names h c k.valid.lawful allowed_here (names_same old.names mid h same k.names) (subst (λ (s : State). Enters s mid new.names c (length h)) k.ledger (subst (λ (j : ℕ). Enters old.ledger.state mid new.names c j) (sym counted ∙ here) enters));
@@ -132,6 +144,7 @@ SameSlots old new = (p i : ℕ) → slot_record new p i ≡ slot_record old p i
 pub knows_still : {L : Type 0} (old new : Node L) (n : Situation) → new.ledger.state ≡ old.ledger.state → SameNames old.names new.names → SameSlots old.slots new.slots → SameOwner old new → new.states ≡ old.states → (IsKnown old.question (state n.history) → IsKnown new.question (state n.history)) → Knows old n → Knows new n
 knows_still old new n same names slots rest states question k = record {
   valid = k.valid;
+  untied = k.untied;
   ledger = same ∙ k.ledger;
   settings = record {
     settings = k.settings.settings;
@@ -177,6 +190,7 @@ worked_still a b same worked = λ free.
 pub noted_alone : {L : Type 0} (old new : Node L) (n : Situation) (note : Note) → IsNoted note old new → Knows old n → Knows new (record { history = n.history; volatile = noted note n.volatile })
 noted_alone old new n note t k = record {
   valid = k.valid;
+  untied = subst (λ (h : List Change). IsUntied (record { history = h; volatile = noted note n.volatile })) (append-nil n.history) (same_untied n note k.untied);
   ledger = ap (λ ledger. ledger.state) t.ledger ∙ k.ledger;
   settings = record {
     settings = k.settings.settings;
@@ -326,20 +340,24 @@ stored_room holds old new h v wider s = record {
 
 -- ---- a change that a node found
 
--- the change that was found is that of the machine's reaction, and may come next
-pub is_step : (n : Situation) (m : MachineReaction) (c : Change) → m.grown ≡ Some c → IsValid (n.history ++ c ∷ []) → IsStep n m c
-is_step n m c grown valid = record { grown = grown; valid = subst IsValid (sym (grown_to n m c grown)) valid }
+-- one that proposes nothing spares what probes list
+pub may_follow : (n : Situation) (c : Change) → deal_proposed c ≡ None → IsValid (n.history ++ c ∷ []) → MayFollow n c
+may_follow n c none valid = record { valid = valid; spares = none_spares n c none }
 
-pub found_step : (r : Reaction) (n : Situation) (m : MachineReaction) (c : Change) → r.change ≡ Some c → Reacts r n m → IsValid (n.history ++ c ∷ []) → IsStep n m c
-found_step r n m c is reacts valid = is_step n m c (sym reacts.change ∙ is) valid
+-- the change that was found is that of the machine's reaction, and may come next
+pub is_step : (n : Situation) (m : MachineReaction) (c : Change) → m.grown ≡ Some c → MayFollow n c → IsStep n m c
+is_step n m c grown f = record { grown = grown; valid = subst IsValid (sym (grown_to n m c grown)) f.valid; spares = f.spares }
+
+pub found_step : (r : Reaction) (n : Situation) (m : MachineReaction) (c : Change) → r.change ≡ Some c → Reacts r n m → MayFollow n c → IsStep n m c
+found_step r n m c is reacts f = is_step n m c (sym reacts.change ∙ is) f
 
 -- a reaction that makes a change and notes this, whatever it tells
 abbrev some_reaction : Change → Note → MachineReaction
 some_reaction c note = record { grown = Some c; letters = []; note = note; dropped = None }
 
 -- after it, it is known where the node is
-pub some_step : {L : Type 0} (new : Node L) (n : Situation) (c : Change) (note : Note) → IsValid (n.history ++ c ∷ []) → ((m : MachineReaction) → IsStep n m c → note ≡ m.note → Knows new (settled n m)) → (o : Situation) × Knows new o
-some_step new n c note valid step = (settled n (some_reaction c note), step (some_reaction c note) (is_step n (some_reaction c note) c refl valid) refl)
+pub some_step : {L : Type 0} (new : Node L) (n : Situation) (c : Change) (note : Note) → MayFollow n c → ((m : MachineReaction) → IsStep n m c → note ≡ m.note → Knows new (settled n m)) → (o : Situation) × Knows new o
+some_step new n c note f step = (settled n (some_reaction c note), step (some_reaction c note) (is_step n (some_reaction c note) c refl f) refl)
 
 -- the moments of looking at the disk, and then of making the change that was found
 pub found_leaves : {L : Type 0} (holds : L → List Entry → List ℕ → Type 0) (stands : List Entry → List ℕ → Type 0) (law : (log : L) (es : List Entry) (i : List ℕ) → holds log es i → stands es i) (old mid : Node L) (n : Situation) (m : MachineReaction) (c : Change) (v0 v1 v2 : View)

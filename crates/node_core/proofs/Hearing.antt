@@ -21,6 +21,7 @@ use Rattle.psb_model.specs.declared.change.Change.{Change}
 use Rattle.psb_model.specs.declared.change.Change.TheVariants.{Settled, Turned}
 use Rattle.psb_model.specs.declared.deals.LastDeal.{LastDeal}
 use Rattle.psb_model.proofs.Prefixes.{changes_counted}
+use Rattle.model_laws.specs.Finding.{deal_proposed}
 use Rattle.model_laws.proofs.Bodies.{valid_snoc}
 use Rattle.chunk_store.specs.declared.store.Store.{Store}
 use Rattle.chunk_store.specs.Store.{record_of}
@@ -29,8 +30,8 @@ use Rattle.wire_codec.specs.declared.frame.Frame.{Frame}
 use Rattle.wire_codec.specs.declared.frame.Frame.TheVariants.{Here, Sample}
 use Rattle.psb_machine.specs.Letters.{key_with, all_spelled}
 use Rattle.psb_machine.specs.Volatile.{Nothing, Sampled}
-use Rattle.psb_machine.specs.Deals.{standing, judge, judged_at, is_compared, are_others, clashes, Deal, StoreFresh, StoreSwap, Cancel, PutBack, Facts as MachineFacts, slots_of}
-use Rattle.psb_machine.specs.Judging.{IsShort, ReplyFits}
+use Rattle.psb_machine.specs.Deals.{standing, judge, judged_at, is_compared, are_others, is_new, clashes, Deal, StoreFresh, StoreSwap, Cancel, PutBack, Facts as MachineFacts, slots_of}
+use Rattle.psb_machine.specs.Judging.{IsShort, ReplyFits, taken_at}
 use Rattle.psb_machine.specs.Messages.{Sender as MachineSender, Message, Deals, Replies, Gets, Asks, Tells}
 use Rattle.psb_machine.specs.Gets.{has_chunk}
 use Rattle.psb_machine.specs.Replies.{reply, reply_of}
@@ -46,6 +47,7 @@ use Rattle.psb_machine.proofs.Settled.{settle_may}
 use Rattle.psb_machine.proofs.Standings.{fresh_is_next, repeat_is_last}
 use Rattle.psb_machine.proofs.Taken.{IsNext as IsNextDeal, joined_long}
 use Rattle.psb_machine.proofs.Valid.{judged_deal_valid}
+use Rattle.psb_machine.proofs.Untied.{judged_none, takes_none, answers_none}
 use Rattle.deals.specs.declared.facts.Facts.{Facts}
 use Rattle.deals.specs.Views.{facts_in}
 use Rattle.node_letters.specs.Letters.{letters_of}
@@ -72,6 +74,7 @@ use Rattle.node_facts.proofs.Again.{answer_is}
 use Rattle.node_facts.proofs.Compared.{meets_less}
 use Rattle.node_core.proofs.Dealt.{IsRecordable, can_judge, fits_short, number_fits, slots_long}
 use Rattle.node_core.proofs.Heard.{none_spelled, keyed_in, peer_of}
+use Rattle.node_core.proofs.Committing.{may_follow}
 
 -- ---- what is said by the settings that a node knows
 
@@ -262,7 +265,10 @@ pub made_may_come : {L : Type 0} (r : Reaction) (node : Node L) (from : Sender) 
 made_may_come r node from deal last how clash known heard is stands fresh few it =
     subst (λ (f : Option Change). IfSome f (MayCome Knows node)) (sym it.change) (
       ((can_make node known.0 from deal last how known.1 heard is stands fresh few).0 clash).may,
-      λ n k. subst (λ (s : State). IsValid (n.history ++ made_of s (sender_in from) deal (why_refused s from.peer deal clash) ∷ [])) (sym k.ledger) (made_valid node n from deal last how clash k heard is stands fresh),
+      λ n k.
+          may_follow n (made_of node.ledger.state (sender_in from) deal (why_refused node.ledger.state from.peer deal clash))
+          (judged_none from.peer from.number (taken_at node.ledger.state from.peer from.number deal) (why_refused node.ledger.state from.peer deal clash) (takes_none node.ledger.state.issued (is_new node.ledger.state deal) from.peer from.number deal))
+          (subst (λ (s : State). IsValid (n.history ++ made_of s (sender_in from) deal (why_refused s from.peer deal clash) ∷ [])) (sym k.ledger) (made_valid node n from deal last how clash k heard is stands fresh)),
     )
 
 -- where no record is read for it, nothing is compared
@@ -388,7 +394,9 @@ reply_may_come r node from reply known heard few change = by_change r.change cha
     by_change None e = tt
     by_change (Some c) e = (
       may_make known.0 known.1,
-      λ n k. let m = settle_may n.history from.peer from.number reply c k.valid.some (peer_of node n from.peer from.key k heard.keyed) heard.fits.0 heard.fits.1 heard.fits.2 (settled_in n k) in valid_snoc n.history c k.valid m.grammar m.may m.widths m.brings,
+      λ n k.
+          let m = settle_may n.history from.peer from.number reply c k.valid.some (peer_of node n from.peer from.key k heard.keyed) heard.fits.0 heard.fits.1 heard.fits.2 (settled_in n k) in
+          may_follow n c (sym (ap deal_proposed (settles_by (state n.history) from.peer from.number reply c (settled_in n k))) ∙ answers_none from.peer from.number reply) (valid_snoc n.history c k.valid m.grammar m.may m.widths m.brings),
     )
       where
         settled_in : (n : Situation) → Knows node n → settle (state n.history) from.peer from.number reply ≡ Some c

@@ -22,6 +22,7 @@ use Rattle.psb_model.proofs.ByObject.{by_cases}
 use Rattle.psb_model.proofs.Own.{name_refl}
 use Rattle.change_codec.proofs.RecordLaws.{all_bytes}
 use Rattle.change_codec.proofs.Lengths.{ticket_length, names_length}
+use Rattle.model_laws.specs.Finding.{deal_proposed}
 use Rattle.psb_machine.specs.Deals.{meets_others}
 use Rattle.psb_machine.specs.Laws.{KeepFits, SnapFits}
 use Rattle.psb_machine.specs.Machine.{Situation, Reaction as MachineReaction, Keep, on_keep, kept_with, snapped_with, has_snapshot, quiet, grows}
@@ -56,6 +57,7 @@ use Rattle.node_history.proofs.Named.{named_there}
 use Rattle.node_facts.proofs.Compared.{meets_less}
 use Rattle.node_core.proofs.Dealt.{body_short}
 use Rattle.node_core.proofs.Heard.{none_spelled}
+use Rattle.node_core.proofs.Committing.{may_follow}
 
 -- ---- what was found under a name
 
@@ -181,7 +183,7 @@ pub keep_may_come : {L : Type 0} (r : Reaction) (node : Node L) (name bytes : Li
 keep_may_come r node name bytes c makes f known lacks few is =
     subst (λ (o : Option Change). IfSome o (MayCome Knows node)) (sym makes) (
       may_make known,
-      λ n k. subst (λ (d : Change). IsValid (n.history ++ d ∷ [])) (sym (is n k)) (kept_valid n.history name bytes k.valid f (free n k)),
+      λ n k. may_follow n c (ap deal_proposed (is n k)) (subst (λ (d : Change). IsValid (n.history ++ d ∷ [])) (sym (is n k)) (kept_valid n.history name bytes k.valid f (free n k))),
     )
   where
     free : (n : Situation) → Knows node n → own_has (state n.history).own name ≡ false
@@ -271,7 +273,7 @@ pub snap_may_come : {L : Type 0} (r : Reaction) (node : Node L) (note : SnapNote
 snap_may_come r node note c makes is f known few =
     subst (λ (o : Option Change). IfSome o (MayCome Knows node)) (sym makes) (
       subst (λ (d : Change). MayMake node.ledger.state d) (sym is) (may_make known),
-      λ n k. subst (λ (d : Change). IsValid (n.history ++ d ∷ [])) (sym (is ∙ ap (λ (s : State). snapped_with s note) k.ledger)) (snap_valid n note k.valid (subst (λ (s : State). SnapFits s note) k.ledger f)),
+      λ n k. may_follow n c (ap deal_proposed is) (subst (λ (d : Change). IsValid (n.history ++ d ∷ [])) (sym (is ∙ ap (λ (s : State). snapped_with s note) k.ledger)) (snap_valid n note k.valid (subst (λ (s : State). SnapFits s note) k.ledger f))),
     )
   where
     may_make : (n : Situation) × Knows node n → MayMake node.ledger.state (snapped_with node.ledger.state note)
@@ -294,7 +296,7 @@ pub forget_may_come : {L : Type 0} (r : Reaction) (node : Node L) (number : ℕ)
 forget_may_come r node number makes fits has known few =
     subst (λ (o : Option Change). IfSome o (MayCome Knows node)) (sym makes) (
       may_make known,
-      λ n k. forgot_valid n.history number k.valid fits (there n k),
+      λ n k. may_follow n (Forgot (record { number = number })) refl (forgot_valid n.history number k.valid fits (there n k)),
     )
   where
     there : (n : Situation) → Knows node n → has_snapshot (state n.history) number ≡ true

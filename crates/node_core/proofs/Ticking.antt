@@ -22,13 +22,15 @@ use Rattle.wire_codec.specs.Fields.{within, are_slots}
 use Rattle.wire_codec.specs.Frames.{key_in, datagram}
 use Rattle.wire_codec.specs.declared.frame.Frame.{Frame}
 use Rattle.psb_machine.specs.Letters.{keys_of, key_with, spelled, all_spelled}
-use Rattle.psb_machine.specs.Volatile.{PeerState as MachineState}
+use Rattle.psb_machine.specs.Volatile.{PeerState as MachineState, of_peer}
+use Rattle.psb_machine.specs.OwnProbes.{Run as MachineRun, listed_by}
 use Rattle.psb_machine.specs.Proposals.{Offer as MachineOffer, letter_of, deal_letters, frame_of, is_askable, brings_bytes}
-use Rattle.psb_machine.specs.Machine.{Situation, Tick, Rule, passes, react, grown_by, by_offer, offer_by, offer_at, rules, by_key, on_tick}
+use Rattle.psb_machine.specs.Machine.{Situation, Tick, Rule, passes, run_at, react, grown_by, by_offer, offer_by, offer_at, rules, by_key, on_tick}
 use Rattle.psb_machine.specs.Laws.{TickFits}
 use Rattle.psb_machine.proofs.Causes.{offer_cases}
 use Rattle.psb_machine.proofs.Peers.{keyed_is_peer}
 use Rattle.psb_machine.proofs.Ticking.{offer_askable, proposed_may}
+use Rattle.psb_machine.proofs.Untied.{proposed_spares}
 use Rattle.node_letters.specs.Letters.{letters_of}
 use Rattle.node_letters.specs.Peers.{PeersView}
 use Rattle.node_core.specs.declared.node.Node.{Node}
@@ -38,22 +40,25 @@ use Rattle.peer_states.specs.declared.peer_state.Note.TheVariants as note
 use Rattle.node_core.specs.declared.reaction.Reaction.{Reaction}
 use Rattle.node_core.specs.Making.{MayMake}
 use Rattle.peer_states.specs.PeerStates.{state_of, kept, note_in}
-use Rattle.node_core.specs.Reacting.{Reacts, ReactsSo, MayCome}
+use Rattle.node_core.specs.Reacting.{Reacts, ReactsSo, MayFollow, MayCome}
 use Rattle.node_core.specs.Stored.{Knows}
-use Rattle.node_core.specs.Ticking.{offer_in, IsBare, IsRule, Follows, FollowsSo, OffersDeal, OffersDealSo}
+use Rattle.own_probes.specs.Probes.{run_in}
+use Rattle.own_probes.specs.declared.run.Run.{Run}
+use Rattle.node_core.specs.Ticking.{offer_in, IsBare, IsRule, IsRunAt, Follows, FollowsSo, OffersDeal, OffersDealSo}
 use Rattle.node_core.proofs.Dealt.{slots_long}
 use Rattle.node_core.proofs.Heard.{none_spelled, keyed_in}
 
 -- ---- the deal that is offered
 
 -- a node finds it by what it keeps of the peer
-pub offered_now : {L : Type 0} (node : Node L) (n : Situation) (p : ℕ) (x : PeerState) (o : Option Offer) → Knows node n → state_of node.states.items p ≡ Some x
-    → ((settings : Settings) → node.ledger.state.settings ≡ Some settings → option_map offer_in o ≡ offer_by settings node.ledger.state p (kept x) (row node.ledger.state p).pending)
+pub offered_now : {L : Type 0} (node : Node L) (n : Situation) (p : ℕ) (x : PeerState) (run : Option Run) (o : Option Offer) → Knows node n → state_of node.states.items p ≡ Some x → IsRunAt run node p
+    → ((settings : Settings) → node.ledger.state.settings ≡ Some settings → option_map offer_in o ≡ offer_by settings node.ledger.state p (kept x) (listed_by (option_map run_in run)) (row node.ledger.state p).pending)
     → (settings : Settings) → (state n.history).settings ≡ Some settings → option_map offer_in o ≡ offer_at settings n p
-offered_now node n p x o k found offers settings present =
+offered_now node n p x run o k found runs offers settings present =
     offers settings (ap (λ (s : State). s.settings) k.ledger ∙ present)
-    ∙ ap (λ (s : State). offer_by settings s p (kept x) (row s p).pending) k.ledger
-    ∙ ap (λ (y : MachineState). offer_by settings (state n.history) p y (row (state n.history) p).pending) (sym (k.states.are p x found))
+    ∙ ap (λ (s : State). offer_by settings s p (kept x) (listed_by (option_map run_in run)) (row s p).pending) k.ledger
+    ∙ ap (λ (y : MachineState). offer_by settings (state n.history) p y (listed_by (option_map run_in run)) (row (state n.history) p).pending) (sym (k.states.are p x found))
+    ∙ ap (λ (r : Option MachineRun). offer_by settings (state n.history) p (of_peer n.volatile p) (listed_by r) (row (state n.history) p).pending) (runs n k)
 
 -- ---- who has a key
 
@@ -207,7 +212,7 @@ proposed_short p number what few =
 
 -- a tick after which the next deal has a number
 pub tick_fits : (n : Situation) (p : ℕ) → IsValid n.history → p < 2 ^ 32 → (state n.history).changes < 2 ^ 62 → TickFits (state n.history) p
-tick_fits n p v small few = record { peer = lt-ltb p (2 ^ 32) small; more = omega (arith, few, ((fit_state n.history v.lawful).rows p).mine) }
+tick_fits n p v small few = record { peer = lt-ltb p (2 ^ 32) small; more = omega (arith, few, ((fit_state n.history v.lawful).rows p).mine); room = omega (arith, few) }
 
 pub next_number : {L : Type 0} (node : Node L) (n : Situation) (p : ℕ) → Knows node n → node.ledger.state.changes < 2 ^ 62 → (row node.ledger.state p).mine + 1 < 2 ^ 64
 next_number node n p k few =
@@ -216,7 +221,7 @@ next_number node n p k few =
 
 record MayPropose (n : Situation) (c : Change) : Type 0 where
   make : MayMake (state n.history) c
-  valid : IsValid (n.history ++ c ∷ [])
+  follow : MayFollow n c
 
 may_propose : {L : Type 0} (node : Node L) (n : Situation) (p : ℕ) (o : MachineOffer) (c : Change) → Knows node n → p < 2 ^ 32 → (state n.history).changes < 2 ^ 62 → IsOffered node n p o → grown_by p o ≡ Some c → MayPropose n c
 may_propose node n p o c k small few q grown =
@@ -226,7 +231,7 @@ may_propose node n p o c k small few q grown =
     let s = state n.history in
     let number = (row s p).mine + 1 in
     let is : Proposed (record { peer = p; deal = number; what = what }) ≡ c = cc (ap (grown_by p) same ∙ grown) in
-    let m = proposed_may n.history q.settings p what k.valid q.present (keyed_is_peer n.history q.settings p q.key q.present q.keyed) (tick_fits n p k.valid small few) idle found in
+    let m = proposed_may n.history q.settings p (listed_by (run_at n p)) what k.valid q.present (keyed_is_peer n.history q.settings p q.key q.present q.keyed) (tick_fits n p k.valid small few) idle found in
     let fits = and_parts (is_u32 p && is_u64 number) (what_fits what) m.widths in
     let askable = subst (λ (b : MachineOffer). is_askable s p b.deal.what ≡ true) (sym same) (offer_askable q.settings n p o k.valid q.present q.offer) in
     subst (MayPropose n) is (record {
@@ -237,7 +242,10 @@ may_propose node n p o c k small few q grown =
         there = refl;
         short = omega (arith, proposed_short p number what (fields_short s p what fits.1 askable));
       };
-      valid = valid_snoc n.history (Proposed (record { peer = p; deal = number; what = what })) k.valid m.grammar m.may m.widths m.brings;
+      follow = record {
+        valid = valid_snoc n.history (Proposed (record { peer = p; deal = number; what = what })) k.valid m.grammar m.may m.widths m.brings;
+        spares = proposed_spares n q.settings p what found;
+      };
     }))
 
 -- so it may come next
@@ -251,5 +259,5 @@ offer_may_come r node p o small few known offered change = by_change r.change ch
     by_change None is = tt
     by_change (Some c) is = (
       subst (λ (s : State). MayMake s c) (sym known.1.ledger) (may_propose node known.0 p o c known.1 small (few_in known.0 known.1) (offered known.0 known.1) (sym is)).make,
-      λ n k. (may_propose node n p o c k small (few_in n k) (offered n k) (sym is)).valid,
+      λ n k. (may_propose node n p o c k small (few_in n k) (offered n k) (sym is)).follow,
     )

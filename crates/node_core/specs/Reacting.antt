@@ -7,6 +7,7 @@ use Rattle.psb_machine.specs.Letters.{all_spelled}
 use Rattle.psb_machine.specs.Volatile.{Note as MachineNote}
 use Rattle.psb_machine.specs.Sampling.{question_of}
 use Rattle.psb_machine.specs.Machine.{Situation, Input, Reaction as MachineReaction, react, settled}
+use Rattle.psb_machine.specs.Laws.{SparesProbes}
 use Rattle.node_letters.specs.Letters.{letters_of}
 use Rattle.peer_states.specs.PeerStates.{note_in, states_noted}
 use Rattle.node_core.specs.Making.{MayMake}
@@ -28,9 +29,14 @@ pub record ReactsSo (r : Reaction) (n : Situation) (i : Input) : Type 0 where
   pub change : IsCertain n i → is_some r.change ≡ is_some (react n i).grown
   pub dropped : r.dropped ≡ (react n i).dropped
 
+-- the change may come next, and what it proposes ties nothing that a probe lists which runs
+pub record MayFollow (n : Situation) (c : Change) : Type 0 where
+  pub valid : IsValid (n.history ++ c ∷ [])
+  pub spares : SparesProbes n c
+
 -- the change may be made by a node with this state, and come next in its history
 abbrev pub MayCome : {L : Type 0} → (Node L → Situation → Type 0) → Node L → Change → Type 0
-MayCome knows node c = MayMake node.ledger.state c × ((n : Situation) → knows node n → IsValid (n.history ++ c ∷ []))
+MayCome knows node c = MayMake node.ledger.state c × ((n : Situation) → knows node n → MayFollow n c)
 
 -- ---- a change is made
 
@@ -38,6 +44,7 @@ MayCome knows node c = MayMake node.ledger.state c × ((n : Situation) → knows
 pub record IsStep (n : Situation) (m : MachineReaction) (c : Change) : Type 0 where
   pub grown : m.grown ≡ Some c
   pub valid : IsValid (settled n m).history
+  pub spares : SparesProbes n c
 
 -- what a node keeps of its settings stays, and no number of a claim is taken back
 pub record SameOwner {L : Type 0} (old new : Node L) : Type 0 where

@@ -1,5 +1,5 @@
 -- What a tick of a peer comes to, as a node finds it by what it keeps.
-use Rattle.std.specs.Prelude.{◌≡◌, ℕ, true, false, ◌==◌, if◌then◌else◌, List, length, Option, Some, None}
+use Rattle.std.specs.Prelude.{◌≡◌, ℕ, true, false, ◌==◌, if◌then◌else◌, List, length, option_map, option_to_list, Option, Some, None}
 use Rattle.psb_settings.specs.declared.settings.Settings.{Settings}
 use Rattle.psb_model.specs.State.{State}
 use Rattle.psb_model.specs.History.{state}
@@ -8,16 +8,20 @@ use Rattle.psb_model.specs.declared.change.Change.{Change}
 use Rattle.psb_model.specs.declared.change.Change.TheVariants.{Proposed}
 use Rattle.wire_codec.specs.Frames.{key_in}
 use Rattle.psb_machine.specs.Letters.{all_spelled}
-use Rattle.psb_machine.specs.Volatile.{later}
+use Rattle.psb_machine.specs.Volatile.{later, of_peer}
 use Rattle.psb_machine.specs.Proposals.{Offer as MachineOffer, brings_bytes, is_even}
-use Rattle.psb_machine.specs.Sampling.{question_of}
-use Rattle.psb_machine.specs.Machine.{Situation, Rule, by_offer, offer_at, on_tick}
+use Rattle.psb_machine.specs.Sampling.{question_of, questions}
+use Rattle.psb_machine.specs.Machine.{Situation, Rule, by_late, by_choice, choice_at, by_offer, offer_at, by_run, run_at, sends, then_by, on_tick}
 use Rattle.psb_machine.specs.declared.question.Question.{Question}
 use Rattle.node_letters.specs.Letters.{letters_of}
+use Rattle.own_probes.specs.declared.run.Run.{Run}
+use Rattle.own_probes.specs.Probes.{run_in}
+use Rattle.node_core.specs.Stored.{Knows}
 use Rattle.node_core.specs.declared.node.Node.{Node}
 use Rattle.node_core.specs.declared.offering.Offer.{Offer}
 use Rattle.peer_states.specs.declared.peer_state.PeerState.{PeerState}
 use Rattle.node_core.specs.declared.reaction.Reaction.{Reaction}
+use Rattle.node_core.specs.declared.reaction.Asking.{Asking}
 
 -- ---- the deal that is offered
 
@@ -65,3 +69,22 @@ OffersDeal r node n p =
 -- on every disk it comes to the same change
 abbrev pub OffersDealSo : Reaction → Situation → ℕ → Type 0
 OffersDealSo r n p = (settings : Settings) → (state n.history).settings ≡ Some settings → (r.change ≡ (by_offer settings n.history p (offer_at settings n p)).grown) × (r.dropped ≡ None)
+
+-- ---- the probe, and the question behind it
+
+-- the probe of the peer that runs, if one does
+abbrev pub IsRunAt : {L : Type 0} → Option Run → Node L → ℕ → Type 0
+IsRunAt o node p = (n : Situation) → Knows node n → option_map run_in o ≡ run_at n p
+
+-- the rules behind the deal
+abbrev pub asked_at : Settings → Situation → ℕ → Rule
+asked_at settings n p = then_by (by_run settings.seed (state n.history) p (of_peer n.volatile p) (run_at n p)) (sends (questions (state n.history) p))
+
+-- they come to this
+pub record IsAsking (a : Asking) (n : Situation) (m : Rule) : Type 0 where
+  pub change : a.change ≡ m.grown
+  pub letters : letters_of (option_to_list a.letter) ≡ all_spelled (state n.history).settings m.letters
+
+-- where the peer has a key
+abbrev pub Asks : {L : Type 0} → Asking → Node L → Situation → ℕ → Type 0
+Asks a node n p = (settings : Settings) (key : List ℕ) → (state n.history).settings ≡ Some settings → key_in node.peers.keys p ≡ Some key → IsAsking a n (asked_at settings n p)

@@ -5,13 +5,17 @@ ghost use Rattle.std.specs.Option.{option_map};
 ghost use Rattle.psb_settings.specs.declared.settings.Settings.{Settings as AnySettings};
 ghost use Rattle.psb_model.specs.State.{row};
 ghost use Rattle.psb_machine.specs.Proposals.{propose_facts, proposed_at};
+ghost use Rattle.psb_machine.specs.OwnProbes.{listed_by};
 ghost use Rattle.psb_machine.specs.Machine.{grown_by, offer_by};
 ghost use Rattle.deals.specs.Views.{propose_facts_in};
+ghost use Rattle.own_probes.specs.Probes.{run_in};
 ghost use Rattle.peer_states.specs.PeerStates.{kept};
 ghost use Rattle.node_core.specs.Ticking.{offer_in, offer_of, offered_again};
 
 use deals::{ProposeFacts, look_ahead, propose};
 use next_deals::Planner;
+use node_letters::objects_copy;
+use own_probes::Run;
 use peer_states::PeerState;
 use psb_bytes::{Items, Memory, ObjectList, PeerId, SlotList};
 use psb_ledger::Ledger;
@@ -108,17 +112,29 @@ fn next(
     }
 }
 
+/// What the probe lists that runs, if one does.
+fn listed(alloc: Global, run: &Option<Run>) -> Result<ObjectList, Memory>
+    ensures { IfOk result (λ l. l ≡ listed_by (option_map run_in run.now)) }
+{
+    match run {
+        None => Ok(Items::from_vec(Vec::new(alloc))),
+        Some(run) => objects_copy(alloc, run.objects.as_slice()),
+    }
+}
+
 /// The deal that a tick of a peer offers, by what is kept of it before the tick: one without a reply at each second
-/// tick; where none is pending and none is waited for, the one that is proposed next. No probe is under way so far.
+/// tick; where none is pending and none is waited for, the one that is proposed next, beside what a probe lists that
+/// runs.
 pub(crate) fn offer_at(
     alloc: Global,
     ledger: &mut Planner,
     peer: PeerId,
     state: &PeerState,
+    run: &Option<Run>,
 ) -> Result<Option<Offer>, Memory>
     requires more { (row ledger.old.state peer).mine + 1 < 2 ^ 64 }
     ensures offers { IfOk result (λ o. (settings : AnySettings) → ledger.old.state.settings ≡ Some settings
-        → option_map offer_in o ≡ offer_by settings ledger.old.state peer (kept state.now) (row ledger.old.state peer).pending) }
+        → option_map offer_in o ≡ offer_by settings ledger.old.state peer (kept state.now) (listed_by (option_map run_in run.now)) (row ledger.old.state peer).pending) }
     ensures same { ledger.new ≡ ledger.old }
 {
     if let Some(deal) = ledger.ledger().row(peer).pending() {
@@ -127,6 +143,6 @@ pub(crate) fn offer_at(
     if state.wait > 0 {
         return Ok(None);
     }
-    let listed = Items::from_vec(Vec::new(alloc));
+    let listed = listed(alloc, run)?;
     next(alloc, ledger, peer, &listed)
 }

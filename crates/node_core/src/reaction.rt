@@ -102,6 +102,46 @@ pub(crate) fn ticked(reaction: Reaction, peer: PeerId) -> Reaction
     }
 }
 
+/// What is asked of a peer at a tick: the change that begins a probe, if one begins, and the letter that asks, if any
+/// does.
+#[derive(Drop)]
+pub(crate) struct Asking {
+    pub change: Option<Change>,
+    pub letter: Option<Letter>,
+}
+
+/// No change is made, and this letter asks.
+pub(crate) fn asks(letter: Option<Letter>) -> Asking
+    ensures { result ≡ record { change = None; letter = letter } }
+{
+    Asking {
+        change: None,
+        letter,
+    }
+}
+
+/// Behind a reaction that makes no change: what is asked, and the letter behind the others.
+pub(crate) fn with_asking(reaction: Reaction, asking: Asking) -> Result<Reaction, Memory>
+    ensures change { IfOk result (λ r. r.change ≡ asking.change) }
+    ensures dropped { IfOk result (λ r. r.dropped ≡ reaction.dropped) }
+    ensures out { IfOk result (λ r. r.out ≡ reaction.out ++ option_to_list asking.letter) }
+    ensures few { IfOk result (λ r. length reaction.out ≤ 1 → length r.out ≤ 2) }
+{
+    let Asking { change, letter } = asking;
+    let Reaction {
+        note,
+        dropped,
+        out,
+        ..
+    } = with_letter(reaction, letter)?;
+    Ok(Reaction {
+        change,
+        note,
+        dropped,
+        out,
+    })
+}
+
 /// With one letter more, if there is one.
 pub(crate) fn with_letter(reaction: Reaction, letter: Option<Letter>) -> Result<Reaction, Memory>
     ensures change { IfOk result (λ r. r.change ≡ reaction.change) }

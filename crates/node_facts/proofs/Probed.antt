@@ -32,7 +32,7 @@ or_later : (a b : Bool) → b ≡ true → (a || b) ≡ true
 or_later true b h = refl
 or_later false b h = h
 
-or_first : (a b : Bool) → a ≡ true → (a || b) ≡ true
+pub or_first : (a b : Bool) → a ≡ true → (a || b) ≡ true
 or_first true b h = refl
 or_first false b h = absurd (false≢true h)
 
@@ -159,10 +159,10 @@ chain_next bytes value next objects i o there read at_i here is more =
 -- ---- less bodies that were given up
 
 -- the chain behind an object whose bytes are these, if there are any
-abbrev chain_behind : (Object → Option (List ℕ)) → List ℕ → List Object → Option (List ℕ) → Option (List ℕ)
+abbrev pub chain_behind : (Object → Option (List ℕ)) → List ℕ → List Object → Option (List ℕ) → Option (List ℕ)
 chain_behind f value os r = elim r [ None ↦ None | Some b ↦ chain_over f (link_on value b) os ]
 
-chain_same : (f g : Object → Option (List ℕ)) (value : List ℕ) (objects : List Object) → ((o : Object) → f o ≡ g o) → chain_over f value objects ≡ chain_over g value objects
+pub chain_same : (f g : Object → Option (List ℕ)) (value : List ℕ) (objects : List Object) → ((o : Object) → f o ≡ g o) → chain_over f value objects ≡ chain_over g value objects
 chain_same f g value [] same = refl
 chain_same f g value (o ∷ os) same = ap (chain_behind f value os) (same o) ∙ by_bytes (λ b. chain_same f g (link_on value b) os same) (g o)
   where

@@ -4,10 +4,10 @@ ghost use Rattle.std.specs.Prelude.{◌≡◌, ◌≤◌, ◌⊎◌, ◌&&◌, �
 ghost use Rattle.psb_bytes.specs.declared.ids.Object.TheVariants.{Chunk, Slot};
 ghost use Rattle.psb_station.specs.Span.{Shows, Tells_bytes, Looked};
 ghost use Rattle.node_journal.specs.Entry.{Entry};
-ghost use Rattle.psb_model.specs.State.{debt_key, is_held};
+ghost use Rattle.psb_model.specs.State.{debt_key};
 ghost use Rattle.psb_model.specs.Conditions.{is_whole};
 ghost use Rattle.psb_model.specs.Words.{object_eq, has_so};
-ghost use Rattle.psb_model.specs.Needed.{last_brought, IsValid};
+ghost use Rattle.psb_model.specs.Needed.{IsValid};
 ghost use Rattle.psb_digest.specs.Claims.{claim};
 ghost use Rattle.psb_model.specs.History.{state};
 ghost use Rattle.psb_model.specs.declared.change.Change.{Change};
@@ -16,10 +16,11 @@ ghost use Rattle.wire_codec.specs.Frames.{fits};
 ghost use Rattle.psb_machine.specs.Probing.{entry_for, carries, is_within_reach, is_missing, missing_from, claim_bytes, bytes_at, object_bytes, chain_over, proof_by};
 ghost use Rattle.slot_places.specs.Slots.{KnowsSlots, AreBelow};
 ghost use Rattle.node_history.specs.Stands.{AreDecoded};
-ghost use Rattle.node_history.specs.Names.{KnowsNames, AreThere};
+ghost use Rattle.node_history.specs.Names.{AreThere};
 ghost use Rattle.node_facts.specs.Probed.{IsRead, IsAt, Knows, Lacks, IsProof};
 
-use chunk_store::{Store, StoreError};
+use crate::bytes::{put, read_chunk, walk_to};
+use chunk_store::Store;
 use claims::ClaimSource;
 use node_history::{ReadFault, given_bytes};
 use node_journal::Log;
@@ -104,42 +105,14 @@ fn missing_places(
     Ok(Items::from_vec(places))
 }
 
-/// Reads the bytes that are held under a name, as `read_object` does.
-fn read_chunk<L: Log, D: Disk>(
-    log: &mut L,
-    disk: &mut D,
-    names: &Store,
-    name: &Digest,
-    into: &mut Vec<u8>,
-) -> Result<bool, ReadFault>
-    requires whole { L.is_broken log.old ≡ false }
-    requires there { AreThere names.now (L.size log.old) (L.keeps_body log.old) }
-    ensures bytes { IfOk result (λ there. Tells_bytes (D.view disk.new) → (h : List Change) (es : List Entry) → KnowsNames names.now h → AreDecoded h es
-        → Shows (L.holds log.old es) (D.view disk.old) → is_held (state h) name.now ≡ true → IsRead there into.new.items (last_brought name.now h)) }
-    ensures log { log.new ≡ log.old }
-    ensures looked { Looked (result ≡ Err ReadFault.DiskFault) (D.view disk.old) (D.view disk.new) }
-    ensures reads { (D.view disk.new).write_faults ≡ (D.view disk.old).write_faults }
-    ensures only { OnErr result ((result ≡ Err ReadFault.DiskFault) ⊎ (result ≡ Err ReadFault.Memory)) }
-{
-    match names.read(log, disk, name, into) {
-        Ok(there) => Ok(there),
-        Err(StoreError::DiskFault) => Err(ReadFault::DiskFault),
-        Err(StoreError::Memory) => Err(ReadFault::Memory),
-        Err(StoreError::Already | StoreError::Clash(_) | StoreError::Altered) => unreachable!(),
-    }
-}
-
 /// Puts the bytes of a claim of the node's own into `into`, in place of what that held.
 fn put_claim(claims: &mut ClaimSource, number: u32, into: &mut Vec<u8>) -> Result<(), Memory>
     ensures bytes { OnOk result (into.new.items ≡ claim claims.old.seed number) }
     ensures seed { claims.new.seed ≡ claims.old.seed }
     ensures issued { claims.new.issued ≡ claims.old.issued }
 {
-    // Walked claims are fast to make. Where memory runs out, those that were not are right but slow.
-    let _ = claims.walk(number.saturating_sub(claims.walked()));
-    into.clear();
-    into.extend_from_slice(&claims.claim(number))?;
-    Ok(())
+    walk_to(claims, number);
+    put(&claims.claim(number), into)
 }
 
 /// Reads the bytes of a claim that the node answers for, as `read_object` does.

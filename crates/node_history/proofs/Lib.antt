@@ -5,6 +5,7 @@ pub mod Brought
 pub mod Entered
 pub mod SlotKeys
 pub mod Lacks
+pub mod HeldBodies
 pub mod Reading
 pub mod Less
 pub mod Named

@@ -3,15 +3,15 @@
 ghost use Rattle.std.specs.Prelude.{◌≡◌, ◌≤◌, ◌<◌, ◌+◌, ◌^◌, true, length, IfOk};
 ghost use Rattle.std.specs.List.{list_all};
 ghost use Rattle.psb_bytes.specs.Units.{longest_chunk};
-ghost use Rattle.wire_codec.specs.Fields.{are_bytes, are_slots, are_places, is_digest};
+ghost use Rattle.wire_codec.specs.Fields.{are_bytes, are_slots, are_places, is_digest, is_object};
 ghost use Rattle.wire_codec.specs.Frames.{fits};
-ghost use Rattle.wire_codec.specs.declared.frame.Frame.TheVariants.{Store, Cancel, PutBack, Accepted, Declined, Get, Here, Proof, Ask, Sample};
+ghost use Rattle.wire_codec.specs.declared.frame.Frame.TheVariants.{Store, Cancel, PutBack, Accepted, Declined, Get, Here, Probe, Proof, Ask, Sample};
 ghost use Rattle.wire_codec.specs.declared.limits.TheConstants.{MOST_SLOTS};
 ghost use Rattle.psb_machine.specs.Replies.{claims_from};
 
 use crate::issuing::claims_at;
 use claims::ClaimSource;
-use psb_bytes::{Digest, DigestList, Items, Memory, PlaceList, SlotList};
+use psb_bytes::{Digest, DigestList, Items, Memory, Object, ObjectList, PlaceList, SlotList};
 use std::alloc::Global;
 use wire_codec::Frame;
 
@@ -176,5 +176,41 @@ pub fn ask_frame(alloc: Global, salt: &Digest, names: &[Digest]) -> Result<Frame
     Ok(Frame::Ask {
         salt: copied(*salt),
         names: names_copy(alloc, names)?,
+    })
+}
+
+/// A copy of an object, which has a spelling in a frame.
+pub fn object_copy(object: &Object) -> Object
+    ensures same { result ≡ object.now }
+    ensures fits { is_object result ≡ true }
+{
+    match object {
+        Object::Chunk(name) => Object::Chunk(copied(*name)),
+        Object::Slot(slot) => Object::Slot(*slot),
+    }
+}
+
+/// A copy of objects, each of which has a spelling in a frame.
+pub fn objects_copy(alloc: Global, objects: &[Object]) -> Result<ObjectList, Memory>
+    ensures same { IfOk result (λ l. l ≡ objects.now) }
+    ensures fit { IfOk result (λ l. list_all is_object l ≡ true) }
+{
+    let mut copies = Vec::with_capacity(alloc, objects.len())?;
+    for object in objects {
+        copies.push(object_copy(object))?;
+    }
+    Ok(Items::from_vec(copies))
+}
+
+/// The frame that asks for a proof that these objects are held.
+pub fn probe_of(alloc: Global, nonce: &Digest, objects: &[Object]) -> Result<Frame, Memory>
+    requires some { 1 ≤ length objects.now }
+    requires few { length objects.now ≤ 32 }
+    ensures frame { IfOk result (λ f. f ≡ Probe nonce.now objects.now) }
+    ensures fits { IfOk result (λ f. fits f ≡ true) }
+{
+    Ok(Frame::Probe {
+        nonce: copied(*nonce),
+        objects: objects_copy(alloc, objects)?,
     })
 }

@@ -9,7 +9,8 @@ mod peers;
 mod replies;
 
 pub use frames::{
-    ask_frame, cancel_of, declined_of, proof_of, put_back_of, sample_frame, store_of,
+    ask_frame, cancel_of, declined_of, object_copy, objects_copy, probe_of, proof_of, put_back_of,
+    sample_frame, store_of,
 };
 pub use issuing::issue_to;
 pub use letter::{Letter, Outbox, Outbox64, gets_to, letter_to};

@@ -1,22 +1,25 @@
 -- What a node keeps of its peers is what the machine has of them.
-use Rattle.std.proofs.Common.{◌≡◌, ℕ, Bool, true, false, cond, ◌==◌, List, [], ◌∷◌, map, Option, Some, None, refl, sym, ap, ◌∙◌, subst}
+use Rattle.std.proofs.Common.{◌≡◌, ℕ, Bool, false, not, ◌&&◌, ◌==◌, List, [], ◌∷◌, map, Option, Some, None, refl, sym, ap, ◌∙◌, subst}
 use Rattle.std.specs.Prelude.{is_some}
 use Rattle.std.specs.Option.{option_map}
 use Rattle.std.proofs.lemmas.Bool.{eqb-true, eq-eqb, true≢false}
 use Rattle.psb_settings.specs.declared.settings.PeerRow.{PeerRow}
 use Rattle.psb_settings.specs.declared.settings.Settings.{Settings}
-use Rattle.psb_model.specs.State.{State}
+use Rattle.psb_model.specs.State.{State, row}
+use Rattle.psb_model.specs.Conditions.{peer_of}
+use Rattle.psb_model.specs.Effects.{after}
 use Rattle.psb_model.specs.declared.change.Change.{Change}
-use Rattle.psb_model.specs.declared.change.Change.TheVariants.{Snapped, Forgot, Turned}
+use Rattle.psb_model.specs.declared.change.Change.TheVariants as change
 use Rattle.psb_model.proofs.ByObject.{by_cases}
 use Rattle.wire_codec.specs.Frames.{key_in}
 use Rattle.psb_machine.specs.Letters.{key_of_row}
-use Rattle.psb_machine.specs.Volatile.{Volatile, PeerState as MachineState, unheard, after_tick, sampled, waiting, unsampled as without_sample, ticks_to_wait, empty, found_in, of_peer, changed_in, at_peer, at_each, Note, Nothing, Ticked, Sampled, noted, by_change}
+use Rattle.psb_machine.specs.Volatile.{Volatile, PeerState as MachineState, unheard, after_tick, sampled, waiting, unsampled as without_sample, asked_now, still_asked, probe_goes_on, ticks_to_wait, empty, found_in, of_peer, changed_in, at_peer, at_each, Note, Nothing, Ticked, Sampled, noted, marked_by, probed_by, by_change}
+use Rattle.psb_machine.proofs.Found.{changed_here, changed_there, each_found}
 use Rattle.node_letters.specs.Peers.{PeersView, peers_of}
 use Rattle.peer_states.specs.declared.peer_state.PeerState.{PeerState}
 use Rattle.peer_states.specs.declared.peer_state.Mark.{Mark}
-use Rattle.peer_states.specs.declared.peer_state.Mark.TheVariants.{Tick, Wait, Sample}
-use Rattle.peer_states.specs.PeerStates.{at_start, kept, state_of, marked, marked_at, unsampled, states_noted, states_changed, KnowsStates}
+use Rattle.peer_states.specs.declared.peer_state.Mark.TheVariants.{Tick, Wait, Sample, Asked, Probe}
+use Rattle.peer_states.specs.PeerStates.{at_start, kept, state_of, marked, marked_at, probed, unsampled, states_noted, states_changed, states_probed, KnowsStates}
 
 -- ---- what is kept of a peer
 
@@ -79,28 +82,12 @@ started_here states rows v settings made here is =
 
 -- ---- a mark of one peer
 
-changed_here : (l : List (ℕ × MachineState)) (f : MachineState → MachineState) (p : ℕ) → found_in (changed_in p f l) p ≡ f (found_in l p)
-changed_here [] f p = rw (eq-eqb p p refl) refl
-changed_here (x ∷ xs) f p =
-    let put = (p, f x.1) ∷ xs in
-    let kept_on = x ∷ changed_in p f xs in
-    by_cases (x.0 == p)
-    (λ k. rw (k, eq-eqb p p refl) refl)
-    (λ k. ap (λ (b : Bool). found_in (cond b put kept_on) p) k
-    ∙ ap (λ (b : Bool). cond b x.1 (found_in (changed_in p f xs) p)) k
-    ∙ changed_here xs f p
-    ∙ sym (ap (λ (b : Bool). f (cond b x.1 (found_in xs p))) k))
+probed_peer : (goes_on : Bool) (x : PeerState) → (probed goes_on x).peer ≡ x.peer
+probed_peer goes_on x = by_cases (not goes_on && is_some x.began) (λ k. rw k refl) (λ k. rw k refl)
 
--- what is q's is not p's where it is not q's
-other : (c q p : ℕ) → (c == q) ≡ false → (c == p) ≡ true → (q == p) ≡ false
-other c q p k j = by_cases (q == p) (λ i. let wrong : (c == q) ≡ true = eq-eqb c q (eqb-true c p j ∙ sym (eqb-true q p i)) in absurd (true≢false (sym wrong ∙ k))) (λ i. i)
-
-changed_there : (l : List (ℕ × MachineState)) (f : MachineState → MachineState) (q p : ℕ) → (q == p) ≡ false → found_in (changed_in q f l) p ≡ found_in l p
-changed_there [] f q p apart = rw apart refl
-changed_there (x ∷ xs) f q p apart =
-    by_cases (x.0 == q)
-    (λ k. let away : (x.0 == p) ≡ false = ap (λ (n : ℕ). n == p) (eqb-true x.0 q k) ∙ apart in rw (k, apart, away) refl)
-    (λ k. by_cases (x.0 == p) (λ j. rw (k, j) refl) (λ j. rw (k, j) (changed_there xs f q p apart)))
+-- it ends as it does in the machine
+probed_kept : (goes_on : Bool) (x : PeerState) → probe_goes_on goes_on (kept x) ≡ kept (probed goes_on x)
+probed_kept goes_on x = by_cases (not goes_on && is_some x.began) (λ k. rw k refl) (λ k. rw k refl)
 
 marked_peer : (q : ℕ) (m : Mark) (x : PeerState) → (marked_at q m x).peer ≡ x.peer
 marked_peer q m x = by_cases (x.peer == q) (λ k. rw k (by_mark m)) (λ k. rw k refl)
@@ -109,6 +96,8 @@ marked_peer q m x = by_cases (x.peer == q) (λ k. rw k (by_mark m)) (λ k. rw k 
     by_mark Tick = refl
     by_mark (Wait ticks) = refl
     by_mark (Sample bits) = refl
+    by_mark Asked = refl
+    by_mark (Probe goes_on) = probed_peer goes_on x
 
 one_marked : (v : Volatile) (f : MachineState → MachineState) (m : Mark) (q : ℕ) (x : PeerState) → ((y : PeerState) → f (kept y) ≡ kept (marked m y)) → of_peer v x.peer ≡ kept x → of_peer (at_peer q f v) x.peer ≡ kept (marked_at q m x)
 one_marked v f m q x same is =
@@ -128,15 +117,20 @@ states_then (Sampled p bits) l keys v k = states_marked l keys v (sampled bits) 
 
 -- ---- a change
 
-each_found : (l : List (ℕ × MachineState)) (p : ℕ) → found_in (map (λ (x : ℕ × MachineState). (x.0, without_sample x.1)) l) p ≡ without_sample (found_in l p)
-each_found [] p = refl
-each_found (x ∷ xs) p = by_cases (x.0 == p) (λ k. rw k refl) (λ k. rw k (each_found xs p))
-
 no_samples : (l : List PeerState) (keys : List (ℕ × List ℕ)) (v : Volatile) → KnowsStates l keys v → KnowsStates (map unsampled l) keys (at_each without_sample v)
 no_samples l keys v k = changed_known unsampled l keys v (at_each without_sample v) (λ x. refl) (λ x is. each_found v.peers x.peer ∙ ap without_sample is) k
 
-pub states_grown : (l : List PeerState) (keys : List (ℕ × List ℕ)) (s : State) (settings : Settings) (c : Change) (v : Volatile) → s.settings ≡ Some settings → KnowsStates l keys v → KnowsStates (states_changed settings.id c l) keys (by_change s c v)
-states_grown l keys s settings (Turned x) v is k = rw is (states_marked l keys v (waiting (ticks_to_wait settings.id x.peer)) (Wait (ticks_to_wait settings.id x.peer)) x.peer (λ y. refl) k)
-states_grown l keys s settings (Snapped x) v is k = no_samples l keys v k
-states_grown l keys s settings (Forgot x) v is k = no_samples l keys v k
-states_grown l keys s settings _ v is k = k
+states_marked_by : (l : List PeerState) (keys : List (ℕ × List ℕ)) (s : State) (settings : Settings) (c : Change) (v : Volatile) → s.settings ≡ Some settings → KnowsStates l keys v → KnowsStates (states_changed settings.id c l) keys (marked_by s c v)
+states_marked_by l keys s settings (change.Turned x) v is k = rw is (states_marked l keys v (waiting (ticks_to_wait settings.id x.peer)) (Wait (ticks_to_wait settings.id x.peer)) x.peer (λ y. refl) k)
+states_marked_by l keys s settings (change.Snapped x) v is k = no_samples l keys v k
+states_marked_by l keys s settings (change.Forgot x) v is k = no_samples l keys v k
+states_marked_by l keys s settings (change.Asked x) v is k = states_marked l keys v asked_now Asked x.peer (λ y. refl) k
+states_marked_by l keys s settings _ v is k = k
+
+states_ended : (l : List PeerState) (keys : List (ℕ × List ℕ)) (after : State) (p : Option ℕ) (v : Volatile) → KnowsStates l keys v → KnowsStates (states_probed after p l) keys (probed_by after p v)
+states_ended l keys after None v k = k
+states_ended l keys after (Some p) v k = states_marked l keys v (probe_goes_on (still_asked (row after p))) (Probe (still_asked (row after p))) p (probed_kept (still_asked (row after p))) k
+
+pub states_grown : (l : List PeerState) (keys : List (ℕ × List ℕ)) (s : State) (settings : Settings) (c : Change) (v : Volatile) → s.settings ≡ Some settings → KnowsStates l keys v
+    → KnowsStates (states_probed (after s c) (peer_of c) (states_changed settings.id c l)) keys (by_change s c v)
+states_grown l keys s settings c v is k = states_ended (states_changed settings.id c l) keys (after s c) (peer_of c) (marked_by s c v) (states_marked_by l keys s settings c v is k)

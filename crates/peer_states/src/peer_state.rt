@@ -1,11 +1,15 @@
 //! What a node keeps of each peer until it is opened again.
 
 ghost use Rattle.std.specs.Prelude.{◌≡◌, ◌==◌, map, find, IfOk};
+ghost use Rattle.std.specs.List.{list_all};
 ghost use Rattle.std.specs.Option.{option_copied};
-ghost use Rattle.psb_machine.specs.Volatile.{later, ticks_to_wait};
-ghost use Rattle.peer_states.specs.PeerStates.{at_start, state_of, marked, marked_at, unsampled, sample_of, note_in, states_noted, states_changed};
+ghost use Rattle.psb_model.specs.Conditions.{peer_of};
+ghost use Rattle.psb_machine.specs.Volatile.{later, ticks_to_wait, still_there, still_asked};
+ghost use Rattle.peer_states.specs.PeerStates.{at_start, state_of, marked, marked_at, probed, unsampled, sample_of, note_in, states_noted, states_changed, states_probed};
 
-use psb_bytes::{Memory, PeerId};
+use peer_account::Account;
+use psb_bytes::{Memory, Object, PeerId};
+use psb_ledger::Ledger;
 use psb_model::Change;
 use psb_settings::PeerRow;
 use std::alloc::Global;
@@ -13,14 +17,16 @@ use std::alloc::Global;
 /// A clock that has come so far stays there.
 const LAST_TICK: u64 = 1 << 62;
 
-/// Of a peer: its ticks that were absorbed, those that are to pass before a deal is proposed to it, and the bits
-/// of its sample, if one is kept.
+/// Of a peer: its ticks that were absorbed, those that are to pass before a deal is proposed to it, the bits of its
+/// sample, if one is kept, the clock at which the probe of it began that runs, and the one at which the last one ended.
 #[derive(Clone, Copy)]
 pub struct PeerState {
     pub peer: PeerId,
     pub clock: u64,
     pub wait: u8,
     pub sample: Option<u32>,
+    pub began: Option<u64>,
+    pub ended: u64,
 }
 
 /// What is noted of one peer.
@@ -32,6 +38,10 @@ pub enum Mark {
     Wait(u8),
     /// What it told of the names that it was asked for.
     Sample(u32),
+    /// A probe of it begins.
+    Asked,
+    /// Whether a probe of it that runs goes on.
+    Probe { goes_on: bool },
 }
 
 /// What an input notes beside the change that it makes, before that.
@@ -62,6 +72,18 @@ impl PeerState {
             }
             Mark::Wait(ticks) => self.wait = ticks,
             Mark::Sample(bits) => self.sample = Some(bits),
+            Mark::Asked => self.began = Some(self.clock),
+            Mark::Probe { goes_on } => self.end_probe(goes_on),
+        }
+    }
+
+    /// Ends a probe that runs, unless it goes on.
+    fn end_probe(&mut self, goes_on: bool)
+        ensures { self.new ≡ probed goes_on self.old }
+    {
+        if !goes_on && self.began.is_some() {
+            self.began = None;
+            self.ended = self.clock;
         }
     }
 }
@@ -74,6 +96,8 @@ fn at_start(peer: &PeerRow) -> PeerState
         clock: 0,
         wait: 0,
         sample: None,
+        began: None,
+        ended: 0,
     }
 }
 
@@ -133,12 +157,9 @@ fn mark_peer(states: &mut [PeerState], peer: PeerId, mark: Mark)
 fn unsampled(state: &PeerState) -> PeerState
     ensures { result ≡ unsampled state.now }
 {
-    PeerState {
-        peer: state.peer,
-        clock: state.clock,
-        wait: state.wait,
-        sample: None,
-    }
+    let mut state = *state;
+    state.sample = None;
+    state
 }
 
 /// Keeps no sample.
@@ -169,13 +190,71 @@ fn ticks_to_wait(own: PeerId, peer: PeerId) -> u8
     if own < peer { 2 } else { 4 }
 }
 
-/// Does what a change of the node does to what is kept of its peers.
+/// Does what a change of the node does to what is kept of its peers, but for a probe that ends.
 pub fn note_change(states: &mut Vec<PeerState>, own: PeerId, change: &Change)
     ensures { states.new.items ≡ states_changed own change.now states.old.items }
 {
     match change {
         Change::Turned(x) => mark_peer(states, x.peer, Mark::Wait(ticks_to_wait(own, x.peer))),
         Change::Snapped(_) | Change::Forgot(_) => drop_samples(states),
+        Change::Asked(x) => mark_peer(states, x.peer, Mark::Asked),
         _ => {}
+    }
+}
+
+/// Whether the node has the object on the peer, or the peer lost it and owes for it.
+fn is_still_there(row: &Account, object: &Object) -> bool
+    ensures { result ≡ still_there row.now.row object.now }
+{
+    row.has_out(object) || row.has_debt(object)
+}
+
+fn are_still_there(row: &Account, objects: &[Object]) -> bool
+    ensures { result ≡ list_all (still_there row.now.row) objects.now }
+{
+    objects.iter().all(|object| is_still_there(row, object))
+}
+
+/// Whether a probe of the peer has no outcome yet, and each object that it asks for is still there, or in debt.
+pub fn still_asked(row: &Account) -> bool
+    ensures { result ≡ still_asked row.now.row }
+{
+    match row.asked() {
+        None => false,
+        Some((_, objects)) => are_still_there(row, objects.as_slice()),
+    }
+}
+
+/// The peer of a change, if it is of one.
+pub fn peer_of(change: &Change) -> Option<PeerId>
+    ensures { result ≡ peer_of change.now }
+{
+    match change {
+        Change::TookFresh(x) => Some(x.peer),
+        Change::TookSwap(x) => Some(x.peer),
+        Change::LetGo(x) => Some(x.peer),
+        Change::LetGoBack(x) => Some(x.peer),
+        Change::Replaced(x) => Some(x.peer),
+        Change::Refused(x) => Some(x.peer),
+        Change::Proposed(x) => Some(x.peer),
+        Change::Settled(x) => Some(x.peer),
+        Change::Turned(x) => Some(x.peer),
+        Change::Asked(x) => Some(x.peer),
+        Change::Passed(x) => Some(x.peer),
+        Change::Failed(x) => Some(x.peer),
+        Change::Declined(x) => Some(x.peer),
+        Change::Discarded(x) => Some(x.peer),
+        _ => None,
+    }
+}
+
+/// Ends the probe of a change's peer that runs, where it has its outcome, or where what it asks for is there no longer.
+/// The ledger is the one after the change.
+pub fn note_probe(states: &mut Vec<PeerState>, ledger: &Ledger, peer: Option<PeerId>)
+    ensures { states.new.items ≡ states_probed ledger.now.state peer states.old.items }
+{
+    if let Some(peer) = peer {
+        let goes_on = still_asked(ledger.row(peer));
+        mark_peer(states, peer, Mark::Probe { goes_on });
     }
 }

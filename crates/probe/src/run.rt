@@ -1,6 +1,6 @@
 //! A probe that runs, and when it is late.
 
-ghost use Rattle.std.specs.Prelude.{◌≡◌, ◌≤◌};
+ghost use Rattle.std.specs.Prelude.{◌≡◌};
 ghost use Rattle.probe.specs.Deadlines.{is_late};
 
 use psb_bytes::{Digest, ObjectList};
@@ -20,10 +20,9 @@ pub struct ProbeRun {
     pub began: u64,
 }
 
-/// Is the answer late to what was asked at one count of ticks, at another, later one?
+/// Is the answer late to what was asked at one count of ticks, at another one? At an earlier one it is not.
 pub fn late(began: u64, clock: u64) -> bool
-    requires { began ≤ clock }
     ensures { result ≡ is_late began clock }
 {
-    clock - began >= DEADLINE
+    clock.saturating_sub(began) >= DEADLINE
 }

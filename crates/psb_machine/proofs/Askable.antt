@@ -135,9 +135,9 @@ may_be_askable s p (PutBack name first) plain fit m =
 may_be_askable s p (Forward slot entry) plain fit m = refl
 may_be_askable s p (Return slot) plain fit m = refl
 
-pub proposal_askable : (h : List Change) (settings : Settings) (p : ℕ) (what : DealWhat) → IsValid h → (state h).settings ≡ Some settings → proposal (state h) p [] (propose_facts settings (state h)) ≡ Some what → is_askable (state h) p what ≡ true
-proposal_askable h settings p what v is next =
+pub proposal_askable : (h : List Change) (settings : Settings) (p : ℕ) (probed : List Object) (what : DealWhat) → IsValid h → (state h).settings ≡ Some settings → proposal (state h) p probed (propose_facts settings (state h)) ≡ Some what → is_askable (state h) p what ≡ true
+proposal_askable h settings p probed what v is next =
     let s = state h in
     let plain = steady_state h v.lawful in
     let fit = fit_state h v.lawful in
-    may_be_askable s p what plain fit (proposable s p [] (propose_facts settings s) what plain fit (wide_state h v.lawful v.fit) (sorted_row h p) refl (sym (ap capacity is)) next)
+    may_be_askable s p what plain fit (proposable s p probed (propose_facts settings s) what plain fit (wide_state h v.lawful v.fit) (sorted_row h p) refl (sym (ap capacity is)) next)

@@ -38,7 +38,7 @@ zeros zero i = omega arith
 zeros (suc n) zero = omega arith
 zeros (suc n) (suc i) = zeros n i
 
-salt_fits : (seed : List ℕ) (change : ℕ) → is_wire_digest (salt_of seed change) ≡ true
+pub salt_fits : (seed : List ℕ) (change : ℕ) → is_wire_digest (salt_of seed change) ≡ true
 salt_fits seed change =
     let long : (length (salt_of seed change) == 32) ≡ true = eq-eqb (length (salt_of seed change)) 32 (length-masked_from (words_key seed) change 0 (replicate 32 0)) in
     rw (long, are_bytes_is (salt_of seed change) (AreBytes-masked_from (words_key seed) change 0 (replicate 32 0) (zeros 32))) refl

@@ -6,7 +6,7 @@ use Rattle.std.proofs.lemmas.List.{length-map}
 use Rattle.psb_bytes.specs.declared.lists.SlotClaim.{SlotClaim}
 use Rattle.psb_bytes.specs.declared.ids.Object.{Object}
 use Rattle.psb_model.specs.Grammar.{ascend, is_u8, is_u32, is_u64}
-use Rattle.wire_codec.specs.Fields.{within, ascends, is_digest, is_claim, are_slots, are_claims, are_names, is_object, are_objects, is_text, are_bytes}
+use Rattle.wire_codec.specs.Fields.{within, ascends, is_digest, is_claim, are_slots, are_claims, are_names, is_object, are_objects, are_places, is_text, are_bytes}
 use Rattle.wire_codec.specs.Frames.{fits}
 use Rattle.wire_codec.specs.declared.frame.Frame.{Frame}
 use Rattle.wire_codec.specs.declared.frame.Frame.TheVariants as frame
@@ -14,7 +14,7 @@ use Rattle.wire_codec.specs.declared.limits.TheConstants.{MOST_SLOTS, MOST_OBJEC
 use Rattle.psb_bytes.specs.declared.limits.TheConstants.{LAST_REASON}
 use Rattle.psb_machine.specs.Deals.{Deal, StoreFresh, StoreSwap, Cancel, PutBack, deal_of, slots_of}
 use Rattle.psb_machine.specs.Settling.{Reply, Accepts, Refuses, replied_by}
-use Rattle.psb_machine.specs.Messages.{Message, Deals, Replies, Asks, Probes, message_of}
+use Rattle.psb_machine.specs.Messages.{Message, Deals, Replies, Asks, Probes, Proves, Declines, message_of}
 use Rattle.psb_machine.specs.Judging.{SlotsFit, SwapFits, CancelFits, PutBackFits, DealFits, ReplyFits, MessageFits}
 
 -- a frame that was read
@@ -160,9 +160,26 @@ probe_parts (frame.Probe m os) nonce objects fit is =
     (subst (λ l. is_digest l ≡ true) nonce_is two.0, subst (λ (l : List Object). length l ≤ MOST_OBJECTS) objects_are (few_objects os two.1))
 probe_parts _ nonce objects fit is = absurd (cc (is))
 
+-- what the answers to a probe of the node's own have: a value that is one, places that are some
+pub proof_value : (f : Frame) (nonce value : List ℕ) → fits f ≡ true → message_of f ≡ Some (Proves nonce value) → is_digest value ≡ true
+proof_value (frame.Proof m v) nonce value fit is =
+    let same : Proves m v ≡ Proves nonce value = cc (is) in
+    let value_is : v ≡ value = ap (λ (y : Message). elim y [ Proves a b ↦ b | _ ↦ v ]) same in
+    subst (λ l. is_digest l ≡ true) value_is (and_parts (is_digest m) (is_digest v) fit).1
+proof_value _ nonce value fit is = absurd (cc (is))
+
+pub declined_places : (f : Frame) (nonce places : List ℕ) → fits f ≡ true → message_of f ≡ Some (Declines nonce places) → are_places places ≡ true
+declined_places (frame.Declined m ks) nonce places fit is =
+    let same : Declines m ks ≡ Declines nonce places = cc (is) in
+    let places_are : ks ≡ places = ap (λ (y : Message). elim y [ Declines a b ↦ b | _ ↦ ks ]) same in
+    subst (λ l. are_places l ≡ true) places_are (and_parts (is_digest m) (are_places ks) fit).1
+declined_places _ nonce places fit is = absurd (cc (is))
+
 pub message_fits : (p number : ℕ) (f : Frame) (m : Message) → FrameFits p number f → message_of f ≡ Some m → MessageFits (record { peer = p; number = number }) m
 message_fits p number f (Deals deal) fit is = deal_message p number f deal fit is
 message_fits p number f (Replies reply) fit is = (fit.peer, fit.number_fits, reply_message p number f reply fit is)
 message_fits p number f (Asks salt names) fit is = few_names names (ask_names f salt names (fit.frame_is) is)
 message_fits p number f (Probes nonce objects) fit is = (probe_parts f nonce objects fit.frame_is is).1
+message_fits p number f (Proves nonce value) fit is = (fit.peer, proof_value f nonce value fit.frame_is is)
+message_fits p number f (Declines nonce places) fit is = (fit.peer, declined_places f nonce places fit.frame_is is)
 message_fits p number f _ fit is = tt

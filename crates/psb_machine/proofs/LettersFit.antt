@@ -1,5 +1,5 @@
 -- Each letter of a reaction fits the grammar.
-use Rattle.std.proofs.Common.{◌≡◌, ◌⊎◌, inl, inr, ⊎_elim, ◌<◌, ◌≤◌, ◌^◌, ℕ, ◌+◌, Bool, true, false, ◌&&◌, ◌||◌, ◌==◌, if◌then◌else◌, nat_le, slice_get, option_map, option_to_list, List, [], ◌∷◌, ◌++◌, length, Option, Some, None, Result, Ok, Err, refl, sym, ap, subst, ◌∙◌, arith}
+use Rattle.std.proofs.Common.{◌≡◌, ◌⊎◌, inl, inr, ⊎_elim, ◌<◌, ◌≤◌, ◌^◌, ℕ, ◌+◌, ◌-◌, Bool, true, false, ◌&&◌, ◌||◌, ◌==◌, if◌then◌else◌, nat_le, slice_get, option_map, option_to_list, List, [], ◌∷◌, ◌++◌, length, Option, Some, None, Result, Ok, Err, refl, sym, ap, subst, ◌∙◌, arith}
 use Rattle.std.specs.List.{list_all}
 use Rattle.std.proofs.lemmas.Bool.{and_parts, leb-true, ltb-true, le-leb, lt-ltb}
 use Rattle.std.proofs.Math.Nat.{pow-suc}
@@ -7,6 +7,7 @@ use Rattle.std.proofs.Math.Pow.{pow_mono}
 use Rattle.psb_bytes.specs.Units.{units}
 use Rattle.psb_bytes.specs.Numbers.{AreBytes}
 use Rattle.psb_bytes.specs.declared.ids.Object.{Object}
+use Rattle.psb_bytes.specs.declared.ids.Object.TheVariants.{Chunk, Slot}
 use Rattle.psb_settings.specs.declared.settings.Settings.{Settings}
 use Rattle.psb_model.specs.Words.{In}
 use Rattle.psb_model.specs.declared.deals.Deal.{Deal as OwnDeal}
@@ -14,17 +15,20 @@ use Rattle.psb_model.specs.declared.deals.DealWhat.{DealWhat}
 use Rattle.psb_model.specs.declared.deals.DealWhat.TheVariants as own
 use Rattle.psb_model.specs.declared.entries.Candidate.{Candidate}
 use Rattle.psb_model.specs.declared.change.Change.{Change}
-use Rattle.psb_model.specs.declared.change.Change.TheVariants.{TookFresh, Refused, Forgot}
+use Rattle.psb_model.specs.declared.change.Change.TheVariants.{TookFresh, Refused, Forgot, Asked}
 use Rattle.psb_model.specs.State.{row, is_peer, is_held, own_has}
-use Rattle.psb_model.specs.Grammar.{fits_widths, is_u8, is_u32, is_u64, is_digest, what_fits}
-use Rattle.psb_model.specs.Conditions.{most_claims}
+use Rattle.psb_model.specs.Grammar.{fits_widths, is_u8, is_u32, is_u64, is_digest, object_fits, what_fits}
+use Rattle.psb_model.specs.Conditions.{most_claims, tests}
 use Rattle.psb_model.specs.History.{state}
 use Rattle.psb_model.specs.Needed.{IsValid, last_brought}
 use Rattle.psb_model.proofs.Prefixes.{all_snoc}
+use Rattle.psb_model.proofs.Steps.{parts}
+use Rattle.psb_model.proofs.Steady.{allows}
+use Rattle.model_laws.proofs.Following.{asked_is}
 use Rattle.model_laws.proofs.Fitting.{few_units}
 use Rattle.model_laws.proofs.Widths.{pending_fits, wide_state}
 use Rattle.model_laws.proofs.Numbered.{numbered_state}
-use Rattle.wire_codec.specs.Fields.{is_text, are_slots, are_names, within}
+use Rattle.wire_codec.specs.Fields.{is_object, is_text, are_slots, are_names, within}
 use Rattle.wire_codec.specs.Frames.{Incoming, fits, kind_of, read_frame, key_in}
 use Rattle.wire_codec.specs.declared.limits.TheConstants.{MOST_SLOTS}
 use Rattle.wire_codec.specs.declared.frame.Dropped.{Dropped}
@@ -35,17 +39,20 @@ use Rattle.psb_machine.specs.Letters.{Letter, keys_of}
 use Rattle.psb_machine.specs.Deals.{Deal, standing, judged, judged_at, clashes, first_that_holds, meets_others}
 use Rattle.psb_machine.specs.Judging.{reasons_at, taken_at}
 use Rattle.psb_machine.specs.Messages.{Sender, Message, Deals, Replies, Gets, Asks, Tells, Probes, Proves, Declines, message_of}
+use Rattle.psb_machine.specs.OwnProbes.{Run, listed_by, objects_to_ask, objects_drawn, nonce_of, probe_letter, ticks_between, is_of, own_bytes, silent_by, are_places_of}
+use Rattle.probe.specs.Deadlines.{is_late}
+use Rattle.psb_machine.specs.Volatile.{of_peer, later}
 use Rattle.psb_machine.specs.Gets.{has_chunk}
-use Rattle.psb_machine.specs.Probing.{proof_of}
+use Rattle.psb_machine.specs.Probing.{proof_of, chain_over}
 use Rattle.psb_machine.specs.Replies.{reply, reply_of, is_answerable, claims_from}
 use Rattle.psb_machine.specs.Settling.{settle}
-use Rattle.psb_machine.specs.Proposals.{Offer, frame_of, letter_of, is_askable, units_there}
+use Rattle.psb_machine.specs.Proposals.{Offer, frame_of, letter_of, is_askable, is_even, units_there}
 use Rattle.psb_machine.specs.Sampling.{bits_of, bit_of, open_question, question_to, questions, answers}
 use Rattle.psb_machine.specs.declared.deals.Refusal.{Refusal}
 use Rattle.psb_machine.specs.declared.deals.Standing.{Standing}
 use Rattle.psb_machine.specs.declared.deals.Standing.TheVariants.{Fresh, Repeat, Stale, Gap}
 use Rattle.psb_machine.specs.declared.question.Question.{Question}
-use Rattle.psb_machine.specs.Machine.{Situation, Input, Datagram, Tick, Keep, Snap, Forget, Reaction, Rule, quiet, grows, keeps, answers_with, by_standing, here, by_settled, on_message, by_message, on_read, on_datagram, kept_with, has_snapshot, then_by, sends, choice_at, by_choice, offer_at, by_offer, by_key, on_tick, react}
+use Rattle.psb_machine.specs.Machine.{Situation, Input, Datagram, Tick, Keep, Snap, Forget, Reaction, Rule, quiet, grows, keeps, answers_with, by_standing, here, by_settled, on_message, by_message, on_read, on_datagram, kept_with, has_snapshot, then_by, sends, choice_at, by_choice, offer_at, by_offer, by_key, on_tick, react, run_at, by_value, by_proof, by_declined, by_late, by_run, ends_with, passes, again_at, begins_with}
 use Rattle.psb_machine.specs.Laws.{Fits, TickFits, HasRoom, AllAreFrames}
 use Rattle.psb_machine.proofs.Standings.{fresh_is_next, repeat_is_last}
 use Rattle.psb_machine.proofs.Lasts.{IsAnswered, last_there}
@@ -58,7 +65,9 @@ use Rattle.psb_machine.proofs.Ticking.{offer_askable, proposed_may}
 use Rattle.psb_machine.proofs.ClaimFits.{claims_fit, accepted_fits}
 use Rattle.psb_machine.proofs.Whole.{frame_read_fits}
 use Rattle.psb_machine.proofs.Brought.{last_text}
-use Rattle.psb_machine.proofs.Asking.{question_fits}
+use Rattle.psb_machine.proofs.Asking.{salt_fits, question_fits}
+use Rattle.psb_machine.proofs.Runs.{run_open, number_within}
+use Rattle.psb_machine.proofs.Listing.{asked_may}
 use Rattle.psb_machine.proofs.ProbeFits.{proof_fits}
 
 -- its number fits the field, or is that of a question's change
@@ -181,6 +190,18 @@ settled_letters : (h : List Change) (o : Option Change) → LettersFit h (by_set
 settled_letters h None = tt
 settled_letters h (Some c) = tt
 
+value_letters : (h : List Change) (p : ℕ) (value : List ℕ) (r : Run) (o : Option (List ℕ)) → LettersFit h (by_value p value r o).letters
+value_letters h p value r None = tt
+value_letters h p value r (Some own) = tt
+
+answered_letters : (settings : Settings) (h : List Change) (from : Sender) (nonce value : List ℕ) (o : Option Run) → LettersFit h (by_proof settings h from nonce value o).letters
+answered_letters settings h from nonce value None = tt
+answered_letters settings h from nonce value (Some r) = either_letters h (is_of settings.seed from.number nonce r) _ quiet (value_letters h from.peer value r (chain_over (own_bytes settings.seed h) nonce r.objects)) tt
+
+declined_letters : (settings : Settings) (h : List Change) (from : Sender) (nonce places : List ℕ) (o : Option Run) → LettersFit h (by_declined settings from nonce places o).letters
+declined_letters settings h from nonce places None = tt
+declined_letters settings h from nonce places (Some r) = either_letters h (is_of settings.seed from.number nonce r && are_places_of r places) _ quiet tt tt
+
 message_letters : (settings : Settings) (n : Situation) (from : Sender) (m : Message) (f : Frame) → IsValid n.history → (state n.history).settings ≡ Some settings → is_peer (state n.history) from.peer ≡ true → FrameFits from.peer from.number f → message_of f ≡ Some m
     → LettersFit n.history (on_message settings n from m).letters
 message_letters settings n from (Deals deal) f v present peer fit is = deal_answers settings n from deal f v present peer fit is (standing (row (state n.history) from.peer).last.number from.number) refl
@@ -193,8 +214,8 @@ message_letters settings n from (Asks salt names) f v present peer fit is =
     (fitting n.history from.peer from.number (frame.Sample salt (bits_of (is_held (state n.history)) names)) fit.peer fit.number_fits (rw (ask_salt f salt names fit.frame_is is, few_bits (is_held (state n.history)) names few) refl), tt)
 message_letters settings n from (Tells salt bits) f v present peer fit is = either_letters n.history (answers (open_question (state n.history)) salt bits) (keeps from.peer bits) quiet tt tt
 message_letters settings n from (Probes nonce objects) f v present peer fit is = proof_letters settings n.history from nonce objects f fit is (proof_of settings n.history from.peer nonce objects) refl
-message_letters settings n from (Proves nonce value) f v present peer fit is = tt
-message_letters settings n from (Declines nonce places) f v present peer fit is = tt
+message_letters settings n from (Proves nonce value) f v present peer fit is = answered_letters settings n.history from nonce value (run_at n from.peer)
+message_letters settings n from (Declines nonce places) f v present peer fit is = declined_letters settings n.history from nonce places (run_at n from.peer)
 
 by_message_letters : (settings : Settings) (n : Situation) (from : Sender) (o : Option Message) (f : Frame) → IsValid n.history → (state n.history).settings ≡ Some settings → is_peer (state n.history) from.peer ≡ true → FrameFits from.peer from.number f → message_of f ≡ o
     → LettersFit n.history (by_message settings n from o).letters
@@ -246,7 +267,7 @@ offer_fits settings n p key o v present keyed f is =
     })
     (λ idle what found same.
     let number = (row (state n.history) p).mine + 1 in
-    let m = proposed_may n.history settings p what v present (keyed_is_peer n.history settings p key present keyed) f idle found in
+    let m = proposed_may n.history settings p (listed_by (run_at n p)) what v present (keyed_is_peer n.history settings p key present keyed) f idle found in
     let three = and_parts (is_u32 p && is_u64 number) (what_fits what) m.widths in
     record {
       number = subst (λ (y : Offer). is_u64 y.deal.number ≡ true) same (and_parts (is_u32 p) (is_u64 number) three.0).1;
@@ -283,13 +304,66 @@ choice_letters : (h : List Change) (o : Option (List Candidate)) → LettersFit 
 choice_letters h None = tt
 choice_letters h (Some candidates) = tt
 
+late_letters : (h : List Change) (p clock : ℕ) (o : Option Run) → LettersFit h (by_late p clock o).letters
+late_letters h p clock None = tt
+late_letters h p clock (Some r) = by_time (is_late r.began clock)
+  where
+    by_time : (b : Bool) → LettersFit h (if b then ends_with (silent_by p r) [] else passes).letters
+    by_time true = tt
+    by_time false = tt
+
+-- a probe has the number of the change that asks, and the objects that one lists
+objects_spelled : (os : List Object) → list_all object_fits os ≡ true → list_all is_object os ≡ true
+objects_spelled [] h = refl
+objects_spelled (Chunk name ∷ os) h = let a = and_parts (object_fits (Chunk name)) (list_all object_fits os) h in rw (a.0, objects_spelled os a.1) refl
+objects_spelled (Slot n ∷ os) h = let a = and_parts (object_fits (Slot n)) (list_all object_fits os) h in rw (a.0, objects_spelled os a.1) refl
+
+probe_fits : (seed : List ℕ) (asked : ℕ) (os : List Object) → list_all object_fits os ≡ true → nat_le 1 (length os) ≡ true → nat_le (length os) 32 ≡ true → fits (frame.Probe (nonce_of seed asked) os) ≡ true
+probe_fits seed asked os fit some few = rw (salt_fits seed asked, some, few, objects_spelled os fit) refl
+
+begins_letters : (settings : Settings) (n : Situation) (p clock : ℕ) (key : List ℕ) (os : List Object) → IsValid n.history → (state n.history).settings ≡ Some settings → key_in (keys_of settings) p ≡ Some key → TickFits (state n.history) p
+    → objects_to_ask (row (state n.history) p) ≡ os → LettersFit n.history (begins_with settings.seed (state n.history) p clock os).letters
+begins_letters settings n p clock key [] v present keyed f is = tt
+begins_letters settings n p clock key (o ∷ os) v present keyed f is =
+    let s = state n.history in
+    let drawn = objects_drawn settings.seed s (o ∷ os) in
+    let c : Change = Asked (record { peer = p; objects = drawn }) in
+    let m = asked_may n.history settings p o os v (keyed_is_peer n.history settings p key present keyed) f.peer is in
+    let ts = parts (tests s c) (allows s c m.may).tests in
+    (fitting n.history p s.changes (frame.Probe (nonce_of settings.seed s.changes) drawn) f.peer (lt-ltb s.changes (2 ^ 64) f.room) (probe_fits settings.seed s.changes drawn (and_parts (is_u32 p) (list_all object_fits drawn) m.widths).1 ts.0 ts.1.0), tt)
+
+again_letters : (settings : Settings) (n : Situation) (p : ℕ) (r : Run) → IsValid n.history → TickFits (state n.history) p → run_at n p ≡ Some r → LettersFit n.history (again_at settings.seed p (later (of_peer n.volatile p).clock) r)
+again_letters settings n p r v f is = by_clock (is_even (later (of_peer n.volatile p).clock - r.began))
+  where
+    by_clock : (b : Bool) → LettersFit n.history (if b then probe_letter settings.seed p r ∷ [] else [])
+    by_clock true =
+        let a = asked_is n.history p r.asked r.objects v (run_open n p r is) in
+        let number = number_within n.history p r v (omega (arith, f.room)) (run_open n p r is) in
+        (fitting n.history p r.asked (frame.Probe (nonce_of settings.seed r.asked) r.objects) f.peer number (probe_fits settings.seed r.asked r.objects a.fit (le-leb 1 (length r.objects) a.some) (le-leb (length r.objects) 32 a.few)), tt)
+    by_clock false = tt
+
+run_letters : (settings : Settings) (n : Situation) (p : ℕ) (key : List ℕ) (o : Option Run) → IsValid n.history → (state n.history).settings ≡ Some settings → key_in (keys_of settings) p ≡ Some key → TickFits (state n.history) p → run_at n p ≡ o
+    → LettersFit n.history (by_run settings.seed (state n.history) p (of_peer n.volatile p) o).letters
+run_letters settings n p key None v present keyed f is = by_time (nat_le ((of_peer n.volatile p).ended + ticks_between) (later (of_peer n.volatile p).clock))
+  where
+    by_time : (b : Bool) → LettersFit n.history (if b then begins_with settings.seed (state n.history) p (later (of_peer n.volatile p).clock) (objects_to_ask (row (state n.history) p)) else passes).letters
+    by_time true = begins_letters settings n p (later (of_peer n.volatile p).clock) key (objects_to_ask (row (state n.history) p)) v present keyed f refl
+    by_time false = tt
+run_letters settings n p key (Some r) v present keyed f is = again_letters settings n p r v f is
+
 tick_letters : (settings : Settings) (n : Situation) (p : ℕ) (o : Option (List ℕ)) → IsValid n.history → (state n.history).settings ≡ Some settings → TickFits (state n.history) p → key_in (keys_of settings) p ≡ o → LettersFit n.history (by_key settings n p o).letters
 tick_letters settings n p None v present f keyed = tt
 tick_letters settings n p (Some key) v present f keyed =
-    then_letters n.history (by_choice (choice_at settings n p)) _ (choice_letters n.history (choice_at settings n p))
-    (then_letters n.history (by_offer settings n.history p (offer_at settings n p)) (sends (questions (state n.history) p))
-    (offer_letters settings n p key (offer_at settings n p) v present keyed f refl)
-    (question_letters n.history p (open_question (state n.history)) v f.peer refl))
+    let last = sends (questions (state n.history) p) in
+    let probed = by_run settings.seed (state n.history) p (of_peer n.volatile p) (run_at n p) in
+    let offered = by_offer settings n.history p (offer_at settings n p) in
+    let chosen = by_choice (choice_at settings n p) in
+    let late = by_late p (later (of_peer n.volatile p).clock) (run_at n p) in
+    then_letters n.history late (then_by chosen (then_by offered (then_by probed last))) (late_letters n.history p (later (of_peer n.volatile p).clock) (run_at n p))
+    (then_letters n.history chosen (then_by offered (then_by probed last)) (choice_letters n.history (choice_at settings n p))
+    (then_letters n.history offered (then_by probed last) (offer_letters settings n p key (offer_at settings n p) v present keyed f refl)
+    (then_letters n.history probed last (run_letters settings n p key (run_at n p) v present keyed f refl)
+    (question_letters n.history p (open_question (state n.history)) v f.peer refl))))
 
 -- ---- any input
 

@@ -20,12 +20,14 @@ use Rattle.psb_model.specs.Conditions.{most_claims, tests}
 use Rattle.psb_model.specs.Proposing.{ProposeFacts, as_many, slots_to_give, may_release, cancel, put_back, release_of, release, slots_to_fill, is_missing, swap, fresh, place_of, first_place, place, proposal}
 use Rattle.psb_model.specs.History.{state}
 use Rattle.psb_model.proofs.ByObject.{by_cases}
+use Rattle.psb_bytes.specs.Objects.{name_eq}
+use Rattle.psb_machine.specs.OwnProbes.{Run, listed_by, passed_by, wrong_by}
 use Rattle.psb_machine.proofs.Causes.{caused}
 use Rattle.psb_machine.specs.Made.{is_made_deal, is_made}
 use Rattle.psb_machine.specs.Deals.{Deal, StoreFresh, StoreSwap, Cancel, PutBack, takes, judged, judged_at, facts_at, clashes, reasons, first_that_holds}
 use Rattle.psb_machine.specs.Settling.{Reply, Accepts, Refuses, answers_deal, settle}
 use Rattle.psb_machine.specs.Proposals.{propose_facts}
-use Rattle.psb_machine.specs.Machine.{Situation, Input, Reaction, changes_of, react, next}
+use Rattle.psb_machine.specs.Machine.{Situation, Input, Reaction, changes_of, run_at, react, next}
 use Rattle.psb_machine.specs.declared.deals.Refusal.{Refusal}
 
 -- the change that a reaction makes, if it makes one, is of these kinds
@@ -121,6 +123,12 @@ settles_by s p number reply c is =
     (λ k. cc (ap (λ (b : Bool). cond b (Some (answers_deal p number reply)) None) (sym k) ∙ is))
     (λ k. let bad : None ≡ Some c = ap (λ (b : Bool). cond b (Some (answers_deal p number reply)) None) (sym k) ∙ is in absurd (cc (bad)))
 
+-- ---- the answer to a probe
+
+value_made : (p : ℕ) (value : List ℕ) (r : Run) (b : Bool) → list_all is_made ((if b then passed_by p r else wrong_by p value r) ∷ []) ≡ true
+value_made p value r true = refl
+value_made p value r false = refl
+
 -- ---- any input
 
 abbrev are_made : Option Change → Type 0
@@ -132,7 +140,11 @@ makes_such n x = caused are_made n x (record {
   deal = λ settings bytes i deal came present read is fresh. one_made (judged_at settings n.history i.from i.number deal) (deal_made settings n.history i.from i.number deal);
   reply = λ settings bytes i reply c came present read is made. one_made c (subst (λ (d : Change). is_made d ≡ true) (settles_by (state n.history) i.from i.number reply c made) (answers_made i.from i.number reply));
   choice = λ settings p key candidates came present keyed chosen. refl;
-  propose = λ settings p key what came present keyed idle found. one_made (Proposed (record { peer = p; deal = (row (state n.history) p).mine + 1; what = what })) (subst (λ (o : Option DealWhat). is_made_what o ≡ true) found (proposal_made (state n.history) p [] (propose_facts settings (state n.history))));
+  propose = λ settings p key what came present keyed idle found. one_made (Proposed (record { peer = p; deal = (row (state n.history) p).mine + 1; what = what })) (subst (λ (o : Option DealWhat). is_made_what o ≡ true) found (proposal_made (state n.history) p (listed_by (run_at n p)) (propose_facts settings (state n.history))));
+  late = λ settings p key r came present keyed run is. refl;
+  asks = λ settings p key o os came present keyed idle is. refl;
+  proof = λ settings bytes i nonce value own r came present read is run of_it made. value_made i.from value r (name_eq own value);
+  declined = λ settings bytes i nonce places r came present read is run of among. refl;
   keep = λ name bytes came lacks same. refl;
   snap = λ note came. refl;
   forget = λ number came has. refl;

@@ -107,7 +107,7 @@ deal_noted : (s : State) (c : Change) (r : Row) → is_made c ≡ true → is_ma
 deal_noted s (Proposed x) r m h = m
 deal_noted s (Settled x) r m h = refl
 deal_noted s (Turned x) r m h = refl
-deal_noted s (Passed x) r m h = absurd (false≢true m)
+deal_noted s (Passed x) r m h = by_cases (x.asked == 0) (λ k. rw k h) (λ k. rw k h)
 deal_noted s _ r m h = h
 
 plain_changed : (s : State) (c : Change) (r : Row) → is_made c ≡ true → IsPlainRow r → IsPlainRow (changed s c r)

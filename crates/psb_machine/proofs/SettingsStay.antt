@@ -1,5 +1,5 @@
 -- The settings stay what they are while inputs come.
-use Rattle.std.proofs.Common.{◌≡◌, ℕ, option_to_list, List, [], ◌∷◌, Option, Some, None, refl, ◌∙◌, ap, subst}
+use Rattle.std.proofs.Common.{Bool, true, false, if◌then◌else◌, ◌≡◌, ℕ, option_to_list, List, [], ◌∷◌, Option, Some, None, refl, ◌∙◌, ap, subst}
 use Rattle.psb_model.specs.State.{State, nothing_yet}
 use Rattle.psb_model.specs.Effects.{after}
 use Rattle.psb_model.specs.History.{state, state_from}
@@ -11,6 +11,8 @@ use Rattle.psb_machine.specs.Judging.{reasons_at, taken_at}
 use Rattle.psb_machine.specs.Machine.{Situation, Input, changes_of, react, next}
 use Rattle.psb_machine.specs.declared.deals.Refusal.{Refusal}
 use Rattle.psb_machine.specs.Course.{Step, Absorb, Tell, after_all}
+use Rattle.psb_bytes.specs.Objects.{name_eq}
+use Rattle.psb_machine.specs.OwnProbes.{Run, passed_by, wrong_by}
 use Rattle.psb_machine.proofs.Causes.{caused}
 use Rattle.psb_machine.proofs.Made.{settles_by}
 
@@ -32,6 +34,10 @@ answers_stay : (s : State) (p number : ℕ) (reply : Reply) → Stays s (Some (a
 answers_stay s p number (Accepts claims) = refl
 answers_stay s p number (Refuses why detail) = refl
 
+value_stays : (s : State) (p : ℕ) (value : List ℕ) (r : Run) (b : Bool) → Stays s (Some (if b then passed_by p r else wrong_by p value r))
+value_stays s p value r true = refl
+value_stays s p value r false = refl
+
 react_stays : (n : Situation) (x : Input) → Stays (state n.history) (react n x).grown
 react_stays n x = caused (Stays (state n.history)) n x (record {
   none = refl;
@@ -39,6 +45,10 @@ react_stays n x = caused (Stays (state n.history)) n x (record {
   reply = λ settings bytes i reply c came present read is made. subst (λ (d : Change). Stays (state n.history) (Some d)) (settles_by (state n.history) i.from i.number reply c made) (answers_stay (state n.history) i.from i.number reply);
   choice = λ settings p key candidates came present keyed chosen. refl;
   propose = λ settings p key what came present keyed idle found. refl;
+  late = λ settings p key r came present keyed run is. refl;
+  asks = λ settings p key o os came present keyed idle is. refl;
+  proof = λ settings bytes i nonce value own r came present read is run of_it made. value_stays (state n.history) i.from value r (name_eq own value);
+  declined = λ settings bytes i nonce places r came present read is run of among. refl;
   keep = λ name bytes came lacks same. refl;
   snap = λ note came. refl;
   forget = λ number came has. refl;

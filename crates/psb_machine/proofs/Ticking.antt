@@ -18,7 +18,9 @@ use Rattle.model_laws.proofs.Widths.{wide_state}
 use Rattle.model_laws.proofs.RowOrder.{sorted_row}
 use Rattle.model_laws.proofs.Proposable.{proposable, proposal_allowed}
 use Rattle.psb_machine.specs.Proposals.{Offer, propose_facts, is_askable}
-use Rattle.psb_machine.specs.Machine.{Situation, offer_at}
+use Rattle.psb_bytes.specs.declared.ids.Object.{Object}
+use Rattle.psb_machine.specs.OwnProbes.{listed_by}
+use Rattle.psb_machine.specs.Machine.{Situation, run_at, offer_at}
 use Rattle.psb_machine.specs.Laws.{TickFits}
 use Rattle.psb_machine.proofs.Causes.{offer_cases}
 use Rattle.psb_machine.proofs.Taken.{MayTake, begun_here}
@@ -29,16 +31,16 @@ pub offer_askable : (settings : Settings) (n : Situation) (p : ℕ) (o : Offer) 
 offer_askable settings n p o v is h =
     offer_cases settings n p o h
     (λ pending old. pending_askable n.history p o.deal v pending)
-    (λ idle what found same. subst (λ (x : Offer). is_askable (state n.history) p x.deal.what ≡ true) same (proposal_askable n.history settings p what v is found))
+    (λ idle what found same. subst (λ (x : Offer). is_askable (state n.history) p x.deal.what ≡ true) same (proposal_askable n.history settings p (listed_by (run_at n p)) what v is found))
 
 -- ---- the deal that is proposed next, where none is pending, may be made
 
-pub proposed_may : (h : List Change) (settings : Settings) (p : ℕ) (what : DealWhat) → IsValid h → (state h).settings ≡ Some settings → is_peer (state h) p ≡ true → TickFits (state h) p → (row (state h) p).pending ≡ None
-    → proposal (state h) p [] (propose_facts settings (state h)) ≡ Some what → MayTake (state h) (Proposed (record { peer = p; deal = (row (state h) p).mine + 1; what = what }))
-proposed_may h settings p what v is peer f idle next =
+pub proposed_may : (h : List Change) (settings : Settings) (p : ℕ) (probed : List Object) (what : DealWhat) → IsValid h → (state h).settings ≡ Some settings → is_peer (state h) p ≡ true → TickFits (state h) p → (row (state h) p).pending ≡ None
+    → proposal (state h) p probed (propose_facts settings (state h)) ≡ Some what → MayTake (state h) (Proposed (record { peer = p; deal = (row (state h) p).mine + 1; what = what }))
+proposed_may h settings p probed what v is peer f idle next =
     let s = state h in
     let number = (row s p).mine + 1 in
-    let may = proposable s p [] (propose_facts settings s) what (steady_state h v.lawful) (fit_state h v.lawful) (wide_state h v.lawful v.fit) (sorted_row h p) refl (sym (ap capacity is)) next in
+    let may = proposable s p probed (propose_facts settings s) what (steady_state h v.lawful) (fit_state h v.lawful) (wide_state h v.lawful v.fit) (sorted_row h p) refl (sym (ap capacity is)) next in
     let fits : is_u64 number ≡ true = lt-ltb number (2 ^ 64) (omega (arith, f.more)) in
     record {
       grammar = may.listed;
@@ -48,8 +50,8 @@ proposed_may h settings p what v is peer f idle next =
       answerable = refl;
     }
 
-pub proposed_valid : (h : List Change) (settings : Settings) (p : ℕ) (what : DealWhat) → IsValid h → (state h).settings ≡ Some settings → is_peer (state h) p ≡ true → TickFits (state h) p → (row (state h) p).pending ≡ None
-    → proposal (state h) p [] (propose_facts settings (state h)) ≡ Some what → IsValid (h ++ Proposed (record { peer = p; deal = (row (state h) p).mine + 1; what = what }) ∷ [])
-proposed_valid h settings p what v is peer f idle next =
-    let m = proposed_may h settings p what v is peer f idle next in
+pub proposed_valid : (h : List Change) (settings : Settings) (p : ℕ) (probed : List Object) (what : DealWhat) → IsValid h → (state h).settings ≡ Some settings → is_peer (state h) p ≡ true → TickFits (state h) p → (row (state h) p).pending ≡ None
+    → proposal (state h) p probed (propose_facts settings (state h)) ≡ Some what → IsValid (h ++ Proposed (record { peer = p; deal = (row (state h) p).mine + 1; what = what }) ∷ [])
+proposed_valid h settings p probed what v is peer f idle next =
+    let m = proposed_may h settings p probed what v is peer f idle next in
     valid_snoc h (Proposed (record { peer = p; deal = (row (state h) p).mine + 1; what = what })) v m.grammar m.may m.widths m.brings

@@ -1,10 +1,10 @@
 -- The laws of the machine.
-use Rattle.std.proofs.Common.{◌≡◌, ℕ, ◌≤◌, ◌+◌, ◌^◌, ◌||◌, Bool, true, false, if◌then◌else◌, slice_get, option_map, option_to_list, is_some, List, [], ◌++◌, length, Option, Some, None, Result, Ok, Err, refl, subst, arith, length-append}
-use Rattle.std.proofs.lemmas.Bool.{lt-ltb}
+use Rattle.std.proofs.Common.{◌&&◌, ◌==◌, ◌-◌, ◌∷◌, nat_le, ◌≡◌, ℕ, ◌≤◌, ◌+◌, ◌^◌, ◌||◌, Bool, true, false, if◌then◌else◌, slice_get, option_map, option_to_list, is_some, List, [], ◌++◌, length, Option, Some, None, Result, Ok, Err, refl, subst, arith, length-append}
+use Rattle.std.proofs.lemmas.Bool.{lt-ltb, eqb-true, and_parts}
 use Rattle.std.proofs.lemmas.List.{append-nil}
 use Rattle.psb_bytes.specs.Numbers.{AreBytes}
 use Rattle.psb_settings.specs.declared.settings.Settings.{Settings}
-use Rattle.psb_model.specs.State.{row, own_has}
+use Rattle.psb_model.specs.State.{State, row, own_has}
 use Rattle.psb_model.specs.History.{state}
 use Rattle.psb_model.specs.Needed.{last_brought, IsValid}
 use Rattle.psb_model.specs.declared.change.Change.{Change}
@@ -17,24 +17,34 @@ use Rattle.wire_codec.proofs.FrameLaws.{takes}
 use Rattle.psb_machine.specs.Letters.{Letter, keys_of}
 use Rattle.psb_machine.specs.Deals.{standing, clashes, meets_others, judged_at}
 use Rattle.psb_machine.specs.Messages.{Sender, Message, Deals, Replies, Gets, Asks, Tells, Probes, Proves, Declines, message_of}
+use Rattle.psb_bytes.specs.Objects.{name_eq}
+use Rattle.psb_bytes.specs.declared.ids.Object.{Object}
+use Rattle.probe.specs.Deadlines.{is_late}
+use Rattle.psb_machine.specs.Volatile.{PeerState, of_peer, later}
+use Rattle.psb_machine.specs.OwnProbes.{Run, listed_by, nonce_of, is_of, own_bytes, passed_by, wrong_by, silent_by, declined_by, are_places_of, objects_to_ask, probe_letter, ticks_between}
 use Rattle.psb_machine.specs.Gets.{has_chunk}
-use Rattle.psb_machine.specs.Probing.{proof_of}
+use Rattle.psb_machine.specs.Probing.{proof_of, chain_over}
 use Rattle.psb_machine.specs.Replies.{reply}
 use Rattle.psb_machine.specs.Settling.{settle}
-use Rattle.psb_machine.specs.Proposals.{Offer, frame_of, letter_of}
+use Rattle.psb_machine.specs.Proposals.{Offer, frame_of, letter_of, is_even}
 use Rattle.psb_machine.specs.Sampling.{open_question, question_to, questions, answers}
-use Rattle.psb_machine.specs.Machine.{Situation, Input, Datagram, Tick, Keep, Snap, Forget, Reaction, Rule, sends, then_by, quiet, grows, answers_with, kept_with, snapped_with, has_snapshot, settled, react, by_standing, on_message, by_message, on_read, on_datagram, here, sample_to, by_settled, choice_at, by_choice, offer_at, by_offer, rules, by_key, on_tick}
+use Rattle.psb_machine.specs.Machine.{Situation, Input, Datagram, Tick, Keep, Snap, Forget, Reaction, Rule, sends, then_by, quiet, grows, answers_with, kept_with, snapped_with, has_snapshot, settled, react, by_standing, on_message, by_message, on_read, on_datagram, here, sample_to, by_settled, choice_at, by_choice, offer_at, by_offer, rules, by_key, on_tick, run_at, by_value, by_proof, by_declined, by_late, begins_with, by_run, ends_with, passes}
 use Rattle.psb_machine.specs.declared.deals.Standing.{Standing}
 use Rattle.psb_machine.specs.declared.deals.Standing.TheVariants.{Fresh, Repeat, Stale, Gap}
+use Rattle.psb_model.specs.Grammar.{is_u64}
+use Rattle.psb_model.proofs.ByObject.{by_cases}
 use Rattle.psb_machine.specs.Laws.{Fits, KeepFits, SnapFits, TickFits, KeepsValid, AllTellLittle}
 use Rattle.psb_machine.proofs.Causes.{caused}
-use Rattle.psb_machine.proofs.Framed.{FrameFits, deal_message, reply_message}
+use Rattle.psb_machine.proofs.Framed.{FrameFits, deal_message, reply_message, proof_value, declined_places}
+use Rattle.psb_machine.proofs.Taken.{MayTake}
 use Rattle.psb_machine.proofs.Standings.{fresh_is_next}
 use Rattle.psb_machine.proofs.Peers.{keyed_is_peer}
 use Rattle.psb_machine.proofs.Settled.{reply_valid}
 use Rattle.psb_machine.proofs.Valid.{unchanged, judged_deal_valid, kept_valid, snap_valid, forgot_valid}
 use Rattle.psb_machine.proofs.Choosing.{choice_may}
 use Rattle.psb_machine.proofs.Ticking.{proposed_valid}
+use Rattle.psb_machine.proofs.Runs.{run_open, number_within, passed_may, wrong_may, silent_may, declined_may}
+use Rattle.psb_machine.proofs.Listing.{asked_may}
 
 pub frame_read_fits : (own : ℕ) (keys : List (ℕ × List ℕ)) (x : List ℕ) (i : Incoming) → AreBytes x → read_frame own keys x ≡ Ok i → FrameFits i.from i.number i.frame
 frame_read_fits own keys x i bytes read =
@@ -50,8 +60,15 @@ frame_read_fits own keys x i bytes read =
 bytes_of : (n : Situation) (x : Input) (bytes : List ℕ) → x ≡ Datagram bytes → Fits n x → AreBytes bytes
 bytes_of n x bytes came fit = subst (Fits n) came fit
 
+-- the number that an answer names is that of the probe, which it answers
+asked_fits : (seed : List ℕ) (number : ℕ) (nonce : List ℕ) (r : Run) → is_u64 number ≡ true → is_of seed number nonce r ≡ true → is_u64 r.asked ≡ true
+asked_fits seed number nonce r fit of = subst (λ m. is_u64 m ≡ true) (eqb-true number r.asked (and_parts (number == r.asked) (name_eq nonce (nonce_of seed r.asked)) of).0) fit
+
+take_valid : (h : List Change) (c : Change) → IsValid h → MayTake (state h) c → IsValid (h ++ c ∷ [])
+take_valid h c v m = valid_snoc h c v m.grammar m.may m.widths m.brings
+
 pub keeps_valid : KeepsValid
-keeps_valid n x v fit = caused (λ (o : Option Change). IsValid (n.history ++ option_to_list o)) n x (record {
+keeps_valid n x v o fit = caused (λ (o : Option Change). IsValid (n.history ++ option_to_list o)) n x (record {
   none = unchanged n.history v;
   deal = λ settings bytes i deal came present read is fresh.
       let bs = bytes_of n x bytes came fit in
@@ -68,7 +85,28 @@ keeps_valid n x v fit = caused (λ (o : Option Change). IsValid (n.history ++ op
       let m = choice_may settings n p candidates v present chosen in valid_snoc n.history _ v m.grammar m.may m.widths m.brings;
   propose = λ settings p key what came present keyed idle found.
       let f : TickFits (state n.history) p = subst (Fits n) came fit in
-      proposed_valid n.history settings p what v present (keyed_is_peer n.history settings p key present keyed) f idle found;
+      proposed_valid n.history settings p (listed_by (run_at n p)) what v present (keyed_is_peer n.history settings p key present keyed) f idle found;
+  late = λ settings p key r came present keyed run over.
+      let f : TickFits (state n.history) p = subst (Fits n) came fit in
+      take_valid n.history (silent_by p r) v (silent_may n p r v o (keyed_is_peer n.history settings p key present keyed) f.peer (number_within n.history p r v (omega (arith, f.room)) (run_open n p r run)) run);
+  asks = λ settings p key first rest came present keyed idle there.
+      let f : TickFits (state n.history) p = subst (Fits n) came fit in
+      take_valid n.history _ v (asked_may n.history settings p first rest v (keyed_is_peer n.history settings p key present keyed) f.peer there);
+  proof = λ settings bytes i nonce value own r came present read is run of known.
+      let bs = bytes_of n x bytes came fit in
+      let f = frame_read_fits settings.id (keys_of settings) bytes i bs read in
+      let t = takes settings.id (keys_of settings) bytes i bs read in
+      let peer = keyed_is_peer n.history settings i.from t.key present t.known in
+      let number = asked_fits settings.seed i.number nonce r f.number_fits of in
+      by_cases (name_eq own value)
+      (λ k. rw k (take_valid n.history (passed_by i.from r) v (passed_may n i.from r v o peer f.peer number run)))
+      (λ k. rw k (take_valid n.history (wrong_by i.from value r) v (wrong_may n i.from value r v o peer f.peer number (proof_value i.frame nonce value f.frame_is is) run)));
+  declined = λ settings bytes i nonce places r came present read is run of theirs.
+      let bs = bytes_of n x bytes came fit in
+      let f = frame_read_fits settings.id (keys_of settings) bytes i bs read in
+      let t = takes settings.id (keys_of settings) bytes i bs read in
+      let number = asked_fits settings.seed i.number nonce r f.number_fits of in
+      take_valid n.history (declined_by i.from places r) v (declined_may n i.from places r v o (keyed_is_peer n.history settings i.from t.key present t.known) f.peer number (declined_places i.frame nonce places f.frame_is is) theirs run);
   keep = λ name bytes came lacks same. let f : KeepFits name bytes = subst (Fits n) came fit in kept_valid n.history name bytes v f lacks;
   snap = λ note came. let f : SnapFits (state n.history) note = subst (Fits n) came fit in snap_valid n note v f;
   forget = λ number came has. forgot_valid n.history number v (subst (Fits n) came fit) has;
@@ -108,6 +146,20 @@ either_little : (n : Situation) (b : Bool) (r q : Reaction) → Little n r → L
 either_little n true r q hr hq = hr
 either_little n false r q hr hq = hq
 
+value_little : (n : Situation) (p : ℕ) (value : List ℕ) (r : Run) (o : Option (List ℕ)) → Little n (by_value p value r o)
+value_little n p value r None = quiet_little n
+value_little n p value r (Some own) = grows_little n (if name_eq own value then passed_by p r else wrong_by p value r)
+
+proof_little : (settings : Settings) (n : Situation) (from : Sender) (nonce value : List ℕ) (o : Option Run) → Little n (by_proof settings n.history from nonce value o)
+proof_little settings n from nonce value None = quiet_little n
+proof_little settings n from nonce value (Some r) =
+    either_little n (is_of settings.seed from.number nonce r) _ quiet (value_little n from.peer value r (chain_over (own_bytes settings.seed n.history) nonce r.objects)) (quiet_little n)
+
+declined_little : (settings : Settings) (n : Situation) (from : Sender) (nonce places : List ℕ) (o : Option Run) → Little n (by_declined settings from nonce places o)
+declined_little settings n from nonce places None = quiet_little n
+declined_little settings n from nonce places (Some r) =
+    either_little n (is_of settings.seed from.number nonce r && are_places_of r places) _ quiet (grows_little n (declined_by from.peer places r)) (quiet_little n)
+
 message_little : (settings : Settings) (n : Situation) (from : Sender) (m : Message) → Little n (on_message settings n from m)
 message_little settings n from (Deals deal) = deal_little (standing (row (state n.history) from.peer).last.number from.number) settings n from (judged_at settings n.history from.peer from.number deal)
 message_little settings n from (Replies reply) = settled_little n (settle (state n.history) from.peer from.number reply)
@@ -115,8 +167,8 @@ message_little settings n from (Gets name) = either_little n (has_chunk (state n
 message_little settings n from (Asks salt names) = answer_little n (Some (sample_to (state n.history) from salt names))
 message_little settings n from (Tells salt bits) = either_little n (answers (open_question (state n.history)) salt bits) _ quiet (record { most = omega arith; letters = λ is. refl; same = λ is. absurd (cc) }) (quiet_little n)
 message_little settings n from (Probes nonce objects) = answer_little n (option_map (letter_of from.peer from.number) (proof_of settings n.history from.peer nonce objects))
-message_little settings n from (Proves nonce value) = quiet_little n
-message_little settings n from (Declines nonce places) = quiet_little n
+message_little settings n from (Proves nonce value) = proof_little settings n from nonce value (run_at n from.peer)
+message_little settings n from (Declines nonce places) = declined_little settings n from nonce places (run_at n from.peer)
 
 by_message_little : (settings : Settings) (n : Situation) (from : Sender) (o : Option Message) → Little n (by_message settings n from o)
 by_message_little settings n from None = quiet_little n
@@ -150,13 +202,42 @@ choice_few : (o : Option (List Candidate)) (next : Rule) → length next.letters
 choice_few None next few = few
 choice_few (Some candidates) next few = omega arith
 
+late_few : (p clock : ℕ) (o : Option Run) (next : Rule) → length next.letters ≤ 2 → length (then_by (by_late p clock o) next).letters ≤ 2
+late_few p clock None next few = few
+late_few p clock (Some r) next few = by_time (is_late r.began clock)
+  where
+    by_time : (b : Bool) → length (then_by (if b then ends_with (silent_by p r) [] else passes) next).letters ≤ 2
+    by_time true = omega arith
+    by_time false = few
+
+-- a probe has one letter, behind which no rule is followed
+begins_few : (seed : List ℕ) (s : State) (p clock : ℕ) (os : List Object) (next : Rule) → length next.letters ≤ 1 → length (then_by (begins_with seed s p clock os) next).letters ≤ 1
+begins_few seed s p clock [] next few = few
+begins_few seed s p clock (o ∷ os) next few = omega arith
+
+probe_few : (seed : List ℕ) (s : State) (p : ℕ) (x : PeerState) (o : Option Run) (next : Rule) → length next.letters ≤ 1 → length (then_by (by_run seed s p x o) next).letters ≤ 1
+probe_few seed s p x None next few = by_time (nat_le (x.ended + ticks_between) (later x.clock))
+  where
+    by_time : (b : Bool) → length (then_by (if b then begins_with seed s p (later x.clock) (objects_to_ask (row s p)) else passes) next).letters ≤ 1
+    by_time true = begins_few seed s p (later x.clock) (objects_to_ask (row s p)) next few
+    by_time false = few
+probe_few seed s p x (Some r) next few = by_clock (is_even (later x.clock - r.began))
+  where
+    by_clock : (b : Bool) → length (if b then probe_letter seed p r ∷ [] else []) ≤ 1
+    by_clock true = omega arith
+    by_clock false = omega arith
+
 rules_few : (settings : Settings) (n : Situation) (p : ℕ) → length (rules settings n p).letters ≤ 2
 rules_few settings n p =
+    let x = of_peer n.volatile p in
     let offered = by_offer settings n.history p (offer_at settings n p) in
     let asked = sends (questions (state n.history) p) in
+    let probed = then_by (by_run settings.seed (state n.history) p x (run_at n p)) asked in
     let a = offer_few settings n.history p (offer_at settings n p) in
     let b = one_at_most (option_map (question_to p) (open_question (state n.history))) in
-    choice_few (choice_at settings n p) (then_by offered asked) (then_few offered asked 2 (omega (arith, a)) (omega (arith, a, b)))
+    let c = probe_few settings.seed (state n.history) p x (run_at n p) asked b in
+    late_few p (later x.clock) (run_at n p) (then_by (by_choice (choice_at settings n p)) (then_by offered probed))
+    (choice_few (choice_at settings n p) (then_by offered probed) (then_few offered probed 2 (omega (arith, a)) (omega (arith, a, c))))
 
 key_few : (settings : Settings) (n : Situation) (p : ℕ) (o : Option (List ℕ)) → length (by_key settings n p o).letters ≤ 2
 key_few settings n p None = omega arith

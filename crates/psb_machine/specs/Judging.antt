@@ -7,11 +7,11 @@ use Rattle.psb_settings.specs.declared.settings.Settings.{Settings}
 use Rattle.psb_model.specs.Grammar.{ascend, is_u8, is_u32, is_u64, is_digest}
 use Rattle.psb_model.specs.State.{State}
 use Rattle.psb_model.specs.declared.change.Change.{Change}
-use Rattle.wire_codec.specs.Fields.{is_claim}
+use Rattle.wire_codec.specs.Fields.{is_claim, are_places}
 use Rattle.wire_codec.specs.declared.limits.TheConstants.{MOST_SLOTS, MOST_OBJECTS}
 use Rattle.psb_machine.specs.Deals.{Deal, StoreFresh, StoreSwap, Cancel, PutBack, slots_of, is_new, reasons, takes, judge, facts_at}
 use Rattle.psb_machine.specs.Settling.{Reply, Accepts, Refuses}
-use Rattle.psb_machine.specs.Messages.{Sender, Message, Deals, Replies, Asks, Probes}
+use Rattle.psb_machine.specs.Messages.{Sender, Message, Deals, Replies, Asks, Probes, Proves, Declines}
 use Rattle.psb_machine.specs.Sampling.{most_asked}
 use Rattle.psb_machine.specs.declared.deals.Refusal.{Refusal}
 
@@ -70,6 +70,8 @@ MessageFits from (Deals deal) = DealFits from.peer from.number deal
 MessageFits from (Replies reply) = (is_u32 from.peer ≡ true) × (is_u64 from.number ≡ true) × ReplyFits reply
 MessageFits from (Asks salt names) = length names ≤ most_asked
 MessageFits from (Probes nonce objects) = length objects ≤ MOST_OBJECTS
+MessageFits from (Proves nonce value) = (is_u32 from.peer ≡ true) × (is_digest value ≡ true)
+MessageFits from (Declines nonce places) = (is_u32 from.peer ≡ true) × (are_places places ≡ true)
 MessageFits from _ = Unit {0}
 
 -- the chunk that it brings, if it brings one, is no longer than a chunk may be

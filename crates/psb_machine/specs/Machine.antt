@@ -1,15 +1,16 @@
 -- The machine: what a node makes of an input, by its history and by what a restart forgets.
 -- It is a function of the whole history; a node computes the same from the state that it keeps.
-use Rattle.std.specs.Prelude.{ℕ, ◌+◌, Bool, true, false, not, ◌||◌, ◌==◌, if◌then◌else◌, List, [], ◌∷◌, ◌++◌, length, slice_get, option_map, option_to_list, Option, Some, None, Result, Ok, Err}
+use Rattle.std.specs.Prelude.{ℕ, ◌+◌, ◌-◌, nat_le, Bool, true, false, not, ◌||◌, ◌&&◌, ◌==◌, if◌then◌else◌, List, [], ◌∷◌, ◌++◌, length, slice_get, option_map, option_to_list, Option, Some, None, Result, Ok, Err}
 use Rattle.std.specs.List.{list_any}
 use Rattle.psb_bytes.specs.declared.ids.Object.{Object}
+use Rattle.psb_bytes.specs.Objects.{name_eq}
 use Rattle.psb_settings.specs.declared.settings.Settings.{Settings}
 use Rattle.psb_model.specs.declared.snapshots.Snapshot.{Snapshot}
 use Rattle.psb_model.specs.State.{State, row, own_has, is_held, snaps_made}
 use Rattle.psb_model.specs.Needed.{last_brought}
 use Rattle.psb_model.specs.History.{state}
 use Rattle.psb_model.specs.declared.change.Change.{Change}
-use Rattle.psb_model.specs.declared.change.Change.TheVariants.{Kept, Snapped, Forgot, Proposed, Chose}
+use Rattle.psb_model.specs.declared.change.Change.TheVariants.{Kept, Snapped, Forgot, Proposed, Asked, Chose}
 use Rattle.psb_model.specs.declared.entries.Candidate.{Candidate}
 use Rattle.psb_model.specs.declared.deals.Deal.{Deal as OwnDeal}
 use Rattle.wire_codec.specs.Frames.{Incoming, read_frame, key_in}
@@ -20,7 +21,9 @@ use Rattle.psb_machine.specs.Volatile.{Volatile, empty, PeerState, of_peer, late
 use Rattle.psb_machine.specs.Deals.{standing, Deal, judged_at, meets_others}
 use Rattle.psb_machine.specs.Messages.{Sender, Message, Deals, Replies, Gets, Asks, Tells, Probes, Proves, Declines, message_of}
 use Rattle.psb_machine.specs.Gets.{has_chunk}
-use Rattle.psb_machine.specs.Probing.{proof_of}
+use Rattle.psb_machine.specs.Probing.{chain_over, proof_of}
+use Rattle.psb_machine.specs.OwnProbes.{Run, run_of, listed_by, is_of, own_bytes, passed_by, wrong_by, silent_by, declined_by, are_places_of, objects_to_ask, objects_drawn, probe_letter, ticks_between}
+use Rattle.probe.specs.Deadlines.{is_late}
 use Rattle.psb_machine.specs.Replies.{reply}
 use Rattle.psb_machine.specs.Settling.{Reply, settle}
 use Rattle.psb_machine.specs.Proposals.{Offer, proposed_at, letter_of, deal_letters, is_even}
@@ -131,7 +134,29 @@ on_told n from salt bits = if answers (open_question (state n.history)) salt bit
 abbrev pub on_probe : Settings → Situation → Sender → List ℕ → List Object → Reaction
 on_probe settings n from nonce objects = answers_with (option_map (letter_of from.peer from.number) (proof_of settings n.history from.peer nonce objects))
 
--- So far nothing comes of a proof, and of what is declined: no node asks for one.
+-- What a peer answers to the probe of it that runs. Any other answer comes too late, or is to no question of the node's.
+abbrev pub by_value : ℕ → List ℕ → Run → Option (List ℕ) → Reaction
+by_value p value r None = quiet
+by_value p value r (Some own) = grows (if name_eq own value then passed_by p r else wrong_by p value r)
+
+abbrev pub by_proof : Settings → List Change → Sender → List ℕ → List ℕ → Option Run → Reaction
+by_proof settings h from nonce value None = quiet
+by_proof settings h from nonce value (Some r) =
+    if is_of settings.seed from.number nonce r then by_value from.peer value r (chain_over (own_bytes settings.seed h) nonce r.objects) else quiet
+
+abbrev pub run_at : Situation → ℕ → Option Run
+run_at n p = run_of (of_peer n.volatile p) (row (state n.history) p)
+
+abbrev pub on_proof : Settings → Situation → Sender → List ℕ → List ℕ → Reaction
+on_proof settings n from nonce value = by_proof settings n.history from nonce value (run_at n from.peer)
+
+abbrev pub by_declined : Settings → Sender → List ℕ → List ℕ → Option Run → Reaction
+by_declined settings from nonce places None = quiet
+by_declined settings from nonce places (Some r) = if is_of settings.seed from.number nonce r && are_places_of r places then grows (declined_by from.peer places r) else quiet
+
+abbrev pub on_declined : Settings → Situation → Sender → List ℕ → List ℕ → Reaction
+on_declined settings n from nonce places = by_declined settings from nonce places (run_at n from.peer)
+
 abbrev pub on_message : Settings → Situation → Sender → Message → Reaction
 on_message settings n from (Deals deal) = on_deal settings n from deal
 on_message settings n from (Replies reply) = on_reply n from reply
@@ -139,8 +164,8 @@ on_message settings n from (Gets name) = on_get n from name
 on_message settings n from (Asks salt names) = on_ask n from salt names
 on_message settings n from (Tells salt bits) = on_told n from salt bits
 on_message settings n from (Probes nonce objects) = on_probe settings n from nonce objects
-on_message settings n from (Proves nonce value) = quiet
-on_message settings n from (Declines nonce places) = quiet
+on_message settings n from (Proves nonce value) = on_proof settings n from nonce value
+on_message settings n from (Declines nonce places) = on_declined settings n from nonce places
 
 abbrev pub by_message : Settings → Situation → Sender → Option Message → Reaction
 by_message settings n from None = quiet
@@ -226,18 +251,14 @@ abbrev pub by_choice : Option (List Candidate) → Rule
 by_choice None = passes
 by_choice (Some candidates) = ends_with (choice_of candidates) []
 
--- the objects that a probe of the peer lists which is under way: so far none is
-abbrev pub listed_by : PeerState → List Object
-listed_by x = []
-
 -- The deal that a tick offers: one without a reply at each second tick of its peer; where none is pending and none
 -- is waited for, the one that is proposed next.
-abbrev pub offer_by : Settings → State → ℕ → PeerState → Option OwnDeal → Option Offer
-offer_by settings s p x None = if x.wait == 0 then proposed_at settings s p (listed_by x) else None
-offer_by settings s p x (Some d) = if is_even (later x.clock) then Some (record { deal = d; is_new = false }) else None
+abbrev pub offer_by : Settings → State → ℕ → PeerState → List Object → Option OwnDeal → Option Offer
+offer_by settings s p x listed None = if x.wait == 0 then proposed_at settings s p listed else None
+offer_by settings s p x listed (Some d) = if is_even (later x.clock) then Some (record { deal = d; is_new = false }) else None
 
 abbrev pub offer_at : Settings → Situation → ℕ → Option Offer
-offer_at settings n p = offer_by settings (state n.history) p (of_peer n.volatile p) (row (state n.history) p).pending
+offer_at settings n p = offer_by settings (state n.history) p (of_peer n.volatile p) (listed_by (run_at n p)) (row (state n.history) p).pending
 
 -- one that was not pending yet is proposed by a change, behind which no rule is followed
 abbrev pub grown_by : ℕ → Offer → Option Change
@@ -247,10 +268,34 @@ abbrev pub by_offer : Settings → List Change → ℕ → Option Offer → Rule
 by_offer settings h p None = passes
 by_offer settings h p (Some o) = record { grown = grown_by p o; letters = deal_letters settings h p o.deal; goes_on = not o.is_new }
 
--- The rules in their order: a choice of buddies; a deal; and, until buddies are chosen, which wanted names the peer
--- holds.
+-- A probe that is late has failed.
+abbrev pub by_late : ℕ → ℕ → Option Run → Rule
+by_late p clock None = passes
+by_late p clock (Some r) = if is_late r.began clock then ends_with (silent_by p r) [] else passes
+
+-- One that runs is sent again at each second tick, and nothing more is done. Where none runs the next one begins, some
+-- ticks after the last, if there is anything to ask for.
+abbrev pub again_at : List ℕ → ℕ → ℕ → Run → List Letter
+again_at seed p clock r = if is_even (clock - r.began) then probe_letter seed p r ∷ [] else []
+
+abbrev pub begins_with : List ℕ → State → ℕ → ℕ → List Object → Rule
+begins_with seed s p clock [] = passes
+begins_with seed s p clock (o ∷ os) =
+    ends_with (Asked (record { peer = p; objects = objects_drawn seed s (o ∷ os) })) (probe_letter seed p (record { asked = s.changes; objects = objects_drawn seed s (o ∷ os); began = clock }) ∷ [])
+
+abbrev pub by_run : List ℕ → State → ℕ → PeerState → Option Run → Rule
+by_run seed s p x None = if nat_le (x.ended + ticks_between) (later x.clock) then begins_with seed s p (later x.clock) (objects_to_ask (row s p)) else passes
+by_run seed s p x (Some r) = record { grown = None; letters = again_at seed p (later x.clock) r; goes_on = false }
+
+-- The rules in their order: the end of a probe that is late; a choice of buddies; a deal; a probe; and, until buddies are
+-- chosen, which wanted names the peer holds.
 abbrev pub rules : Settings → Situation → ℕ → Rule
-rules settings n p = then_by (by_choice (choice_at settings n p)) (then_by (by_offer settings n.history p (offer_at settings n p)) (sends (questions (state n.history) p)))
+rules settings n p =
+    then_by (by_late p (later (of_peer n.volatile p).clock) (run_at n p))
+    (then_by (by_choice (choice_at settings n p))
+    (then_by (by_offer settings n.history p (offer_at settings n p))
+    (then_by (by_run settings.seed (state n.history) p (of_peer n.volatile p) (run_at n p))
+    (sends (questions (state n.history) p)))))
 
 abbrev pub ruled : ℕ → Rule → Reaction
 ruled p r = record { grown = r.grown; letters = r.letters; note = Ticked p; dropped = None }

@@ -1,20 +1,28 @@
 -- What a restart forgets: one record for each peer, and what is noted there.
-use Rattle.std.specs.Prelude.{ℕ, ◌+◌, ◌-◌, ◌^◌, nat_lt, ◌==◌, if◌then◌else◌, min, List, [], ◌∷◌, map, Option, Some, None}
+use Rattle.std.specs.Prelude.{ℕ, ◌+◌, ◌-◌, ◌^◌, nat_lt, Bool, false, not, ◌||◌, ◌&&◌, ◌==◌, if◌then◌else◌, min, List, [], ◌∷◌, map, is_some, Option, Some, None}
+use Rattle.std.specs.List.{list_all}
 use Rattle.psb_settings.specs.declared.settings.Settings.{Settings}
-use Rattle.psb_model.specs.State.{State}
+use Rattle.psb_bytes.specs.declared.ids.Object.{Object}
+use Rattle.psb_model.specs.Words.{has}
+use Rattle.psb_model.specs.State.{State, Row, row, out_key, debt_key}
+use Rattle.psb_model.specs.Conditions.{peer_of}
+use Rattle.psb_model.specs.Effects.{after}
 use Rattle.psb_model.specs.declared.change.Change.{Change}
-use Rattle.psb_model.specs.declared.change.Change.TheVariants.{Snapped, Forgot, Turned}
+use Rattle.psb_model.specs.declared.change.Change.TheVariants.{Snapped, Forgot, Turned, Asked}
 
--- Of a peer: the ticks that were absorbed, those that are to pass before a deal is proposed to it, and the bits
--- of what it answered last to the question that is asked before buddies are chosen, if that is kept.
+-- Of a peer: the ticks that were absorbed, those that are to pass before a deal is proposed to it, the bits of what it
+-- answered last to the question that is asked before buddies are chosen, if that is kept; the tick at which the probe
+-- that runs began, if one runs, and the one at which the last probe ended.
 pub record PeerState : Type 0 where
   pub clock : ℕ
   pub wait : ℕ
   pub sample : Option ℕ
+  pub began : Option ℕ
+  pub ended : ℕ
 
 -- before anything came of it
 abbrev pub unheard : PeerState
-unheard = record { clock = 0; wait = 0; sample = None }
+unheard = record { clock = 0; wait = 0; sample = None; began = None; ended = 0 }
 
 -- a clock of 2^62 stays as it is
 abbrev pub later : ℕ → ℕ
@@ -22,19 +30,37 @@ later c = min (c + 1) (2 ^ 62)
 
 -- At a tick its clock goes on, and there is one less to wait for.
 abbrev pub after_tick : PeerState → PeerState
-after_tick x = record { clock = later x.clock; wait = x.wait - 1; sample = x.sample }
+after_tick x = record x { clock = later x.clock; wait = x.wait - 1 }
 
 -- what it answered is kept, in the place of what it answered before
 abbrev pub sampled : ℕ → PeerState → PeerState
-sampled bits x = record { clock = x.clock; wait = x.wait; sample = Some bits }
+sampled bits x = record x { sample = Some bits }
 
 -- nothing that it answered is kept
 abbrev pub unsampled : PeerState → PeerState
-unsampled x = record { clock = x.clock; wait = x.wait; sample = None }
+unsampled x = record x { sample = None }
 
 -- so many of its ticks are waited for
 abbrev pub waiting : ℕ → PeerState → PeerState
-waiting ticks x = record { clock = x.clock; wait = ticks; sample = x.sample }
+waiting ticks x = record x { wait = ticks }
+
+-- a probe begins now, or the one that runs ends
+abbrev pub asked_now : PeerState → PeerState
+asked_now x = record x { began = Some x.clock }
+
+abbrev pub ended_now : PeerState → PeerState
+ended_now x = record x { began = None; ended = x.clock }
+
+-- Each object that was asked for, if that has no outcome yet, is still there or in debt.
+abbrev pub still_there : Row → Object → Bool
+still_there r o = has out_key r.outs o || has debt_key r.debts o
+
+abbrev pub still_asked : Row → Bool
+still_asked r = elim r.asked [ None ↦ false | Some a ↦ list_all (still_there r) a.1 ]
+
+-- A probe that runs goes on while it is so of the peer's row.
+abbrev pub probe_goes_on : Bool → PeerState → PeerState
+probe_goes_on still x = if not still && is_some x.began then ended_now x else x
 
 -- WAITING: after a refusal the node makes no proposal at the next ticks of the peer. The node with the
 -- lesser id waits for 2 of them and the other for 4, so that two that refused each other don't go on in step.
@@ -82,13 +108,23 @@ abbrev pub turned_by : Option Settings → ℕ → Volatile → Volatile
 turned_by None p v = v
 turned_by (Some settings) p v = at_peer p (waiting (ticks_to_wait settings.id p)) v
 
--- What a change does to it, whatever input made the change; the state is the one before it. After a snapshot, or
--- without one, other names are wanted, and what was answered tells nothing of them.
+-- What a change notes beside what it does to a probe; the state is the one before it. After a snapshot, or without one,
+-- other names are wanted, and what was answered tells nothing of them.
+abbrev pub marked_by : State → Change → Volatile → Volatile
+marked_by s (Snapped x) v = at_each unsampled v
+marked_by s (Forgot x) v = at_each unsampled v
+marked_by s (Turned x) v = turned_by s.settings x.peer v
+marked_by s (Asked x) v = at_peer x.peer asked_now v
+marked_by s _ v = v
+
+-- Of the peer of a change the probe that runs ends with its outcome, and where what it asks for is there no longer.
+abbrev pub probed_by : State → Option ℕ → Volatile → Volatile
+probed_by after None v = v
+probed_by after (Some p) v = at_peer p (probe_goes_on (still_asked (row after p))) v
+
+-- What a change does to it, whatever input made the change.
 abbrev pub by_change : State → Change → Volatile → Volatile
-by_change s (Snapped x) v = at_each unsampled v
-by_change s (Forgot x) v = at_each unsampled v
-by_change s (Turned x) v = turned_by s.settings x.peer v
-by_change s _ v = v
+by_change s c v = probed_by (after s c) (peer_of c) (marked_by s c v)
 
 abbrev pub by_changes : State → Option Change → Volatile → Volatile
 by_changes s None v = v

@@ -12,7 +12,7 @@ pub use answering::{is_answer_to, sample_of};
 pub use candidates::{add_candidate, is_ready};
 pub use choosing::choose;
 pub use psb_machine::Question;
-pub use questions::{has_names, keeps_question, question_of};
+pub use questions::{has_names, keeps_question, question_of, salt_of};
 
 #[cfg(test)]
 mod tests;

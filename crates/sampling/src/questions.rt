@@ -15,9 +15,10 @@ use std::alloc::Global;
 /// No frame asks for more names.
 const MOST_ASKED: u32 = 32;
 
-/// The salt that a change of the node gives: the first 32 bytes of the keystream of its words.
+/// The salt that a change of the node gives, with which a question goes out, and the nonce of a probe: the first 32 bytes
+/// of the keystream of its words.
 #[tactic(auto, unfolding(psb_digest::specs::Words::words_key))]
-fn salt_of(seed: &Digest, change: u64) -> Digest
+pub fn salt_of(seed: &Digest, change: u64) -> Digest
     ensures { result ≡ salt_of seed.now change }
 {
     let mut salt = Digest([0; 32]);

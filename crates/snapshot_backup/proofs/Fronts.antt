@@ -27,7 +27,8 @@ use Rattle.snapshot_backup.specs.Kept.{KeepsAll, Owns}
 use Rattle.snapshot_backup.specs.Runs.{KeepsPieces, KeepsFront, KeepsSo}
 use Rattle.snapshot_backup.specs.declared.fault.BackupFault.{BackupFault}
 use Rattle.snapshot_backup.specs.declared.fault.BackupFault.TheVariants as backup_fault
-use Rattle.snapshot_backup.proofs.Keeping.{keeps_none, keeps_then, owns_none, owns_then, keeps_piece, owns_piece, held_brought}
+use Rattle.node_history.proofs.HeldBodies.{held_brought}
+use Rattle.snapshot_backup.proofs.Keeping.{keeps_none, keeps_then, owns_none, owns_then, keeps_piece, owns_piece}
 
 -- where a course of pieces leads
 pub led_by : (n : Situation) (ps qs : List (List ℕ)) → after_all n (keep_steps (ps ++ qs)) ≡ after_all (after_all n (keep_steps ps)) (keep_steps qs)

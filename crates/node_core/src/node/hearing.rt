@@ -111,8 +111,7 @@ impl<L: Log> Node<L> {
         }
     }
 
-    /// What the machine makes of a message of a peer. So far nothing comes of a proof, and of what is declined: the
-    /// node asks for none.
+    /// What the machine makes of a message of a peer.
     fn on_message<D: Disk>(
         &mut self,
         disk: &mut D,
@@ -142,7 +141,8 @@ impl<L: Log> Node<L> {
             Message::Ask { salt, names } => self.on_ask(sender, &salt, &names),
             Message::Sample { salt, bits } => self.on_told(sender, &salt, bits),
             Message::Probe { nonce, objects } => self.on_probe(disk, sender, &nonce, &objects),
-            Message::Proof { .. } | Message::Declined { .. } => Ok(quiet(self.alloc, None)),
+            Message::Proof { nonce, value } => self.on_proof(disk, sender, &nonce, &value),
+            Message::Declined { nonce, places } => self.on_declined(sender, &nonce, &places),
         }
     }
 

@@ -19,9 +19,10 @@ ghost use Rattle.psb_machine.specs.Machine.{Situation, Tick, grown_by, react};
 use super::Node;
 use crate::Fault;
 use crate::offering::{Offer, offer_at, proposed};
-use crate::reaction::{Reaction, made, no_letter, one_letter, quiet, ticked, with_letter};
+use crate::reaction::{Reaction, made, no_letter, one_letter, quiet, ticked, with_asking};
 use node_journal::Log;
 use node_letters::{Outbox, cancel_of, letter_to, put_back_of, store_of};
+use own_probes::Run;
 use peer_states::{PeerState, state_of};
 use psb_bytes::{Digest, Memory, Object, PeerId};
 use psb_model::{Deal, DealWhat};
@@ -31,7 +32,7 @@ use wire_codec::{Frame, MOST_BYTES};
 impl<L: Log> Node<L> {
     ghost use Rattle.node_letters.specs.Letters.{letters_of};
     ghost use Rattle.peer_states.specs.PeerStates.{state_of};
-    ghost use Rattle.node_core.specs.Ticking.{offer_in, IsBare, Follows, FollowsSo, OffersDeal, OffersDealSo};
+    ghost use Rattle.node_core.specs.Ticking.{offer_in, IsBare, IsRunAt, Follows, FollowsSo, OffersDeal, OffersDealSo};
     ghost use Rattle.node_core.specs.Stored.{Knows, Stored, IsCounted};
     ghost use Rattle.node_core.specs.Unread.{IsUnread};
     ghost use Rattle.node_core.specs.Reacting.{Reacts, ReactsSo, MayCome, IsSame};
@@ -59,8 +60,8 @@ impl<L: Log> Node<L> {
         }
     }
 
-    /// What the rules of a tick come to, in their order: a choice of buddies, or a deal that is offered, and where
-    /// no change is made the question that is asked before the choice. Of one that is no peer nothing comes.
+    /// What the rules of a tick come to, in their order: the end of a probe that is late, a choice of buddies, or a deal
+    /// that is offered; and where no change is made, what is asked. Of one that is no peer nothing comes.
     fn follow_rules<D: Disk>(&mut self, disk: &mut D, peer: PeerId) -> Result<Reaction, Fault>
         requires whole { L.is_broken self.old.log ≡ false }
         requires known { (n : Situation) × Knows self.old n }
@@ -80,19 +81,23 @@ impl<L: Log> Node<L> {
         let Some(at) = state_of(&self.states, peer) else {
             return Ok(quiet(self.alloc, None));
         };
+        let run = self.run_at(peer, &at)?;
+        if let Some(change) = self.late_at(peer, &at, &run)? {
+            return Ok(made(Some(change), no_letter(self.alloc)));
+        }
         self.work_out_question()?;
         if let Some(change) = self.choice_at(peer, &at)? {
             return Ok(made(Some(change), no_letter(self.alloc)));
         }
-        let reaction = match self.deal_at(disk, peer, &at) {
+        let reaction = match self.deal_at(disk, peer, &at, &run) {
             Ok(reaction) => reaction,
             Err(fault) => return Err(fault),
         };
         if reaction.change.is_some() {
             return Ok(reaction);
         }
-        let question = self.question_to(peer)?;
-        Ok(with_letter(reaction, question)?)
+        let asking = self.ask_at(peer, &at, run)?;
+        Ok(with_asking(reaction, asking)?)
     }
 
     /// The deal that a tick of a peer offers, or nothing.
@@ -101,12 +106,14 @@ impl<L: Log> Node<L> {
         disk: &mut D,
         peer: PeerId,
         at: &PeerState,
+        run: &Option<Run>,
     ) -> Result<Reaction, Fault>
         requires whole { L.is_broken self.old.log ≡ false }
         requires known { (n : Situation) × Knows self.old n }
         requires counted { IsCounted L.size L.keeps_body self.old }
         requires few { self.old.ledger.state.changes < 2 ^ 62 }
         requires kept { state_of self.old.states.items peer ≡ Some at.now }
+        requires run { IsRunAt run.now self.old peer }
         ensures exact { IfOk result (λ r. Tells_bytes (D.view disk.new) → (n : Situation) → Knows self.old n → Stored L.holds self.old n.history (D.view disk.old) → OffersDeal r self.old n peer) }
         ensures unread { IfOk result (λ r. (n : Situation) → Knows self.old n → IsBare n peer → OffersDeal r self.old n peer) }
         ensures so { IfOk result (λ r. (n : Situation) → Knows self.old n → OffersDealSo r n peer) }
@@ -118,7 +125,7 @@ impl<L: Log> Node<L> {
         ensures reads { (D.view disk.new).write_faults ≡ (D.view disk.old).write_faults }
         ensures only { OnErr result ((result ≡ Err Fault.DiskFault) ⊎ (result ≡ Err Fault.Memory)) }
     {
-        match offer_at(self.alloc, &mut self.ledger, peer, at)? {
+        match offer_at(self.alloc, &mut self.ledger, peer, at, run)? {
             None => Ok(quiet(self.alloc, None)),
             Some(offer) => self.offer(disk, peer, offer),
         }

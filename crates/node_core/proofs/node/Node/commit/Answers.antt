@@ -1,9 +1,9 @@
-use Rattle.std.proofs.Common.{◌≡◌, inl, inr, ◌≤◌, ℕ, ◌+◌, length, true, refl, sym, ◌∙◌, ap, subst, arith, rules}
+use Rattle.std.proofs.Common.{◌≡◌, Option, inl, inr, ◌≤◌, ℕ, ◌+◌, length, true, refl, sym, ◌∙◌, ap, subst, arith, rules}
 use Rattle.std.proofs.lemmas.Bool.{false≢true}
 use Rattle.psb_settings.specs.declared.settings.PeerRow.{PeerRow}
 use Rattle.psb_model.specs.State.{State}
 use Rattle.psb_ledger.specs.View.{LedgerView}
-use Rattle.psb_model.specs.Conditions.{allowed}
+use Rattle.psb_model.specs.Conditions.{peer_of as change_of, allowed}
 use Rattle.psb_model.proofs.Prefixes.{changes_counted, state_snoc}
 use Rattle.slot_places.specs.Moves.{IsMoved}
 use Rattle.node_history.specs.Names.{Enters, Enter}
@@ -13,7 +13,7 @@ use Rattle.psb_station.proofs.Spans.{shows_wider}
 use Rattle.psb_model.specs.Effects.{after}
 use Rattle.psb_model.specs.Heads.{head_of}
 use Rattle.psb_machine.specs.Volatile.{Note}
-use Rattle.peer_states.specs.PeerStates.{states_noted, states_changed}
+use Rattle.peer_states.specs.PeerStates.{states_noted, states_changed, states_probed}
 use Rattle.node_core.proofs.Committing.{knows_still, counted_still, step_knows, step_stored, step_leaves, stored_room}
 use Rattle.node_history.proofs.Presence.{on_err}
 use Rattle.node_core.proofs.LogFaults.{log_failed}
@@ -63,7 +63,15 @@ returns-clause-step g c = λ n m k step note.
     let slots = c.enter.ensures.slots h c.args.change (subst (λ (s : State). allowed s c.args.change ≡ true) k.ledger c.requires.may.may) (subst (λ (s : State). IsMoved s c.args.change c.in_ok-entering.entering.slots) k.ledger c.in_ok-entering.ensures.moved)
     (ap (λ (v : LedgerView). v.state) c.ledger-left.ensures ∙ grown ∙ ap (λ (s : State). after s c.args.change) k.ledger ∙ sym (state_snoc h c.args.change)) here (λ p i direct. c.ready.ensures.slots p i ∙ k.slots p i direct) in
     step_knows c.args.self.now _ n m c.args.change c.ready.new.names c.in_ok-number.number c.requires.may k step grown (c.ready.ensures.names) entered
-    (c.requires.counted.changes ∙ sym c.ready.ensures.size ∙ sym c.in_ok-number.ensures.number) (record { peers = refl; seed = c.issue_to.ensures.seed; issued = c.issue_to.ensures.stay }) issued slots (c.note_change.ensures ∙ ap (λ (r : PeerRow). states_changed r.id c.args.change c.take_note.new.states.items) c.own.ensures ∙ ap (λ l. states_changed c.args.self.now.peers.own.id c.args.change l) (c.take_note.ensures ∙ ap (λ (q : Note). states_noted q c.args.self.now.states.items) note)) c.note_question.ensures
+    (c.requires.counted.changes ∙ sym c.ready.ensures.size ∙ sym c.in_ok-number.ensures.number) (record { peers = refl; seed = c.issue_to.ensures.seed; issued = c.issue_to.ensures.stay }) issued slots
+    (c.note_probe.ensures
+    ∙ ap (λ (v : LedgerView). states_probed v.state c.peer_of-peer.result c.note_change.new.states.items) c.ledger-left.ensures
+    ∙ ap (λ (t : State). states_probed t c.peer_of-peer.result c.note_change.new.states.items) grown
+    ∙ ap (λ (o : Option ℕ). states_probed (after c.args.self.now.ledger.state c.args.change) o c.note_change.new.states.items) c.peer_of-peer.ensures
+    ∙ ap (λ l. states_probed (after c.args.self.now.ledger.state c.args.change) (change_of c.args.change) l) (
+    c.note_change.ensures
+    ∙ ap (λ (r : PeerRow). states_changed r.id c.args.change c.take_note.new.states.items) c.own.ensures
+    ∙ ap (λ l. states_changed c.args.self.now.peers.own.id c.args.change l) (c.take_note.ensures ∙ ap (λ (q : Note). states_noted q c.args.self.now.states.items) note))) c.note_question.ensures
 
 pub returns-clause-counted : goal.returns-clause-counted
 returns-clause-counted g c =

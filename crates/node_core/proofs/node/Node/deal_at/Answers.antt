@@ -16,26 +16,26 @@ offer-requires-clause-askable g c =
     let n = c.requires.known.0 in
     let k = c.requires.known.1 in
     let o = offer_in c.in-Some.offer in
-    let offered = offered_now node n c.args.peer c.args.at.now c.in_ok-offer_at.field-0 k c.requires.kept c.in_ok-offer_at.ensures.offers in
+    let offered = offered_now node n c.args.peer c.args.at.now c.args.run.now c.in_ok-offer_at.field-0 k c.requires.kept c.requires.run c.in_ok-offer_at.ensures.offers in
     let q = offered_here node n c.args.peer c.args.at.now o k c.requires.kept (λ settings present. sym (ap (option_map offer_in) c.in-Some.is) ∙ offered settings present) in
     subst (λ l. is_askable l.state c.args.peer o.deal.what ≡ true) (sym c.in_ok-offer_at.ensures.same) (offered_askable node n c.args.peer o k q)
 
 pub returns-in-None-clause-exact : goal.returns-in-None-clause-exact
 returns-in-None-clause-exact g c = λ tells n k s.
     none_offered c.quiet.result c.args.self.now n c.args.peer
-    (λ settings present. sym (ap (option_map offer_in) c.in-None.is) ∙ offered_now c.args.self.now n c.args.peer c.args.at.now c.in_ok-offer_at.field-0 k c.requires.kept c.in_ok-offer_at.ensures.offers settings present)
+    (λ settings present. sym (ap (option_map offer_in) c.in-None.is) ∙ offered_now c.args.self.now n c.args.peer c.args.at.now c.args.run.now c.in_ok-offer_at.field-0 k c.requires.kept c.requires.run c.in_ok-offer_at.ensures.offers settings present)
     c.quiet.ensures.change c.quiet.ensures.dropped c.quiet.ensures.out
 
 pub returns-in-None-clause-unread : goal.returns-in-None-clause-unread
 returns-in-None-clause-unread g c = λ n k bare.
     none_offered c.quiet.result c.args.self.now n c.args.peer
-    (λ settings present. sym (ap (option_map offer_in) c.in-None.is) ∙ offered_now c.args.self.now n c.args.peer c.args.at.now c.in_ok-offer_at.field-0 k c.requires.kept c.in_ok-offer_at.ensures.offers settings present)
+    (λ settings present. sym (ap (option_map offer_in) c.in-None.is) ∙ offered_now c.args.self.now n c.args.peer c.args.at.now c.args.run.now c.in_ok-offer_at.field-0 k c.requires.kept c.requires.run c.in_ok-offer_at.ensures.offers settings present)
     c.quiet.ensures.change c.quiet.ensures.dropped c.quiet.ensures.out
 
 pub returns-in-None-clause-so : goal.returns-in-None-clause-so
 returns-in-None-clause-so g c = λ n k.
     none_offered_so c.quiet.result n c.args.peer
-    (λ settings present. sym (ap (option_map offer_in) c.in-None.is) ∙ offered_now c.args.self.now n c.args.peer c.args.at.now c.in_ok-offer_at.field-0 k c.requires.kept c.in_ok-offer_at.ensures.offers settings present)
+    (λ settings present. sym (ap (option_map offer_in) c.in-None.is) ∙ offered_now c.args.self.now n c.args.peer c.args.at.now c.args.run.now c.in_ok-offer_at.field-0 k c.requires.kept c.requires.run c.in_ok-offer_at.ensures.offers settings present)
     c.quiet.ensures.change c.quiet.ensures.dropped
 
 pub returns-in-Some-clause-exact : goal.returns-in-Some-clause-exact
@@ -44,7 +44,7 @@ returns-in-Some-clause-exact g c =
     let o = offer_in c.in-Some.offer in
     let same = c.in_ok-offer_at.ensures.same in
     ok_map3 c.offer.result _ _ _ _ (λ r letters change plain tells n k s.
-    let offered = offered_now node n c.args.peer c.args.at.now c.in_ok-offer_at.field-0 k c.requires.kept c.in_ok-offer_at.ensures.offers in
+    let offered = offered_now node n c.args.peer c.args.at.now c.args.run.now c.in_ok-offer_at.field-0 k c.requires.kept c.requires.run c.in_ok-offer_at.ensures.offers in
     deal_offered r node n c.args.peer o (λ settings present. sym (ap (option_map offer_in) c.in-Some.is) ∙ offered settings present) change plain
     (λ settings key present here. letters n settings key (subst (λ l. Knows (record node { ledger = l }) n) (sym same) k) present here
     (inl (tells, subst (λ l. Stored g.L.Log.holds (record node { ledger = l }) n.history (g.D.Disk.view c.args.disk.now)) (sym same) s))))
@@ -56,7 +56,7 @@ returns-in-Some-clause-unread g c =
     let o = offer_in c.in-Some.offer in
     let same = c.in_ok-offer_at.ensures.same in
     ok_map3 c.offer.result _ _ _ _ (λ r letters change plain n k bare.
-    let offered = offered_now node n c.args.peer c.args.at.now c.in_ok-offer_at.field-0 k c.requires.kept c.in_ok-offer_at.ensures.offers in
+    let offered = offered_now node n c.args.peer c.args.at.now c.args.run.now c.in_ok-offer_at.field-0 k c.requires.kept c.requires.run c.in_ok-offer_at.ensures.offers in
     let q = offered_here node n c.args.peer c.args.at.now o k c.requires.kept (λ settings present. sym (ap (option_map offer_in) c.in-Some.is) ∙ offered settings present) in
     deal_offered r node n c.args.peer o (λ settings present. sym (ap (option_map offer_in) c.in-Some.is) ∙ offered settings present) change plain
     (λ settings key present keyed. letters n settings key (subst (λ l. Knows (record node { ledger = l }) n) (sym same) k) present keyed (inr (offered_bare node n c.args.peer o q bare))))
@@ -66,7 +66,7 @@ pub returns-in-Some-clause-so : goal.returns-in-Some-clause-so
 returns-in-Some-clause-so g c =
     let o = offer_in c.in-Some.offer in
     ok_map2 c.offer.result _ _ _ (λ r change plain n k.
-    let offered = offered_now c.args.self.now n c.args.peer c.args.at.now c.in_ok-offer_at.field-0 k c.requires.kept c.in_ok-offer_at.ensures.offers in
+    let offered = offered_now c.args.self.now n c.args.peer c.args.at.now c.args.run.now c.in_ok-offer_at.field-0 k c.requires.kept c.requires.run c.in_ok-offer_at.ensures.offers in
     deal_offered_so r n c.args.peer o (λ settings present. sym (ap (option_map offer_in) c.in-Some.is) ∙ offered settings present) change plain)
     c.offer.ensures.change c.offer.ensures.plain
 
@@ -76,7 +76,7 @@ returns-in-Some-clause-may g c =
     let o = offer_in c.in-Some.offer in
     let small : c.args.peer < 2 ^ 32 = search rules in
     ok_map c.offer.result _ _ (λ r change. offer_may_come r node c.args.peer o small c.requires.few c.requires.known
-    (λ n k. offered_here node n c.args.peer c.args.at.now o k c.requires.kept (λ settings present. sym (ap (option_map offer_in) c.in-Some.is) ∙ offered_now node n c.args.peer c.args.at.now c.in_ok-offer_at.field-0 k c.requires.kept c.in_ok-offer_at.ensures.offers settings present))
+    (λ n k. offered_here node n c.args.peer c.args.at.now o k c.requires.kept (λ settings present. sym (ap (option_map offer_in) c.in-Some.is) ∙ offered_now node n c.args.peer c.args.at.now c.args.run.now c.in_ok-offer_at.field-0 k c.requires.kept c.requires.run c.in_ok-offer_at.ensures.offers settings present))
     change)
     c.offer.ensures.change
 
@@ -84,6 +84,6 @@ pub returns-in-Some-clause-rests : goal.returns-in-Some-clause-rests
 returns-in-Some-clause-rests g c = λ n k bare.
     let node = c.args.self.now in
     let o = offer_in c.in-Some.offer in
-    let offered = offered_now node n c.args.peer c.args.at.now c.in_ok-offer_at.field-0 k c.requires.kept c.in_ok-offer_at.ensures.offers in
+    let offered = offered_now node n c.args.peer c.args.at.now c.args.run.now c.in_ok-offer_at.field-0 k c.requires.kept c.requires.run c.in_ok-offer_at.ensures.offers in
     let q = offered_here node n c.args.peer c.args.at.now o k c.requires.kept (λ settings present. sym (ap (option_map offer_in) c.in-Some.is) ∙ offered settings present) in
     c.offer.ensures.unread (offered_bare node n c.args.peer o q bare)

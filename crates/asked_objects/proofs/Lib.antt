@@ -1,0 +1,9 @@
+pub mod Ranks
+pub mod Turning
+pub mod Joining
+pub mod Walking
+pub mod Sorting
+pub mod Listable
+pub mod Counting
+pub mod Halving
+pub mod Listed

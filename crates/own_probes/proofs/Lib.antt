@@ -1,0 +1,3 @@
+pub mod Briefs
+pub mod Reactions
+pub mod Outcomes
