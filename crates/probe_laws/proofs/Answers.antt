@@ -1,33 +1,36 @@
 -- A Proof of the probe that runs is noted as its outcome.
-use Rattle.std.proofs.Common.{◌≡◌, ◌≤◌, ℕ, ⊎_elim, Bool, true, false, ◌==◌, cond, if◌then◌else◌, option_to_list, is_some, List, [], ◌∷◌, ◌++◌, Option, Some, None, refl, sym, ap, ◌∙◌, subst, arith}
-use Rattle.std.proofs.lemmas.Bool.{eqb-true, eq-eqb, false≢true}
+use Rattle.std.proofs.Common.{◌≡◌, ◌≤◌, ℕ, ⊎_elim, Bool, true, false, ◌==◌, cond, if◌then◌else◌, option_to_list, List, [], ◌∷◌, ◌++◌, Option, Some, None, refl, sym, ap, ◌∙◌, subst, arith}
+use Rattle.std.proofs.lemmas.Bool.{eqb-true, eq-eqb}
 use Rattle.psb_bytes.specs.declared.ids.Object.{Object}
 use Rattle.psb_bytes.specs.Objects.{name_eq}
-use Rattle.psb_model.specs.State.{State, row}
-use Rattle.psb_model.specs.Conditions.{allowed}
+use Rattle.psb_model.specs.State.{Row, State, row, row_in, has_row, is_peer}
+use Rattle.psb_model.specs.Conditions.{peer_of, is_begun}
 use Rattle.psb_model.specs.Effects.{after}
 use Rattle.psb_model.specs.History.{state, is_lawful}
 use Rattle.psb_model.specs.declared.change.Change.{Change}
 use Rattle.psb_model.specs.declared.change.Change.TheVariants.{Asked}
+use Rattle.psb_model.proofs.Bare.{bare, changed, row_bare}
 use Rattle.psb_model.proofs.ByObject.{by_cases}
 use Rattle.psb_model.proofs.Own.{name_refl}
 use Rattle.psb_model.proofs.Prefixes.{state_snoc}
+use Rattle.psb_model.proofs.Steady.{begun_before}
 use Rattle.model_laws.specs.Following.{probes}
-use Rattle.model_laws.proofs.Following.{noted as probe_noted, asked_is}
+use Rattle.model_laws.proofs.Following.{noted as probe_noted}
+use Rattle.model_laws.proofs.Growth.{Steps, by_growth}
 use Rattle.wire_codec.specs.Frames.{Incoming}
 use Rattle.wire_codec.specs.declared.frame.Frame.TheVariants as frame
 use Rattle.psb_machine.specs.Messages.{Sender, Proves}
+use Rattle.psb_machine.specs.Volatile.{of_peer}
 use Rattle.psb_machine.specs.Probing.{chain_over}
-use Rattle.psb_machine.specs.OwnProbes.{Run, nonce_of, is_of, own_bytes, passed_by, wrong_by}
+use Rattle.psb_machine.specs.OwnProbes.{Run, run_by, nonce_of, is_of, own_bytes, passed_by, wrong_by}
 use Rattle.psb_machine.specs.Machine.{Situation, Input, Reaction, quiet, by_value, by_proof, fresh, run_at, react, next}
 use Rattle.psb_machine.specs.Course.{after_all}
-use Rattle.psb_machine.specs.Laws.{Fits}
 use Rattle.psb_machine.proofs.Causes.{react-message}
 use Rattle.psb_machine.proofs.Runs.{run_open}
-use Rattle.psb_machine.proofs.Untied.{last_allowed}
 use Rattle.probe_laws.specs.Just.{IsProof}
 use Rattle.probe_laws.specs.Answers.{IsNoted, AnswersAreNoted}
-use Rattle.probe_laws.proofs.Sound.{IsSound, sound_fresh, sound_next, sound_all}
+use Rattle.probe_laws.proofs.Carried.{some_is}
+use Rattle.probe_laws.proofs.Sound.{IsSound, sound_course}
 use Rattle.probe_laws.proofs.Compared.{runs_chain}
 
 -- ---- the change
@@ -56,62 +59,74 @@ proof_makes n x p r value own proof is chain =
 
 -- ---- its probe ends
 
+-- the number of a probe is that of a change behind the first
+abbrev IsBehind : List Change → Type 0
+IsBehind h = (p k : ℕ) (objects : List Object) → (row (state h) p).asked ≡ Some (k, objects) → 1 ≤ k
+
+behind_step : Steps IsBehind
+behind_step h c lawful grammar may all p k objects is =
+    ⊎_elim
+    (λ (a : (c ≡ Asked (record { peer = p; objects = objects })) × ((state h).changes ≡ k)). subst (λ (m : ℕ). 1 ≤ m) a.1 (begun_before (state h) c (ap is_begun a.0) may))
+    (λ (b : (probes p c ≡ false) × ((row (state h) p).asked ≡ Some (k, objects))). all p k objects b.1)
+    ((probe_noted (state h) c p may).asked k objects (sym (ap (λ (s : State). (row s p).asked) (state_snoc h c)) ∙ is))
+
+asked_behind : (h : List Change) (p k : ℕ) (objects : List Object) → is_lawful h ≡ true → (row (state h) p).asked ≡ Some (k, objects) → 1 ≤ k
+asked_behind h p k objects lawful is = by_growth IsBehind (λ q m os e. absurd (cc (e))) behind_step h lawful p k objects is
+
 not_zero : (n : ℕ) → 1 ≤ n → (n == 0) ≡ false
 not_zero n h = by_cases (n == 0) (λ k. absurd (omega (arith, h, eqb-true n 0 k))) (λ k. k)
 
--- an outcome whose number is not 0 is one of its peer's probing
-is_its : (relayed : Bool) (probe : ℕ × ℕ) → relayed ≡ false → elim (cond relayed None (Some probe)) [ None ↦ false | Some a ↦ a.0 == probe.0 ] ≡ true
-is_its true probe own = absurd (false≢true (sym own))
-is_its false probe own = eq-eqb probe.0 probe.0 refl
+-- who was asked has a row
+asked_row : (rows : List (ℕ × Row)) (p : ℕ) (a : ℕ × List Object) → (row_in rows p).asked ≡ Some a → has_row rows p ≡ true
+asked_row [] p a is = absurd (cc (is))
+asked_row (x ∷ xs) p a is = by_cases (x.0 == p)
+    (λ k. rw k refl)
+    (λ k. let is' = rw k at is in rw k (asked_row xs p a is'))
 
-ends_probe : (b : Bool) (p : ℕ) (value : List ℕ) (r : Run) → (r.asked == 0) ≡ false → probes p (outcome b p value r) ≡ true
-ends_probe true p value r some = is_its (r.asked == 0) (p, r.asked) some
-ends_probe false p value r some = is_its (r.asked == 0) (p, r.asked) some
+-- the outcome of its own probe closes it
+outcome_closes : (s : State) (p : ℕ) (value : List ℕ) (r : Run) (same : Bool) (row' : Row) → (r.asked == 0) ≡ false → (changed s (outcome same p value r) row').asked ≡ None
+outcome_closes s p value r true row' own = rw own refl
+outcome_closes s p value r false row' own = rw own refl
 
-asks_none : (b : Bool) (p q : ℕ) (value : List ℕ) (r : Run) (objects : List Object) → (r.asked == 0) ≡ false → outcome b p value r ≡ Asked (record { peer = q; objects = objects }) → ⊥
-asks_none true p q value r objects some is = absurd (cc (is))
-asks_none false p q value r objects some is = absurd (cc (is))
+outcome_peer : (p : ℕ) (value : List ℕ) (r : Run) (same : Bool) → peer_of (outcome same p value r) ≡ Some p
+outcome_peer p value r true = refl
+outcome_peer p value r false = refl
 
--- no probe of p runs behind the outcome of one
-none_behind : (n : Situation) (c : Change) (p : ℕ) → allowed (state n.history) c ≡ true → probes p c ≡ true → ((objects : List Object) → c ≡ Asked (record { peer = p; objects = objects }) → ⊥) → (m : Situation) → m.history ≡ n.history ++ c ∷ [] → run_at m p ≡ None
-none_behind n c p may ends apart m is = by_run (run_at m p) refl
-  where
-    by_run : (o : Option Run) → run_at m p ≡ o → o ≡ None
-    by_run None k = refl
-    by_run (Some r) k =
-        let there : (row (after (state n.history) c) p).asked ≡ Some (r.asked, r.objects) =
-        sym (ap (λ (x : State). (row x p).asked) (state_snoc n.history c)) ∙ sym (ap (λ (h : List Change). (row (state h) p).asked) is) ∙ run_open m p r k in
-        ⊎_elim
-        (λ (a : (c ≡ Asked (record { peer = p; objects = r.objects })) × ((state n.history).changes ≡ r.asked)). absurd (apart r.objects a.0))
-        (λ (b : (probes p c ≡ false) × ((row (state n.history) p).asked ≡ Some (r.asked, r.objects))). absurd (false≢true (sym b.0 ∙ ends)))
-        ((probe_noted (state n.history) c p may).asked r.asked r.objects there)
+none_asked : (s : State) (p : ℕ) (value : List ℕ) (r : Run) (same : Bool) → is_peer s p ≡ true → (r.asked == 0) ≡ false → (row (after s (outcome same p value r)) p).asked ≡ None
+none_asked s p value r same peer own =
+    let c = outcome same p value r in
+    ap (λ (x : Row). x.asked) (row_bare s c p p (outcome_peer p value r same) peer)
+    ∙ ap (λ (b : Bool). (bare (cond b (changed s c (row s p)) (row s p))).asked) (eq-eqb p p refl)
+    ∙ outcome_closes s p value r same (row s p) own
+
+-- where none is asked none runs
+none_runs : (b : Option ℕ) (a : Option (ℕ × List Object)) → a ≡ None → run_by b a ≡ None
+none_runs None a h = refl
+none_runs (Some n) None h = refl
+none_runs (Some n) (Some a) h = absurd (cc (h))
 
 next_history : (n : Situation) (x : Input) (c : Change) → (react n x).grown ≡ Some c → (next n x).history ≡ n.history ++ c ∷ []
 next_history n x c is = ap (λ (o : Option Change). n.history ++ option_to_list o) is
 
 -- ---- both
 
--- what there is of a chain that is there
-chain_of : (o : Option (List ℕ)) → is_some o ≡ true → (own : List ℕ) × (o ≡ Some own)
-chain_of None h = absurd (false≢true h)
-chain_of (Some own) h = (own, refl)
-
-pub answer_noted : (n : Situation) (x : Input) (p : ℕ) (r : Run) (value : List ℕ) → IsSound n → Fits n x → run_at n p ≡ Some r → (proof : IsProof n.history x p r.asked value) → IsNoted n x p r value proof.settings.seed
-answer_noted n x p r value s fit is proof =
+pub answer_noted : (n : Situation) (x : Input) (p : ℕ) (r : Run) (value : List ℕ) → IsSound n → run_at n p ≡ Some r → (proof : IsProof n.history x p r.asked value) → IsNoted n x p r value proof.settings.seed
+answer_noted n x p r value s is proof =
     let seed = proof.settings.seed in
-    let own = chain_of (chain_over (own_bytes seed n.history) (nonce_of seed r.asked) r.objects) (runs_chain n p r seed (nonce_of seed r.asked) s is) in
+    let own = some_is (chain_over (own_bytes seed n.history) (nonce_of seed r.asked) r.objects) (runs_chain n p r seed (nonce_of seed r.asked) s is) in
     let same = name_eq own.0 value in
     let c = outcome same p value r in
     let made = proof_makes n x p r value own.0 proof is own.1 in
-    let grown = next_history n x c made in
-    let some = not_zero r.asked (asked_is n.history p r.asked r.objects s.valid (run_open n p r is)).behind in
-    let may = last_allowed n.history c (subst (λ (h : List Change). is_lawful h ≡ true) grown (sound_next n x s fit).valid.lawful) in
+    let asked = run_open n p r is in
+    let some = not_zero r.asked (asked_behind n.history p r.asked r.objects s.lawful asked) in
+    let closed = none_asked (state n.history) p value r same (asked_row (state n.history).rows p (r.asked, r.objects) asked) some in
+    let none : (row (state (next n x).history) p).asked ≡ None = ap (λ (h : List Change). (row (state h) p).asked) (next_history n x c made) ∙ ap (λ (t : State). (row t p).asked) (state_snoc n.history c) ∙ closed in
     record {
       own = own.0;
       chain = own.1;
       outcome = made;
-      ended = none_behind n c p may (ends_probe same p value r some) (λ objects k. asks_none same p p value r objects some k) (next n x) grown;
+      ended = none_runs (of_peer (next n x).volatile p).began (row (state (next n x).history) p).asked none;
     }
 
 pub answers_are_noted : AnswersAreNoted
-answers_are_noted h ss x p r value v fit fits is proof = answer_noted (after_all (fresh h) ss) x p r value (sound_all (fresh h) ss (sound_fresh h v) fit) fits is proof
+answers_are_noted h ss x p r value v lawful is proof = answer_noted (after_all (fresh h) ss) x p r value (sound_course h ss v lawful) is proof

@@ -12,16 +12,14 @@ use Rattle.psb_machine.specs.Volatile.{PeerState, Volatile, of_peer, later, afte
 use Rattle.psb_machine.specs.OwnProbes.{Run}
 use Rattle.psb_machine.specs.Machine.{Situation, Input, Tick, fresh, run_at, react, next}
 use Rattle.psb_machine.specs.Course.{Telling, Step, Absorb, Tell, after_all}
-use Rattle.psb_machine.specs.Laws.{Fits}
 use Rattle.psb_machine.proofs.Courses.{after_all-append}
 use Rattle.psb_machine.proofs.Found.{changed_here}
 use Rattle.psb_machine.proofs.Runs.{run_parts}
 use Rattle.psb_machine.proofs.Untied.{last_allowed}
-use Rattle.probe_laws.specs.Courses.{AllFit}
 use Rattle.probe_laws.specs.Just.{IsProof, IsSilence, IsWrong}
 use Rattle.probe_laws.specs.Answers.{NoneProves, IsUnanswered, ProbesRunUnanswered, HadNoAnswer, SilenceIsJust}
 use Rattle.probe_laws.proofs.Just.{outcomes_are_just}
-use Rattle.probe_laws.proofs.Sound.{IsSound, runs_behind, runs_still, sound_fresh, sound_next}
+use Rattle.probe_laws.proofs.Sound.{IsSound, runs_behind, runs_still, sound_fresh, sound_next, lawful_before}
 use Rattle.probe_laws.proofs.Answers.{answer_noted}
 
 -- ---- one step more
@@ -86,9 +84,9 @@ begun_now h ss x p r asks number is = record {
 -- ---- each step
 
 -- a probe that runs behind an input ran before it, or began with it
-ran_before : (n : Situation) (x : Input) (p : ℕ) (r : Run) → IsSound n → Fits n x → run_at (next n x) p ≡ Some r
+ran_before : (n : Situation) (x : Input) (p : ℕ) (r : Run) → is_lawful (next n x).history ≡ true → run_at (next n x) p ≡ Some r
     → (run_at n p ≡ Some r) ⊎ (((react n x).grown ≡ Some (Asked (record { peer = p; objects = r.objects }))) × ((state n.history).changes ≡ r.asked))
-ran_before n x p r s fit is = by_grown (react n x).grown refl (sound_next n x s fit).valid.lawful is
+ran_before n x p r lawful is = by_grown (react n x).grown refl lawful is
   where
     by_grown : (g : Option Change) → (react n x).grown ≡ g → is_lawful (n.history ++ option_to_list g) ≡ true → run_at (record { history = n.history ++ option_to_list g; volatile = by_changes (state n.history) g (noted (react n x).note n.volatile) }) p ≡ Some r
         → (run_at n p ≡ Some r) ⊎ (((react n x).grown ≡ Some (Asked (record { peer = p; objects = r.objects }))) × ((state n.history).changes ≡ r.asked))
@@ -100,21 +98,21 @@ ran_before n x p r s fit is = by_grown (react n x).grown refl (sound_next n x s 
         (runs_behind n (react n x).note c p r (last_allowed n.history c lawful) k)
 
 -- what runs behind an input had no Proof in it
-no_proof : (n : Situation) (x : Input) (p : ℕ) (r : Run) → IsSound n → Fits n x → run_at n p ≡ Some r → run_at (next n x) p ≡ Some r → (value : List ℕ) → IsProof n.history x p r.asked value → ⊥
-no_proof n x p r s fit before behind value proof = absurd (cc (sym (answer_noted n x p r value s fit before proof).ended ∙ behind))
+no_proof : (n : Situation) (x : Input) (p : ℕ) (r : Run) → IsSound n → run_at n p ≡ Some r → run_at (next n x) p ≡ Some r → (value : List ℕ) → IsProof n.history x p r.asked value → ⊥
+no_proof n x p r s before behind value proof = absurd (cc (sym (answer_noted n x p r value s before proof).ended ∙ behind))
 
 -- each probe that runs behind these steps is unanswered
 abbrev AllUnanswered : List Change → List Step → Type 0
 AllUnanswered h ss = (p : ℕ) (r : Run) → run_at (after_all (fresh h) ss) p ≡ Some r → IsUnanswered h ss p r
 
-absorbed : (h : List Change) (ss : List Step) (x : Input) → IsSound (after_all (fresh h) ss) → Fits (after_all (fresh h) ss) x → AllUnanswered h ss → AllUnanswered h (ss ++ Absorb x ∷ [])
-absorbed h ss x s fit all p r is =
+absorbed : (h : List Change) (ss : List Step) (x : Input) → IsSound (after_all (fresh h) ss) → is_lawful (next (after_all (fresh h) ss) x).history ≡ true → AllUnanswered h ss → AllUnanswered h (ss ++ Absorb x ∷ [])
+absorbed h ss x s lawful all p r is =
     let n = after_all (fresh h) ss in
     let is' : run_at (next n x) p ≡ Some r = subst (λ (m : Situation). run_at m p ≡ Some r) (after_all-append (fresh h) ss (Absorb x ∷ [])) is in
     ⊎_elim
-    (λ (a : run_at n p ≡ Some r). still_unanswered h ss (Absorb x) p r (all p r a) (no_proof n x p r s fit a is', tt))
+    (λ (a : run_at n p ≡ Some r). still_unanswered h ss (Absorb x) p r (all p r a) (no_proof n x p r s a is', tt))
     (λ (b : ((react n x).grown ≡ Some (Asked (record { peer = p; objects = r.objects }))) × ((state n.history).changes ≡ r.asked)). begun_now h ss x p r b.0 b.1 is')
-    (ran_before n x p r s fit is')
+    (ran_before n x p r lawful is')
 
 told : (h : List Change) (ss : List Step) (t : Telling) → AllUnanswered h ss → AllUnanswered h (ss ++ Tell t ∷ [])
 told h ss t all p r is =
@@ -122,23 +120,24 @@ told h ss t all p r is =
     still_unanswered h ss (Tell t) p r (all p r is') tt
 
 -- over the rest of a course
-unanswered_from : (h : List Change) (done ss : List Step) → IsSound (after_all (fresh h) done) → AllFit (after_all (fresh h) done) ss → AllUnanswered h done → AllUnanswered h (done ++ ss)
-unanswered_from h done [] s fit all = subst (AllUnanswered h) (sym (append-nil done)) all
-unanswered_from h done (Absorb x ∷ ss) s fit all =
+unanswered_from : (h : List Change) (done ss : List Step) → IsSound (after_all (fresh h) done) → is_lawful (after_all (after_all (fresh h) done) ss).history ≡ true → AllUnanswered h done → AllUnanswered h (done ++ ss)
+unanswered_from h done [] s lawful all = subst (AllUnanswered h) (sym (append-nil done)) all
+unanswered_from h done (Absorb x ∷ ss) s lawful all =
     let n = after_all (fresh h) done in
+    let now : is_lawful (next n x).history ≡ true = lawful_before (next n x) ss lawful in
     let reached : after_all (fresh h) (done ++ Absorb x ∷ []) ≡ next n x = after_all-append (fresh h) done (Absorb x ∷ []) in
     subst (AllUnanswered h) (append_assoc done (Absorb x ∷ []) ss)
-    (unanswered_from h (done ++ Absorb x ∷ []) ss (subst IsSound (sym reached) (sound_next n x s fit.0)) (subst (λ (m : Situation). AllFit m ss) (sym reached) fit.1) (absorbed h done x s fit.0 all))
-unanswered_from h done (Tell t ∷ ss) s fit all =
+    (unanswered_from h (done ++ Absorb x ∷ []) ss (subst IsSound (sym reached) (sound_next n x s now)) (ap (λ (m : Situation). is_lawful (after_all m ss).history) reached ∙ lawful) (absorbed h done x s now all))
+unanswered_from h done (Tell t ∷ ss) s lawful all =
     let reached : after_all (fresh h) (done ++ Tell t ∷ []) ≡ after_all (fresh h) done = after_all-append (fresh h) done (Tell t ∷ []) in
     subst (AllUnanswered h) (append_assoc done (Tell t ∷ []) ss)
-    (unanswered_from h (done ++ Tell t ∷ []) ss (subst IsSound (sym reached) s) (subst (λ (m : Situation). AllFit m ss) (sym reached) fit) (told h done t all))
+    (unanswered_from h (done ++ Tell t ∷ []) ss (subst IsSound (sym reached) s) (ap (λ (m : Situation). is_lawful (after_all m ss).history) reached ∙ lawful) (told h done t all))
 
 none_yet : (h : List Change) → AllUnanswered h []
 none_yet h p r is = absurd (cc ((run_parts None (row (state h) p).asked r is).1))
 
 pub probes_run_unanswered : ProbesRunUnanswered
-probes_run_unanswered h ss p r v fit is = unanswered_from h [] ss (sound_fresh h v) fit (none_yet h) p r is
+probes_run_unanswered h ss p r v lawful is = unanswered_from h [] ss (sound_fresh h v) lawful (none_yet h) p r is
 
 -- ---- a probe that fails for want of an answer
 
@@ -150,4 +149,4 @@ silent h ss x f why all how =
     why
 
 pub silence_is_just : SilenceIsJust
-silence_is_just h ss x f v fit fails how = silent h ss x f (outcomes_are_just (after_all (fresh h) ss) x (Failed f) fails) (λ p r is. probes_run_unanswered h ss p r v fit is) how
+silence_is_just h ss x f v lawful fails how = silent h ss x f (outcomes_are_just (after_all (fresh h) ss) x (Failed f) fails) (λ p r is. probes_run_unanswered h ss p r v lawful is) how

@@ -1,19 +1,19 @@
--- What holds of a node at each step of a course: its history is valid, and all that a probe lists which runs is there or
--- in debt, and tied by no deal.
-use Rattle.std.proofs.Common.{◌≡◌, ◌≤◌, ℕ, ◌⊎◌, ⊎_elim, inl, inr, Bool, true, false, ◌||◌, ◌==◌, cond, option_to_list, is_some, List, [], ◌∷◌, ◌++◌, length, Option, Some, None, refl, sym, ap, ◌∙◌, subst, append-nil, arith}
+-- What holds of a node at each step of a course whose history is lawful: each name that it holds has its bytes, and all
+-- that a probe lists which runs is there or in debt.
+use Rattle.std.proofs.Common.{◌≡◌, ◌≤◌, ℕ, ◌⊎◌, ⊎_elim, inl, inr, Bool, true, false, ◌||◌, ◌==◌, cond, option_to_list, is_some, List, [], ◌∷◌, ◌++◌, length, length-append, Option, Some, None, refl, sym, ap, ◌∙◌, subst, append-nil, arith}
 use Rattle.std.specs.List.{list_all}
 use Rattle.std.proofs.lemmas.Bool.{and_parts, eqb-true, false≢true}
 use Rattle.psb_bytes.specs.declared.ids.Object.{Object}
 use Rattle.psb_model.specs.Words.{has}
-use Rattle.psb_model.specs.State.{Row, State, row, row_in, out_key, debt_key}
+use Rattle.psb_model.specs.State.{Row, State, nothing_yet, row, row_in, out_key, debt_key}
 use Rattle.psb_model.specs.Conditions.{peer_of, of_a_peer, is_begun, allowed}
 use Rattle.psb_model.specs.Effects.{after}
-use Rattle.psb_model.specs.History.{state, is_lawful}
+use Rattle.psb_model.specs.History.{state, lawful_from, is_lawful}
 use Rattle.psb_model.specs.Needed.{IsValid}
 use Rattle.psb_model.specs.declared.change.Change.{Change}
 use Rattle.psb_model.specs.declared.change.Change.TheVariants.{Asked}
 use Rattle.psb_model.proofs.ByObject.{by_cases}
-use Rattle.psb_model.proofs.Prefixes.{state_snoc}
+use Rattle.psb_model.proofs.Prefixes.{state_snoc, lawful_app}
 use Rattle.psb_model.proofs.Steady.{allows}
 use Rattle.psb_model.proofs.Bare.{bare, bare_out, bare_debt, has_bare, changed, row_bare}
 use Rattle.model_laws.specs.Following.{probes}
@@ -23,12 +23,11 @@ use Rattle.psb_machine.specs.Volatile.{PeerState, Volatile, of_peer, Note, noted
 use Rattle.psb_machine.specs.OwnProbes.{Run, run_of}
 use Rattle.psb_machine.specs.Course.{Step, Absorb, Tell, after_all}
 use Rattle.psb_machine.specs.Machine.{Situation, Input, fresh, run_at, react, next}
-use Rattle.psb_machine.specs.Laws.{Fits, IsUntied}
+use Rattle.psb_machine.proofs.Courses.{grown_all}
 use Rattle.psb_machine.proofs.Found.{changed_here}
 use Rattle.psb_machine.proofs.Runs.{run_parts}
-use Rattle.psb_machine.proofs.Untied.{noted_from, marked_from, probed_from, run_again, last_allowed, keeps_untied}
-use Rattle.psb_machine.proofs.Whole.{keeps_valid}
-use Rattle.probe_laws.specs.Courses.{AllFit}
+use Rattle.psb_machine.proofs.Untied.{noted_from, marked_from, probed_from, run_again, last_allowed}
+use Rattle.probe_laws.proofs.Carried.{HasBody, Carries, react_carries, HasAllBytes, valid_bytes, grown_bytes}
 use Rattle.probe_laws.proofs.There.{rows_stay}
 
 -- ---- a probe that runs after a change
@@ -128,18 +127,12 @@ grown_there n note c some may there q r is =
 same_there : (n : Situation) (note : Note) → IsThere n → IsThere (record { history = n.history ++ []; volatile = noted note n.volatile })
 same_there n note there q r is = subst (λ (h : List Change). AreThere (row (state h) q) r.objects) (sym (append-nil n.history)) (there q r (runs_still n note q r is))
 
-keeps_there : (n : Situation) (x : Input) → IsValid n.history → IsValid (next n x).history → IsThere n → IsThere (next n x)
-keeps_there n x v v' there = by_grown (react n x).grown v'.lawful
-  where
-    by_grown : (g : Option Change) → is_lawful (n.history ++ option_to_list g) ≡ true → IsThere (record { history = n.history ++ option_to_list g; volatile = by_changes (state n.history) g (noted (react n x).note n.volatile) })
-    by_grown None lawful = same_there n (react n x).note there
-    by_grown (Some c) lawful = grown_there n (react n x).note c v.some (last_allowed n.history c lawful) there
-
 -- ---- each step
 
 pub record IsSound (n : Situation) : Type 0 where
-  pub valid : IsValid n.history
-  pub untied : IsUntied n
+  pub some : 1 ≤ length n.history
+  pub lawful : is_lawful n.history ≡ true
+  pub bytes : HasAllBytes n.history
   pub there : IsThere n
 
 -- no probe runs in a node that was just opened
@@ -147,14 +140,46 @@ none_runs : (h : List Change) (p : ℕ) (r : Run) → run_at (fresh h) p ≡ Som
 none_runs h p r is = absurd (cc ((run_parts None (row (state h) p).asked r is).1))
 
 pub sound_fresh : (h : List Change) → IsValid h → IsSound (fresh h)
-sound_fresh h v = record { valid = v; untied = λ p r is. absurd (none_runs h p r is); there = λ p r is. absurd (none_runs h p r is) }
+sound_fresh h v = record { some = v.some; lawful = v.lawful; bytes = valid_bytes h v; there = λ p r is. absurd (none_runs h p r is) }
 
-pub sound_next : (n : Situation) (x : Input) → IsSound n → Fits n x → IsSound (next n x)
-sound_next n x s fit =
-    let v = keeps_valid n x s.valid s.untied fit in
-    record { valid = v; untied = keeps_untied n x s.valid s.untied fit; there = keeps_there n x s.valid v s.there }
+same_sound : (n : Situation) (note : Note) → IsSound n → IsSound (record { history = n.history ++ []; volatile = noted note n.volatile })
+same_sound n note s =
+    let same : n.history ≡ n.history ++ [] = sym (append-nil n.history) in
+    record {
+      some = subst (λ (h : List Change). 1 ≤ length h) same s.some;
+      lawful = subst (λ (h : List Change). is_lawful h ≡ true) same s.lawful;
+      bytes = subst HasAllBytes same s.bytes;
+      there = same_there n note s.there;
+    }
 
-pub sound_all : (n : Situation) (ss : List Step) → IsSound n → AllFit n ss → IsSound (after_all n ss)
-sound_all n [] s fit = s
-sound_all n (Absorb x ∷ ss) s fit = sound_all (next n x) ss (sound_next n x s fit.0) fit.1
-sound_all n (Tell t ∷ ss) s fit = sound_all n ss s fit
+grown_sound : (n : Situation) (note : Note) (c : Change) → IsSound n → is_lawful (n.history ++ c ∷ []) ≡ true → HasBody c → IsSound (record { history = n.history ++ c ∷ []; volatile = by_change (state n.history) c (noted note n.volatile) })
+grown_sound n note c s lawful body =
+    let may = last_allowed n.history c lawful in
+    record {
+      some = omega (arith, s.some, length-append n.history (c ∷ []));
+      lawful = lawful;
+      bytes = grown_bytes n.history c s.some may body s.bytes;
+      there = grown_there n note c s.some may s.there;
+    }
+
+pub sound_next : (n : Situation) (x : Input) → IsSound n → is_lawful (next n x).history ≡ true → IsSound (next n x)
+sound_next n x s = by_grown (react n x).grown (react_carries n x)
+  where
+    by_grown : (g : Option Change) → Carries g → is_lawful (n.history ++ option_to_list g) ≡ true → IsSound (record { history = n.history ++ option_to_list g; volatile = by_changes (state n.history) g (noted (react n x).note n.volatile) })
+    by_grown None body lawful = same_sound n (react n x).note s
+    by_grown (Some c) body lawful = grown_sound n (react n x).note c s lawful body
+
+-- a history on the way to a lawful one is lawful
+pub lawful_before : (n : Situation) (ss : List Step) → is_lawful (after_all n ss).history ≡ true → is_lawful n.history ≡ true
+lawful_before n ss lawful =
+    let more = grown_all n ss in
+    (and_parts (is_lawful n.history) (lawful_from (state n.history) more.0) (sym (lawful_app nothing_yet n.history more.0) ∙ ap is_lawful (sym more.1) ∙ lawful)).0
+
+pub sound_all : (n : Situation) (ss : List Step) → IsSound n → is_lawful (after_all n ss).history ≡ true → IsSound (after_all n ss)
+sound_all n [] s lawful = s
+sound_all n (Absorb x ∷ ss) s lawful = sound_all (next n x) ss (sound_next n x s (lawful_before (next n x) ss lawful)) lawful
+sound_all n (Tell t ∷ ss) s lawful = sound_all n ss s lawful
+
+-- over a course since a node was opened
+pub sound_course : (h : List Change) (ss : List Step) → IsValid h → is_lawful (after_all (fresh h) ss).history ≡ true → IsSound (after_all (fresh h) ss)
+sound_course h ss v lawful = sound_all (fresh h) ss (sound_fresh h v) lawful

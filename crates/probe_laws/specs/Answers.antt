@@ -1,6 +1,7 @@
 -- What a peer answers to the probe of it that runs, and which probes have no answer.
 use Rattle.std.specs.Prelude.{◌≡◌, ℕ, true, List, [], ◌∷◌, ◌++◌, length, if◌then◌else◌, Some, None}
 use Rattle.psb_bytes.specs.Objects.{name_eq}
+use Rattle.psb_model.specs.History.{is_lawful}
 use Rattle.psb_model.specs.Needed.{IsValid}
 use Rattle.psb_model.specs.declared.change.Change.{Change}
 use Rattle.psb_model.specs.declared.change.Change.TheVariants.{Asked, Failed}
@@ -11,8 +12,6 @@ use Rattle.psb_machine.specs.Probing.{chain_over}
 use Rattle.psb_machine.specs.OwnProbes.{Run, nonce_of, own_bytes, passed_by, wrong_by}
 use Rattle.psb_machine.specs.Machine.{Situation, Input, fresh, run_at, react, next}
 use Rattle.psb_machine.specs.Course.{Step, Absorb, Tell, after_all}
-use Rattle.psb_machine.specs.Laws.{Fits}
-use Rattle.probe_laws.specs.Courses.{AllFit}
 use Rattle.probe_laws.specs.Just.{IsProof}
 
 -- ---- answers
@@ -25,9 +24,9 @@ pub record IsNoted (n : Situation) (x : Input) (p : ℕ) (r : Run) (value seed :
   pub outcome : (react n x).grown ≡ Some (if name_eq own value then passed_by p r else wrong_by p value r)
   pub ended : run_at (next n x) p ≡ None
 
--- at each step of a course
+-- so it is behind each course since a node was opened, where the history is lawful
 abbrev pub AnswersAreNoted : Type 0
-AnswersAreNoted = (h : List Change) (ss : List Step) (x : Input) (p : ℕ) (r : Run) (value : List ℕ) → IsValid h → AllFit (fresh h) ss → Fits (after_all (fresh h) ss) x → run_at (after_all (fresh h) ss) p ≡ Some r
+AnswersAreNoted = (h : List Change) (ss : List Step) (x : Input) (p : ℕ) (r : Run) (value : List ℕ) → IsValid h → is_lawful (after_all (fresh h) ss).history ≡ true → run_at (after_all (fresh h) ss) p ≡ Some r
     → (proof : IsProof (after_all (fresh h) ss).history x p r.asked value) → IsNoted (after_all (fresh h) ss) x p r value proof.settings.seed
 
 -- ---- none
@@ -49,9 +48,9 @@ pub record IsUnanswered (h : List Change) (ss : List Step) (p : ℕ) (r : Run) :
   pub began : later (of_peer (after_all (fresh h) before).volatile p).clock ≡ r.began
   pub unproved : NoneProves (next (after_all (fresh h) before) start) since p r.asked
 
--- so it is of each probe that runs
+-- so it is of each probe that runs behind such a course
 abbrev pub ProbesRunUnanswered : Type 0
-ProbesRunUnanswered = (h : List Change) (ss : List Step) (p : ℕ) (r : Run) → IsValid h → AllFit (fresh h) ss → run_at (after_all (fresh h) ss) p ≡ Some r → IsUnanswered h ss p r
+ProbesRunUnanswered = (h : List Change) (ss : List Step) (p : ℕ) (r : Run) → IsValid h → is_lawful (after_all (fresh h) ss).history ≡ true → run_at (after_all (fresh h) ss) p ≡ Some r → IsUnanswered h ss p r
 
 -- A probe that fails for want of an answer had none since it began, for as long as its peer has to answer.
 pub record HadNoAnswer (h : List Change) (ss : List Step) (f : Failure) : Type 0 where
@@ -60,4 +59,4 @@ pub record HadNoAnswer (h : List Change) (ss : List Step) (f : Failure) : Type 0
   pub late : is_late began (later (of_peer (after_all (fresh h) ss).volatile f.peer).clock) ≡ true
 
 abbrev pub SilenceIsJust : Type 0
-SilenceIsJust = (h : List Change) (ss : List Step) (x : Input) (f : Failure) → IsValid h → AllFit (fresh h) ss → (react (after_all (fresh h) ss) x).grown ≡ Some (Failed f) → f.how ≡ 0 → HadNoAnswer h ss f
+SilenceIsJust = (h : List Change) (ss : List Step) (x : Input) (f : Failure) → IsValid h → is_lawful (after_all (fresh h) ss).history ≡ true → (react (after_all (fresh h) ss) x).grown ≡ Some (Failed f) → f.how ≡ 0 → HadNoAnswer h ss f

@@ -1,5 +1,5 @@
 pub mod Just
 pub mod There
-pub mod Courses
 pub mod Compared
 pub mod Answers
+pub mod Courses

@@ -4,6 +4,6 @@
 mod laws;
 
 pub use laws::{
-    answers_are_noted, outcomes_are_just, probes_are_compared, probes_run_unanswered,
-    rows_name_own_chunks, silence_is_just,
+    answers_are_noted, courses_are_just, outcomes_are_just, probes_are_compared,
+    probes_run_unanswered, rows_name_own_chunks, silence_is_just,
 };
