@@ -10,4 +10,6 @@ pub use discards::are_taken;
 pub use freeing::{
     free, free_one, free_slots, reserve_outs, room_for_objects, room_for_slots, set_states,
 };
-pub use table::{account_of, first_accounts, holds, is_peer, place_in, place_of, ties_in};
+pub use table::{
+    account_of, are_peers, first_accounts, holds, is_peer, place_in, place_of, ties_in,
+};

@@ -2,7 +2,7 @@
 //! together.
 
 ghost use Rattle.std.specs.Prelude.{◌≡◌, ◌==◌, true, map, IfOk, Some, find, position};
-ghost use Rattle.std.specs.List.{list_any};
+ghost use Rattle.std.specs.List.{list_all, list_any};
 ghost use Rattle.std.specs.Option.{option_copied};
 ghost use Rattle.psb_bytes.specs.declared.ids.Object.TheVariants.{Chunk};
 ghost use Rattle.psb_model.specs.Words.{has};
@@ -12,6 +12,7 @@ ghost use Rattle.peer_account.specs.View.{named_row};
 
 use peer_account::Account;
 use psb_bytes::{Digest, Memory, Object, PeerId};
+use psb_model::Candidate;
 use psb_settings::{PeerRow, Settings};
 use std::alloc::Global;
 
@@ -48,6 +49,13 @@ fn has_account(accounts: &[Account], peer: PeerId) -> bool
     ensures { result ≡ list_any (λ v. v.id == peer) accounts.now }
 {
     accounts.iter().any(|a| a.id() == peer)
+}
+
+/// Whether each candidate is a peer that has an account.
+pub fn are_peers(accounts: &[Account], candidates: &[Candidate]) -> bool
+    ensures { result ≡ list_all (λ x. has_row (map named_row accounts.now) x.peer) candidates.now }
+{
+    candidates.iter().all(|x| is_peer(accounts, x.peer))
 }
 
 /// Whether the node answers for the chunk to some peer.

@@ -10,6 +10,7 @@ pub mod Given
 pub mod Outs
 pub mod Ins
 pub mod InUnits
+pub mod Discards
 pub mod Chunks
 pub mod ChunkSteps
 pub mod Bound

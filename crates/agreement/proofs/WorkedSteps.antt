@@ -1,5 +1,5 @@
 -- The worked world, from what the settings texts say: each letter is read as what it spells.
-use Rattle.std.proofs.Common.{◌≡◌, ℕ, nat_le, true, false, List, [], ◌∷◌, ◌++◌, slice_get, option_map, Option, Some, None, refl, ap, ◌∙◌, arith}
+use Rattle.std.proofs.Common.{◌≡◌, ℕ, nat_le, Bool, true, false, cond, List, [], ◌∷◌, ◌++◌, slice_get, option_map, Option, Some, None, refl, ap, ◌∙◌, arith}
 use Rattle.psb_digest.specs.Hashes.{sha}
 use Rattle.psb_settings.specs.Settings.{settings_of}
 use Rattle.psb_settings.specs.declared.settings.Settings.{Settings}
@@ -24,7 +24,7 @@ use Rattle.psb_machine.specs.Settling.{Accepts}
 use Rattle.psb_machine.specs.Replies.{claims_from, reply}
 use Rattle.psb_machine.specs.Proposals.{Offer, proposed_at}
 use Rattle.psb_machine.specs.Sampling.{questions}
-use Rattle.psb_machine.specs.Machine.{Situation, Input, Datagram, Tick, Reaction, answers_with, by_standing, on_deal, on_reply, sends, then_by, by_choice, choice_at, by_offer, offer_by, offer_at, ruled, on_tick, react, fresh, settled, Rule, run_at, by_late, by_run}
+use Rattle.psb_machine.specs.Machine.{Situation, Input, Datagram, Tick, Reaction, answers_with, by_standing, on_deal, on_reply, sends, then_by, by_choice, choice_at, by_offer, offer_by, offer_at, ruled, on_tick, react, fresh, settled, Rule, run_at, by_late, discarded_by, by_due, by_run, ends_with, passes}
 use Rattle.psb_machine.proofs.Causes.{react-message}
 use Rattle.model_laws.specs.Worked.{bytes_from, plain_ticket}
 use Rattle.agreement.specs.Worlds.{Party, Give, Stop, moved}
@@ -62,17 +62,18 @@ store_fits = record { frame_fits = refl; from_fits = omega arith; to_fits = omeg
 
 -- ---- ticks
 
--- a tick at node 1, where no choice is to be made and nothing is asked besides
--- and no probe runs or is due
-ticks : (n : Situation) (o : Offer) → (state n.history).settings ≡ Some (node_settings 1 2) → run_at n 2 ≡ None → nat_le 4 (later (of_peer n.volatile 2).clock) ≡ false → (of_peer n.volatile 2).ended ≡ 0 → choice_at (node_settings 1 2) n 2 ≡ None → questions (state n.history) 2 ≡ []
+-- a tick at node 1, where no choice is to be made and nothing is asked besides, no probe runs or is due, and no discard
+ticks : (n : Situation) (o : Offer) → (state n.history).settings ≡ Some (node_settings 1 2) → run_at n 2 ≡ None → (row (state n.history) 2).due ≡ false → nat_le 4 (later (of_peer n.volatile 2).clock) ≡ false → (of_peer n.volatile 2).ended ≡ 0 → choice_at (node_settings 1 2) n 2 ≡ None → questions (state n.history) 2 ≡ []
     → offer_at (node_settings 1 2) n 2 ≡ Some o → react n (Tick 2) ≡ ruled 2 (then_by (by_offer (node_settings 1 2) n.history 2 (Some o)) (sends []))
-ticks n o has idle early ended none no_question offer =
+ticks n o has idle not_now early ended none no_question offer =
     let st = node_settings 1 2 in
     let last = sends (questions (state n.history) 2) in
     let probed = then_by (by_run st.seed (state n.history) 2 (of_peer n.volatile 2) (run_at n 2)) last in
     let offered = then_by (by_offer st n.history 2 (offer_at st n 2)) probed in
+    let chosen = then_by (by_choice (choice_at st n 2)) offered in
     ap (λ (s : Option Settings). ruled 2 (on_tick s n 2)) has
-    ∙ ap (λ (r : Option Run). ruled 2 (then_by (by_late 2 (later (of_peer n.volatile 2).clock) r) (then_by (by_choice (choice_at st n 2)) offered))) idle
+    ∙ ap (λ (r : Option Run). ruled 2 (then_by (by_late 2 (later (of_peer n.volatile 2).clock) r) (then_by (by_due (state n.history) 2) chosen))) idle
+    ∙ ap (λ (b : Bool). ruled 2 (then_by (cond b (ends_with (discarded_by (state n.history) 2) []) passes) chosen)) not_now
     ∙ ap (λ (c : Option (List Candidate)). ruled 2 (then_by (by_choice c) offered)) none
     ∙ ap (λ (a : Option Offer). ruled 2 (then_by (by_offer st n.history 2 a) probed)) offer
     ∙ ap (λ (q : Rule). ruled 2 (then_by (by_offer st n.history 2 (Some o)) q)) (not_due n last idle early ended ∙ ap (λ (ls : List Letter). sends ls) no_question)
@@ -110,8 +111,8 @@ steps_worked text other says others is =
     let pending : (row (state (chosen text)) 2).pending ≡ None = rw says refl in
     let next : offer_at (node_settings 1 2) first 2 ≡ Some (record { deal = record { number = 1; what = Fresh name }; is_new = true }) =
     ap (λ (o : Option OwnDeal). offer_by (node_settings 1 2) (state first.history) 2 (of_peer first.volatile 2) [] o) pending ∙ ap (λ (s : State). proposed_at (node_settings 1 2) (state_from s later_changes) 2 []) (begun_state text says) in
-    let proposes = ticks first (record { deal = record { number = 1; what = Fresh name }; is_new = true }) says refl refl refl (rw says refl) (rw says refl) next in
-    let repeats = ticks again (record { deal = record { number = 1; what = Fresh name }; is_new = false }) says refl refl refl (rw says refl) (rw says refl) (rw says refl) in
+    let proposes = ticks first (record { deal = record { number = 1; what = Fresh name }; is_new = true }) says refl (rw says refl) refl refl (rw says refl) (rw says refl) next in
+    let repeats = ticks again (record { deal = record { number = 1; what = Fresh name }; is_new = false }) says refl (rw says refl) refl refl (rw says refl) (rw says refl) (rw says refl) in
     let tells = asks_it taken others store_fits ∙ answers_last taken last in
     record {
       asks = given (opened (chosen text) []) (Tick 2) (node_settings 1 2) _ says proposes ∙ rw says refl;

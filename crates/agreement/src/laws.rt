@@ -4,7 +4,8 @@ ghost use Rattle.agreement.specs.Laws.{TwoAgree, AllAgree};
 ghost use Rattle.agreement.specs.Worked.{WorkedWorld};
 
 /// Two honest nodes agree about what each holds for the other, at every moment: whatever is lost, comes
-/// again or late, whatever others forge, and whenever a node stops.
+/// again or late, whatever others forge, and whenever a node stops. What one has on the other stands there,
+/// unless the other discarded it since.
 pub fn two_agree()
     ensures { TwoAgree }
 {}

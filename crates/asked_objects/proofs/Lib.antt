@@ -7,3 +7,4 @@ pub mod Listable
 pub mod Counting
 pub mod Halving
 pub mod Listed
+pub mod Places

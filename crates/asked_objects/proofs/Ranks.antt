@@ -31,7 +31,7 @@ rank_sum o [] = refl
 rank_sum o (x ∷ xs) = sum_by-cons (before o) x xs ∙ ap (λ n. before o x + n) (rank_sum o xs)
 
 -- an object doesn't come before itself
-not_itself : (o : Object) → is_lt (object_cmp o o) ≡ false
+pub not_itself : (o : Object) → is_lt (object_cmp o o) ≡ false
 not_itself o = by_cases (is_lt (object_cmp o o)) (λ k. absurd (true≢false (sym k ∙ comes_first o o k))) (λ k. k)
 
 one_less : (o x : Object) → before o x ≤ 1

@@ -5,12 +5,12 @@ use Rattle.std.proofs.lemmas.Bool.{ltb-true, ltb-false}
 use Rattle.std.proofs.lemmas.List.{take_all}
 use Rattle.psb_model.proofs.ByObject.{by_cases}
 
-get_left : {X : Type 0} (xs ys : List X) (n : ℕ) → n < length xs → slice_get (xs ++ ys) n ≡ slice_get xs n
+pub get_left : {X : Type 0} (xs ys : List X) (n : ℕ) → n < length xs → slice_get (xs ++ ys) n ≡ slice_get xs n
 get_left [] ys n h = absurd (omega (arith, h))
 get_left (x ∷ xs) ys zero h = refl
 get_left (x ∷ xs) ys (suc n) h = get_left xs ys n (omega (arith, h))
 
-get_right : {X : Type 0} (xs ys : List X) (n : ℕ) → length xs ≤ n → slice_get (xs ++ ys) n ≡ slice_get ys (n - length xs)
+pub get_right : {X : Type 0} (xs ys : List X) (n : ℕ) → length xs ≤ n → slice_get (xs ++ ys) n ≡ slice_get ys (n - length xs)
 get_right [] ys n h = ap (slice_get ys) (omega arith)
 get_right (x ∷ xs) ys zero h = absurd (omega (arith, h))
 get_right (x ∷ xs) ys (suc n) h = get_right xs ys n (omega (arith, h)) ∙ ap (slice_get ys) (omega arith)

@@ -3,7 +3,7 @@ use Rattle.std.proofs.Common.{◌≡◌, ◌<◌, ℕ, Bool, true, false, not, �
 use Rattle.std.specs.Prelude.{if◌then◌else◌}
 use Rattle.std.specs.List.{list_all}
 use Rattle.std.specs.Ordering.{is_lt}
-use Rattle.std.proofs.lemmas.Bool.{and_parts, true≢false, false≢true}
+use Rattle.std.proofs.lemmas.Bool.{and_parts, false≢true}
 use Rattle.psb_bytes.specs.Objects.{object_cmp}
 use Rattle.psb_bytes.specs.declared.ids.Object.{Object}
 use Rattle.psb_bytes.specs.declared.ids.Object.TheVariants.{Chunk, Slot}
@@ -15,6 +15,7 @@ use Rattle.psb_model.proofs.ObjectOrder.{comes_first, less_then}
 use Rattle.peer_lists.specs.Chunks.{is_chunk}
 use Rattle.peer_lists.specs.Walks.{is_past, chunk_after, name_of}
 use Rattle.asked_objects.specs.Parts.{is_listed_chunk}
+use Rattle.asked_objects.proofs.Ranks.{not_itself}
 
 -- the chunks behind a place, and those of them that pass a test
 abbrev pub is_next : Option (List ℕ) → OutEntry → Bool
@@ -29,9 +30,6 @@ none_left t place (x ∷ xs) h =
     by_cases (is_next place x)
     (λ k. let h' : None ≡ Some x = rw k at h in absurd (cc (h')))
     (λ k. let h' = rw k at h in rw k (none_left t place xs h'))
-
-not_itself : (o : Object) → is_lt (object_cmp o o) ≡ false
-not_itself o = by_cases (is_lt (object_cmp o o)) (λ k. absurd (true≢false (sym k ∙ comes_first o o k))) (λ k. k)
 
 -- a chunk that is behind a place, and all that are behind it
 past_all : (place : Option (List ℕ)) (n : List ℕ) (o : Object) → is_past place (Chunk n) ≡ true → is_lt (object_cmp (Chunk n) o) ≡ true → is_past place o ≡ true

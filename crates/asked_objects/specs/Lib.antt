@@ -1,3 +1,4 @@
 pub mod Listable
 pub mod Parts
 pub mod Ranks
+pub mod Places

@@ -1,9 +1,11 @@
 //! What of a peer's row a probe may ask for: chunks there, slots there, and rows of debt.
 
 ghost use Rattle.std.specs.Prelude.{◌≡◌, ◌++◌, ◌∷◌, [], true, length, map, slice_get, if◌then◌else◌, IfOk, OnOk};
+ghost use Rattle.std.specs.Option.{option_map};
+ghost use Rattle.psb_bytes.specs.declared.ids.Object.TheVariants.{Slot};
 ghost use Rattle.psb_model.specs.Words.{in_order};
 ghost use Rattle.psb_model.specs.State.{out_key};
-ghost use Rattle.peer_lists.specs.Walks.{chunk_after, name_of};
+ghost use Rattle.peer_lists.specs.Walks.{chunk_after, entry_after, name_of};
 ghost use Rattle.asked_objects.specs.Listable.{tied_slots, deal_ties, IsListable};
 ghost use Rattle.asked_objects.specs.Parts.{is_listed_chunk, chunks_there, slots_there, is_listed_kind, is_listed_debt, debts_there, IsSorted};
 
@@ -102,6 +104,21 @@ pub fn slot_at(account: &Account, place: u64) -> Option<Object>
     match account
         .outs()
         .slot_at(OutTest::Own, tied_slots(account), place)
+    {
+        None => None,
+        Some(entry) => Some(entry.object),
+    }
+}
+
+/// The first of them, or the first behind the slot of this number.
+pub fn slot_after(account: &Account, place: Option<u32>) -> Option<Object>
+    requires { IsListable account.now.row }
+    ensures slot { result ≡ option_map out_key (entry_after out_key (option_map Slot place) (slots_there account.now.row)) }
+    ensures ordered { in_order out_key account.now.row.outs ≡ true }
+{
+    match account
+        .outs()
+        .slot_after(OutTest::Own, tied_slots(account), place)
     {
         None => None,
         Some(entry) => Some(entry.object),

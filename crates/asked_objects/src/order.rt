@@ -1,26 +1,10 @@
 //! The order of objects.
 
 ghost use Rattle.std.specs.Prelude.{◌≡◌};
-ghost use Rattle.psb_bytes.specs.Objects.{object_cmp};
 ghost use Rattle.asked_objects.specs.Ranks.{precedes, is_first};
 
+use peer_lists::compare;
 use psb_bytes::Object;
-use std::cmp::Ordering;
-
-fn compare(a: &Object, b: &Object) -> Ordering
-    ensures { result ≡ object_cmp a.now b.now }
-{
-    match a {
-        Object::Chunk(x) => match b {
-            Object::Chunk(y) => x.cmp(y),
-            Object::Slot(_) => Ordering::Less,
-        },
-        Object::Slot(x) => match b {
-            Object::Chunk(_) => Ordering::Greater,
-            Object::Slot(y) => x.cmp(y),
-        },
-    }
-}
 
 /// Whether the object comes before the other one, if there is one.
 pub fn precedes(object: &Object, other: &Option<Object>) -> bool

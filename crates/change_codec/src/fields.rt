@@ -2,12 +2,11 @@
 ghost use Rattle.std.specs.Prelude.{◌≡◌, IfOk};
 ghost use Rattle.std.specs.Option.{option_map};
 ghost use Rattle.byte_fields.specs.Fields.{Takes, ended};
-ghost use Rattle.change_codec.specs.Reading.{Answers, flag_at, ticket_at, candidate_at};
+ghost use Rattle.change_codec.specs.Reading.{Answers, flag_at, ticket_at};
 
 use crate::ChangeError;
 use byte_fields::{NoField, take_digest, take_u8, take_u32};
-use psb_bytes::{Bytes, Cursor, Memory, PeerId, Ref, Ticket};
-use psb_model::Candidate;
+use psb_bytes::{Bytes, Cursor, Memory, Ref, Ticket};
 use std::alloc::Global;
 
 /// A flag is one byte, 0 or 1.
@@ -33,22 +32,6 @@ pub(crate) fn take_ticket(fields: &mut Cursor<'_>) -> Result<Ticket, NoField>
     let levels = take_u8(fields)?;
     let reference = Ref { name, handle, len };
     Ok(Ticket { reference, levels })
-}
-
-#[tactic(auto, unfolding(crate::specs::Reading::candidate_at))]
-pub(crate) fn take_candidate(fields: &mut Cursor<'_>) -> Result<Candidate, NoField>
-    ensures { Takes result fields.new (candidate_at fields.old) }
-{
-    let peer = PeerId(take_u32(fields)?);
-    let got = take_u32(fields)?;
-    let of = take_u32(fields)?;
-    let hops = take_u32(fields)?;
-    Ok(Candidate {
-        peer,
-        got,
-        of,
-        hops,
-    })
 }
 
 /// What was read, where nothing stands behind it.

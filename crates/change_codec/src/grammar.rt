@@ -54,12 +54,6 @@ fn slots_listed(slots: &[u32]) -> bool
     slots_ascend(slots) && is_count(slots.len())
 }
 
-fn places_listed(places: &[u16]) -> bool
-    ensures { result ≡ numbers_listed places.now }
-{
-    places_ascend(places) && is_count(places.len())
-}
-
 /// Whether no object is listed twice.
 fn are_distinct(alloc: Global, objects: &[Object]) -> Result<bool, Memory>
     ensures { IfOk result (λ b. b ≡ objects_distinct objects.now) }
@@ -144,7 +138,10 @@ fn in_grammar(alloc: Global, change: &Change) -> Result<bool, Memory>
         Change::Passed(x) => objects_listed(alloc, x.objects.as_slice())?,
         Change::Failed(x) => objects_listed(alloc, x.objects.as_slice())?,
         Change::Discarded(x) => objects_listed(alloc, x.objects.as_slice())?,
-        Change::Declined(x) => places_listed(x.places.as_slice()),
+        Change::Declined(x) => {
+            let places = x.places.as_slice();
+            places_ascend(places) && is_count(places.len())
+        }
         Change::Chose(x) => is_count(x.candidates.as_slice().len()),
         Change::Forgot(_) | Change::Refused(_) | Change::Turned(_) => true,
     })

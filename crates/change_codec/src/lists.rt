@@ -5,10 +5,9 @@ ghost use Rattle.psb_model.specs.Heads.{candidate, counted};
 ghost use Rattle.change_codec.specs.Reading.{AnswersAt, counted_at};
 
 use crate::ChangeError;
-use crate::fields::take_candidate;
 use crate::writing::{put_bytes, put_peer, put_u8, put_u32};
 use byte_fields::{NoField, take_digest, take_object, take_u16, take_u32};
-use psb_bytes::{Cursor, Digest, Items, Memory, Object};
+use psb_bytes::{Cursor, Digest, Items, Memory, Object, PeerId};
 use psb_model::Candidate;
 use std::alloc::Global;
 
@@ -124,23 +123,23 @@ impl Item for Candidate {
 
     const LEAST: usize = 16;
 
+    #[tactic(auto, unfolding(crate::specs::Reading::candidate_at))]
     fn take(fields: &mut Cursor<'_>) -> Result<Candidate, NoField> {
-        take_candidate(fields)
+        Ok(Candidate {
+            peer: PeerId(take_u32(fields)?),
+            got: take_u32(fields)?,
+            of: take_u32(fields)?,
+            hops: take_u32(fields)?,
+        })
     }
 
     fn put(&self, out: &mut Vec<u8>) -> Result<(), Memory> {
-        put_candidate(out, *self)
+        put_peer(out, self.peer)?;
+        put_u32(out, self.got)?;
+        put_u32(out, self.of)?;
+        put_u32(out, self.hops)?;
+        Ok(())
     }
-}
-
-fn put_candidate(out: &mut Vec<u8>, x: Candidate) -> Result<(), Memory>
-    ensures { OnOk result (out.new.items ≡ out.old.items ++ candidate x) }
-{
-    put_peer(out, x.peer)?;
-    put_u32(out, x.got)?;
-    put_u32(out, x.of)?;
-    put_u32(out, x.hops)?;
-    Ok(())
 }
 
 /// The next `count` items. Room is taken for no more than the bytes can spell.

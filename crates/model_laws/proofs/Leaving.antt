@@ -22,7 +22,7 @@ use Rattle.psb_model.specs.Effects.{settle_move, all_rows_after, after, own_afte
 use Rattle.psb_model.proofs.ByObject.{by_cases}
 use Rattle.psb_model.proofs.Own.{name_same, wanted_less}
 use Rattle.psb_model.proofs.Steps.{parts, not_true}
-use Rattle.psb_model.proofs.Bare.{bare, bare_rows, bare_out, bare_debt, has_bare, changed, rows_then}
+use Rattle.psb_model.proofs.Bare.{changed, named_then}
 use Rattle.psb_model.proofs.Steady.{IsSteady, allows, is_kept, names_apart, filter_lacks, marks_has, marks_apart, row_names}
 use Rattle.psb_model.proofs.Lent.{lent}
 use Rattle.psb_model.proofs.Passing.{releases, quiet, row_lends, noted_lent}
@@ -40,17 +40,6 @@ named_still p f [] n g h = h
 named_still p f (x ∷ xs) n g h = by_cases (x.0 == p)
     (λ k. rw k (either_was (row_names x.1 n) (is_named xs n) (row_names (f x.1) n) (is_named xs n) h (rw k at g) (λ a. a)))
     (λ k. rw k (either_was (row_names x.1 n) (is_named xs n) (row_names x.1 n) (is_named (at_row p f xs) n) h (λ a. a) (λ a. named_still p f xs n (rw k at g) a)))
-
--- states of entries do not matter
-named_bare : (rows : List (ℕ × Row)) (n : List ℕ) → is_named (bare_rows rows) n ≡ is_named rows n
-named_bare [] n = refl
-named_bare (x ∷ xs) n =
-    ap (λ b. (b || has debt_key (bare x.1).debts (Chunk n) || name_listed (pending_name deal_name x.1.pending) n) || is_named (bare_rows xs) n) (has_bare out_key bare_out (λ e. refl) x.1.outs (Chunk n))
-    ∙ ap (λ b. (has out_key x.1.outs (Chunk n) || b || name_listed (pending_name deal_name x.1.pending) n) || is_named (bare_rows xs) n) (has_bare debt_key bare_debt (λ e. refl) x.1.debts (Chunk n))
-    ∙ ap (λ b. row_names x.1 n || b) (named_bare xs n)
-
-named_then : (s : State) (c : Change) (p : ℕ) (n : List ℕ) → peer_of c ≡ Some p → is_named (all_rows_after s c) n ≡ is_named (at_row p (changed s c) s.rows) n
-named_then s c p n peer = sym (named_bare (all_rows_after s c) n) ∙ ap (λ rows. is_named rows n) (rows_then s c p peer) ∙ named_bare (at_row p (changed s c) s.rows) n
 
 -- the row names as much where what is there or lost stays so, and as its pending deal does
 names_stay : (r r' : Row) (n : List ℕ) → (lent r (Chunk n) ≡ true → lent r' (Chunk n) ≡ true) → (name_listed (pending_name deal_name r.pending) n ≡ true → name_listed (pending_name deal_name r'.pending) n ≡ true) → row_names r n ≡ true → row_names r' n ≡ true

@@ -1,7 +1,6 @@
 -- Every lawful history links forwarded claims and the slots that carry them one to one.
 use Rattle.std.proofs.Common.{◌≡◌, inl, inr, ℕ, zero, suc, ◌+◌, ◌<◌, ◌≤◌, Bool, true, false, not, cond, List, [], ◌∷◌, map, filter, Option, Some, None, refl, sym, ap, ◌∙◌, subst, ⊎_elim, arith}
 use Rattle.std.specs.Prelude.{◌==◌}
-use Rattle.std.specs.List.{list_any}
 use Rattle.std.proofs.lemmas.Bool.{false≢true, eqb-true, eq-eqb}
 use Rattle.psb_bytes.specs.declared.ids.Object.{Object}
 use Rattle.psb_bytes.specs.declared.ids.Object.TheVariants.{Chunk, Slot}
@@ -19,7 +18,7 @@ use Rattle.psb_model.specs.declared.deals.DealWhat.TheVariants.{Fresh, Swap, Can
 use Rattle.psb_model.specs.declared.change.Change.{Change}
 use Rattle.psb_model.specs.declared.change.Change.TheVariants.{Begun, Kept, Snapped, Forgot, TookFresh, TookSwap, LetGo, LetGoBack, Replaced, Refused, Proposed, Settled, Turned, Asked, Passed, Failed, Declined, Discarded, Chose}
 use Rattle.psb_model.specs.Words.{In, all_of, listed, object_eq, units, has, slots, units_at, only}
-use Rattle.psb_model.specs.State.{Row, State, blank, nothing_yet, row, row_in, has_row, is_peer, at_row, in_key, out_key, out_size, debt_key, debt_units, own_len, in_ties, out_ties, ties_in, ties_out, tied_in}
+use Rattle.psb_model.specs.State.{Row, State, blank, nothing_yet, row, row_in, has_row, is_peer, at_row, in_key, out_key, out_size, debt_key, debt_units, own_len, in_ties, out_ties, ties_out, tied_in}
 use Rattle.psb_model.specs.Conditions.{settings_of_body, peer_of, is_own, is_direct, is_loose, own_state, declined_objects, is_pending, propose_tests, tests, allowed}
 use Rattle.psb_model.specs.Discards.{discards, one_in, seed}
 use Rattle.psb_model.specs.Move.{Move, still, after_move}
@@ -29,7 +28,7 @@ use Rattle.psb_digest.specs.Words.{own_word}
 use Rattle.psb_model.proofs.ByObject.{by_cases, object_eq-same, object_eq-swap}
 use Rattle.psb_model.proofs.Parts.{each-listed, each_slot-listed}
 use Rattle.psb_model.proofs.Standing.{in_filter, picks_in, same_objects-same}
-use Rattle.psb_model.proofs.Steps.{parts, not_true, in_passes}
+use Rattle.psb_model.proofs.Steps.{parts, not_true, in_passes, tie_shows, unless}
 use Rattle.psb_model.proofs.Alone.{cancel_ties}
 use Rattle.psb_model.proofs.Rows.{has_row-at_row, note_lists, row_in-first_rows}
 use Rattle.psb_model.proofs.Balance.{Good, good_after, good_nothing, good_state}
@@ -80,23 +79,6 @@ ends_pending s c p e here h q d is =
     absurd (cc (wrong)))
     (λ k. let same : (row_in (all_rows_after s c) q).pending ≡ (row s q).pending = pending_is s c p q e here ∙ rw k refl in
     (k, sym same ∙ is))
-
--- what the pending deal of p ties is tied
-tie_shows : (rows : List (ℕ × Row)) (p q : ℕ) (d : Deal) (o : Object) → (row_in rows p).pending ≡ Some d → listed (in_ties p d.what q) o ≡ true → list_any (λ (x : ℕ × Row). ties_in x.0 x.1.pending q o) rows ≡ true
-tie_shows [] p q d o e h = absurd (cc (e))
-tie_shows (x ∷ xs) p q d o e h =
-    by_cases (x.0 == p)
-    (λ k. let e' = rw k at e in
-    let same : x.0 ≡ p = eqb-true x.0 p k in
-    let here : ties_in x.0 x.1.pending q o ≡ true = ap (λ y. ties_in x.0 y q o) e' ∙ (ap (λ y. listed (in_ties y d.what q) o) same ∙ h) in
-    rw here refl)
-    (λ k. let e' = rw k at e in
-    by_cases (ties_in x.0 x.1.pending q o) (λ j. rw j refl) (λ j. rw (j, tie_shows xs p q d o e' h) refl))
-
--- if a then not b, so if b then not a
-unless : (a b : Bool) → (a ≡ true → not b ≡ true) → b ≡ true → a ≡ false
-unless true b f h = absurd (false≢true (sym (not_true b (f refl)) ∙ h))
-unless false b f h = refl
 
 -- nothing that a pending deal ties in in(p) is struck, and nothing that the one with p ties in out(p) goes
 abbrev SparesIns : State → ℕ → List Object → Type 0

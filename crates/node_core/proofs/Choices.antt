@@ -25,8 +25,10 @@ use Rattle.psb_machine.specs.declared.question.Question.{Question}
 use Rattle.psb_model.proofs.ByObject.{by_cases}
 use Rattle.psb_machine.specs.Letters.{Letter as MachineLetter, key_of_row, spelled, all_spelled}
 use Rattle.psb_machine.specs.Proposals.{Offer}
+use Rattle.probe.specs.Deadlines.{is_late}
+use Rattle.psb_machine.specs.OwnProbes.{Run}
 use Rattle.psb_machine.specs.Volatile.{Volatile, PeerState as MachineState, of_peer, later}
-use Rattle.psb_machine.specs.Machine.{Situation, Rule, passes, ends_with, then_by, by_late, run_at, choice_at, choice_of, by_choice, by_offer, offer_at, on_tick, sample_of as machine_sample}
+use Rattle.psb_machine.specs.Machine.{Situation, Rule, passes, ends_with, then_by, by_late, by_due, run_at, rules, choice_at, choice_of, by_choice, by_offer, offer_at, on_tick, sample_of as machine_sample}
 use Rattle.psb_machine.proofs.Choosing.{choice_cases, choice_may, found_asked, found_distinct, found_few, open_is}
 use Rattle.psb_machine.proofs.Peers.{settings_read}
 use Rattle.peer_states.specs.declared.peer_state.PeerState.{PeerState}
@@ -37,11 +39,11 @@ use Rattle.node_letters.specs.Peers.{PeersView, peers_of}
 use Rattle.node_core.specs.declared.reaction.Reaction.{Reaction}
 use Rattle.peer_states.specs.PeerStates.{state_of, sample_of, KnowsStates}
 use Rattle.node_core.specs.declared.reaction.Asking.{Asking}
-use Rattle.node_core.specs.Ticking.{IsRule, asked_at, Asks, Follows, FollowsSo, OffersDeal, OffersDealSo}
+use Rattle.node_core.specs.Ticking.{IsRule, by_failure, asked_at, Asks, Follows, FollowsSo, OffersDeal, OffersDealSo}
 use Rattle.node_core.specs.Making.{MayMake}
 use Rattle.node_core.specs.Reacting.{MayFollow, MayCome, IsSame}
 use Rattle.node_core.specs.Stored.{Knows}
-use Rattle.own_probes.proofs.Reactions.{late_ends, late_passes}
+use Rattle.node_core.proofs.Failing.{failure_ends, failure_passes}
 use Rattle.node_core.proofs.Heard.{none_spelled}
 use Rattle.node_core.proofs.Ticking.{has_key, spelled_with}
 use Rattle.node_core.proofs.Committing.{same_knows, may_follow}
@@ -229,59 +231,63 @@ spelled_joined (Some settings) a b = map_joined a
 
 -- ---- what comes of a tick
 
--- the rules behind a choice, and behind the end of a late probe
+-- the rules behind a choice, and behind what failures come to
 abbrev pub after_choice : Settings → Situation → ℕ → Rule
 after_choice settings n p = then_by (by_offer settings n.history p (offer_at settings n p)) (asked_at settings n p)
 
-abbrev pub after_late : Settings → Situation → ℕ → Rule
-after_late settings n p = then_by (by_choice (choice_at settings n p)) (after_choice settings n p)
+abbrev pub after_failure : Settings → Situation → ℕ → Rule
+after_failure settings n p = then_by (by_choice (choice_at settings n p)) (after_choice settings n p)
 
--- what a late probe comes to at this tick
-abbrev pub late_rule : Situation → ℕ → Rule
-late_rule n p = by_late p (later (of_peer n.volatile p).clock) (run_at n p)
+-- two rules, the first of which is the end of a late probe, before any others
+late_first : (p clock : ℕ) (o : Option Run) (due rest : Rule) → then_by (by_late p clock o) (then_by due rest) ≡ then_by (then_by (by_late p clock o) due) rest
+late_first p clock None due rest = refl
+late_first p clock (Some r) due rest = by_cases (is_late r.began clock) (λ k. rw k refl) (λ k. rw k refl)
 
--- a probe that is late
-pub late_follows : {L : Type 0} (r : Reaction) (node : Node L) (n : Situation) (p : ℕ) (x : PeerState) (c : Change) → Knows node n → state_of node.states.items p ≡ Some x → Some c ≡ (late_rule n p).grown → r.change ≡ Some c → r.dropped ≡ None → r.out ≡ [] → Follows r n p
-late_follows r node n p x c k found late change dropped out =
+failure_first : (settings : Settings) (n : Situation) (p : ℕ) → rules settings n p ≡ then_by (by_failure n p) (after_failure settings n p)
+failure_first settings n p = late_first p (later (of_peer n.volatile p).clock) (run_at n p) (by_due (state n.history) p) (after_failure settings n p)
+
+-- a failure that makes a change
+pub failure_follows : {L : Type 0} (r : Reaction) (node : Node L) (n : Situation) (p : ℕ) (x : PeerState) (c : Change) → Knows node n → state_of node.states.items p ≡ Some x → Some c ≡ (by_failure n p).grown → r.change ≡ Some c → r.dropped ≡ None → r.out ≡ [] → Follows r n p
+failure_follows r node n p x c k found failed change dropped out =
     let settings = k.settings.settings in
     let h = has_key node n p x k found in
-    subst (λ (m : Rule). IsRule r n m) (sym (h.follows ∙ ap (λ (m : Rule). then_by m (after_late settings n p)) (late_ends p (later (of_peer n.volatile p).clock) (run_at n p) c (sym late)))) (record {
+    subst (λ (m : Rule). IsRule r n m) (sym (h.follows ∙ failure_first settings n p ∙ ap (λ (m : Rule). then_by m (after_failure settings n p)) (failure_ends n p c (sym failed)))) (record {
       change = change;
       letters = ap letters_of out ∙ none_spelled (state n.history).settings;
       dropped = dropped;
     })
 
--- none is late: the rules behind it
-no_late : {L : Type 0} (node : Node L) (n : Situation) (p : ℕ) (x : PeerState) (k : Knows node n) → state_of node.states.items p ≡ Some x → None ≡ (late_rule n p).grown → on_tick (state n.history).settings n p ≡ after_late k.settings.settings n p
-no_late node n p x k found late =
+-- there is none: the rules behind it
+no_failure : {L : Type 0} (node : Node L) (n : Situation) (p : ℕ) (x : PeerState) (k : Knows node n) → state_of node.states.items p ≡ Some x → None ≡ (by_failure n p).grown → on_tick (state n.history).settings n p ≡ after_failure k.settings.settings n p
+no_failure node n p x k found failed =
     let settings = k.settings.settings in
     let h = has_key node n p x k found in
-    h.follows ∙ ap (λ (m : Rule). then_by m (after_late settings n p)) (late_passes p (later (of_peer n.volatile p).clock) (run_at n p) (sym late))
+    h.follows ∙ failure_first settings n p ∙ ap (λ (m : Rule). then_by m (after_failure settings n p)) (failure_passes n p (sym failed))
 
 by_choice_none : (o : Option (List Candidate)) → None ≡ option_map choice_of o → o ≡ None
 by_choice_none None is = refl
 by_choice_none (Some cs) is = absurd (cc (is))
 
 -- a choice
-pub choice_follows : {L : Type 0} (r : Reaction) (node : Node L) (n : Situation) (p : ℕ) (x : PeerState) (c : Change) → Knows node n → state_of node.states.items p ≡ Some x → None ≡ (late_rule n p).grown
+pub choice_follows : {L : Type 0} (r : Reaction) (node : Node L) (n : Situation) (p : ℕ) (x : PeerState) (c : Change) → Knows node n → state_of node.states.items p ≡ Some x → None ≡ (by_failure n p).grown
     → ((n : Situation) (settings : Settings) → Knows node n → (state n.history).settings ≡ Some settings → Some c ≡ option_map choice_of (choice_at settings n p))
     → r.change ≡ Some c → r.dropped ≡ None → r.out ≡ [] → Follows r n p
-choice_follows r node n p x c k found late choice change dropped out =
+choice_follows r node n p x c k found failed choice change dropped out =
     let settings = k.settings.settings in
     by_choice_made (choice_at settings n p) c (choice n settings k k.settings.present) (λ cs is same.
-    subst (λ (m : Rule). IsRule r n m) (sym (no_late node n p x k found late ∙ ap (λ (o : Option (List Candidate)). then_by (by_choice o) (after_choice settings n p)) is)) (record {
+    subst (λ (m : Rule). IsRule r n m) (sym (no_failure node n p x k found failed ∙ ap (λ (o : Option (List Candidate)). then_by (by_choice o) (after_choice settings n p)) is)) (record {
       change = change ∙ ap (λ (d : Change). Some d) same;
       letters = ap letters_of out ∙ none_spelled (state n.history).settings;
       dropped = dropped;
     }))
 
 -- no choice: the rule of the deal, and behind it what is asked
-no_choice : {L : Type 0} (node : Node L) (n : Situation) (p : ℕ) (x : PeerState) (k : Knows node n) → state_of node.states.items p ≡ Some x → None ≡ (late_rule n p).grown
+no_choice : {L : Type 0} (node : Node L) (n : Situation) (p : ℕ) (x : PeerState) (k : Knows node n) → state_of node.states.items p ≡ Some x → None ≡ (by_failure n p).grown
     → ((n : Situation) (settings : Settings) → Knows node n → (state n.history).settings ≡ Some settings → None ≡ option_map choice_of (choice_at settings n p))
     → on_tick (state n.history).settings n p ≡ after_choice k.settings.settings n p
-no_choice node n p x k found late choice =
+no_choice node n p x k found failed choice =
     let settings = k.settings.settings in
-    no_late node n p x k found late
+    no_failure node n p x k found failed
     ∙ ap (λ (o : Option (List Candidate)). then_by (by_choice o) (after_choice settings n p)) (by_choice_none (choice_at settings n p) (choice n settings k k.settings.present))
 
 -- a rule that makes a change is the last, and one that makes none is not
@@ -312,33 +318,33 @@ went_on : (a b : Rule) → a.goes_on ≡ true → then_by a b ≡ record { grown
 went_on a b goes = ap (λ (t : Bool). cond t (record { grown = b.grown; letters = a.letters ++ b.letters; goes_on = b.goes_on }) a) goes
 
 -- the deal, where it makes a change
-deal_alone : {L : Type 0} (r : Reaction) (node : Node L) (n : Situation) (p : ℕ) (x : PeerState) (k : Knows node n) → state_of node.states.items p ≡ Some x → None ≡ (late_rule n p).grown
+deal_alone : {L : Type 0} (r : Reaction) (node : Node L) (n : Situation) (p : ℕ) (x : PeerState) (k : Knows node n) → state_of node.states.items p ≡ Some x → None ≡ (by_failure n p).grown
     → ((n : Situation) (settings : Settings) → Knows node n → (state n.history).settings ≡ Some settings → None ≡ option_map choice_of (choice_at settings n p))
     → is_some r.change ≡ true → r.change ≡ (by_offer k.settings.settings n.history p (offer_at k.settings.settings n p)).grown
     → on_tick (state n.history).settings n p ≡ by_offer k.settings.settings n.history p (offer_at k.settings.settings n p)
-deal_alone r node n p x k found late choice made change =
+deal_alone r node n p x k found failed choice made change =
     let settings = k.settings.settings in
     let offered = by_offer settings n.history p (offer_at settings n p) in
     let c = some_change r.change made in
-    no_choice node n p x k found late choice ∙ stopped offered (asked_at settings n p) (offer_ends settings n.history p (offer_at settings n p) c.0 (sym change ∙ c.1))
+    no_choice node n p x k found failed choice ∙ stopped offered (asked_at settings n p) (offer_ends settings n.history p (offer_at settings n p) c.0 (sym change ∙ c.1))
 
-pub deal_follows : {L : Type 0} (r : Reaction) (node : Node L) (n : Situation) (p : ℕ) (x : PeerState) → Knows node n → state_of node.states.items p ≡ Some x → None ≡ (late_rule n p).grown
+pub deal_follows : {L : Type 0} (r : Reaction) (node : Node L) (n : Situation) (p : ℕ) (x : PeerState) → Knows node n → state_of node.states.items p ≡ Some x → None ≡ (by_failure n p).grown
     → ((n : Situation) (settings : Settings) → Knows node n → (state n.history).settings ≡ Some settings → None ≡ option_map choice_of (choice_at settings n p))
     → is_some r.change ≡ true → OffersDeal r node n p → Follows r n p
-deal_follows r node n p x k found late choice made offers =
+deal_follows r node n p x k found failed choice made offers =
     let h = has_key node n p x k found in
     let it = offers k.settings.settings h.key k.settings.present h.here in
-    subst (λ (m : Rule). IsRule r n m) (sym (deal_alone r node n p x k found late choice made it.change)) it
+    subst (λ (m : Rule). IsRule r n m) (sym (deal_alone r node n p x k found failed choice made it.change)) it
 
-pub deal_follows_so : {L : Type 0} (r : Reaction) (node : Node L) (n : Situation) (p : ℕ) (x : PeerState) → Knows node n → state_of node.states.items p ≡ Some x → None ≡ (late_rule n p).grown
+pub deal_follows_so : {L : Type 0} (r : Reaction) (node : Node L) (n : Situation) (p : ℕ) (x : PeerState) → Knows node n → state_of node.states.items p ≡ Some x → None ≡ (by_failure n p).grown
     → ((n : Situation) (settings : Settings) → Knows node n → (state n.history).settings ≡ Some settings → None ≡ option_map choice_of (choice_at settings n p))
     → is_some r.change ≡ true → OffersDealSo r n p → FollowsSo r n p
-deal_follows_so r node n p x k found late choice made offers =
+deal_follows_so r node n p x k found failed choice made offers =
     let it = offers k.settings.settings k.settings.present in
-    (it.0 ∙ sym (ap (λ (m : Rule). m.grown) (deal_alone r node n p x k found late choice made it.0)), it.1)
+    (it.0 ∙ sym (ap (λ (m : Rule). m.grown) (deal_alone r node n p x k found failed choice made it.0)), it.1)
 
 -- and what is asked, where it makes none
-deal_passes : {L : Type 0} (r : Reaction) (node : Node L) (n : Situation) (p : ℕ) (x : PeerState) (k : Knows node n) → state_of node.states.items p ≡ Some x → None ≡ (late_rule n p).grown
+deal_passes : {L : Type 0} (r : Reaction) (node : Node L) (n : Situation) (p : ℕ) (x : PeerState) (k : Knows node n) → state_of node.states.items p ≡ Some x → None ≡ (by_failure n p).grown
     → ((n : Situation) (settings : Settings) → Knows node n → (state n.history).settings ≡ Some settings → None ≡ option_map choice_of (choice_at settings n p))
     → is_some r.change ≡ false → r.change ≡ (by_offer k.settings.settings n.history p (offer_at k.settings.settings n p)).grown
     → on_tick (state n.history).settings n p ≡ record {
@@ -346,21 +352,21 @@ deal_passes : {L : Type 0} (r : Reaction) (node : Node L) (n : Situation) (p : �
       letters = (by_offer k.settings.settings n.history p (offer_at k.settings.settings n p)).letters ++ (asked_at k.settings.settings n p).letters;
       goes_on = (asked_at k.settings.settings n p).goes_on;
     }
-deal_passes r node n p x k found late choice none change =
+deal_passes r node n p x k found failed choice none change =
     let settings = k.settings.settings in
     let offered = by_offer settings n.history p (offer_at settings n p) in
-    no_choice node n p x k found late choice ∙ went_on offered (asked_at settings n p) (offer_goes_on settings n.history p (offer_at settings n p) (sym change ∙ not_some r.change none))
+    no_choice node n p x k found failed choice ∙ went_on offered (asked_at settings n p) (offer_goes_on settings n.history p (offer_at settings n p) (sym change ∙ not_some r.change none))
 
-pub asking_follows : {L : Type 0} (r q : Reaction) (node : Node L) (n : Situation) (p : ℕ) (x : PeerState) (a : Asking) → Knows node n → state_of node.states.items p ≡ Some x → None ≡ (late_rule n p).grown
+pub asking_follows : {L : Type 0} (r q : Reaction) (node : Node L) (n : Situation) (p : ℕ) (x : PeerState) (a : Asking) → Knows node n → state_of node.states.items p ≡ Some x → None ≡ (by_failure n p).grown
     → ((n : Situation) (settings : Settings) → Knows node n → (state n.history).settings ≡ Some settings → None ≡ option_map choice_of (choice_at settings n p))
     → is_some r.change ≡ false → q.change ≡ a.change → q.dropped ≡ r.dropped → q.out ≡ r.out ++ option_to_list a.letter → Asks a node n p → OffersDeal r node n p → Follows q n p
-asking_follows r q node n p x a k found late choice none change dropped out asks offers =
+asking_follows r q node n p x a k found failed choice none change dropped out asks offers =
     let settings = k.settings.settings in
     let h = has_key node n p x k found in
     let offered = by_offer settings n.history p (offer_at settings n p) in
     let it = offers settings h.key k.settings.present h.here in
     let asked = asks settings h.key k.settings.present h.here in
-    subst (λ (m : Rule). IsRule q n m) (sym (deal_passes r node n p x k found late choice none it.change)) (record {
+    subst (λ (m : Rule). IsRule q n m) (sym (deal_passes r node n p x k found failed choice none it.change)) (record {
       change = change ∙ asked.change;
       letters =
           ap letters_of out
@@ -371,15 +377,15 @@ asking_follows r q node n p x a k found late choice none change dropped out asks
       dropped = dropped ∙ it.dropped;
     })
 
-pub asking_follows_so : {L : Type 0} (r q : Reaction) (node : Node L) (n : Situation) (p : ℕ) (x : PeerState) (a : Asking) → Knows node n → state_of node.states.items p ≡ Some x → None ≡ (late_rule n p).grown
+pub asking_follows_so : {L : Type 0} (r q : Reaction) (node : Node L) (n : Situation) (p : ℕ) (x : PeerState) (a : Asking) → Knows node n → state_of node.states.items p ≡ Some x → None ≡ (by_failure n p).grown
     → ((n : Situation) (settings : Settings) → Knows node n → (state n.history).settings ≡ Some settings → None ≡ option_map choice_of (choice_at settings n p))
     → is_some r.change ≡ false → q.change ≡ a.change → q.dropped ≡ r.dropped → Asks a node n p → OffersDealSo r n p → FollowsSo q n p
-asking_follows_so r q node n p x a k found late choice none change dropped asks offers =
+asking_follows_so r q node n p x a k found failed choice none change dropped asks offers =
     let settings = k.settings.settings in
     let h = has_key node n p x k found in
     let it = offers settings k.settings.present in
     let asked = asks settings h.key k.settings.present h.here in
-    (change ∙ asked.change ∙ sym (ap (λ (m : Rule). m.grown) (deal_passes r node n p x k found late choice none it.0)), dropped ∙ it.1)
+    (change ∙ asked.change ∙ sym (ap (λ (m : Rule). m.grown) (deal_passes r node n p x k found failed choice none it.0)), dropped ∙ it.1)
 
 -- ---- the question
 

@@ -1,15 +1,15 @@
 -- The change that a fresh deal makes may be made, and its record is short enough.
-use Rattle.std.proofs.Common.{◌≡◌, ℕ, ◌+◌, ◌*◌, ◌<◌, ◌≤◌, ◌^◌, Bool, true, false, not, ◌==◌, cond, List, [], ◌∷◌, ◌++◌, length, is_some, Option, Some, None, refl, arith, length-append}
+use Rattle.std.proofs.Common.{◌≡◌, ℕ, ◌+◌, ◌*◌, ◌<◌, ◌≤◌, ◌^◌, Bool, true, false, not, cond, List, [], ◌∷◌, ◌++◌, length, is_some, Option, Some, None, refl, arith, length-append}
 use Rattle.std.specs.Int.{to_be_bytes, w32, w64}
-use Rattle.std.specs.List.{list_all, flat_map}
+use Rattle.std.specs.List.{flat_map}
 use Rattle.std.specs.Option.{unwrap_or}
-use Rattle.std.proofs.lemmas.Bool.{and_parts, eqb-true, ltb-true}
+use Rattle.std.proofs.lemmas.Bool.{ltb-true}
 use Rattle.std.proofs.lemmas.List.{length-map}
 use Rattle.psb_bytes.specs.declared.lists.SlotClaim.{SlotClaim}
 use Rattle.psb_settings.specs.declared.settings.Settings.{Settings}
 use Rattle.psb_model.specs.State.{State, is_held, is_peer}
 use Rattle.psb_model.specs.Heads.{head_of, body_of}
-use Rattle.psb_model.specs.Grammar.{is_u8, is_digest}
+use Rattle.psb_model.proofs.Lengths.{digest_long}
 use Rattle.psb_model.specs.Conditions.{is_next_deal}
 use Rattle.psb_model.specs.History.{state}
 use Rattle.psb_model.specs.Needed.{IsValid}
@@ -20,6 +20,7 @@ use Rattle.psb_machine.specs.Judging.{DealFits, IsShort, reasons_at, taken_at, j
 use Rattle.psb_machine.specs.declared.deals.Refusal.{Refusal}
 use Rattle.psb_machine.proofs.Taken.{MayTake, IsNext as IsNextDeal, deal_may, joined_long}
 use Rattle.psb_machine.proofs.Valid.{allows_refused, codes_are}
+use Rattle.own_offers.proofs.Lengths.{slots_long}
 use Rattle.node_core.specs.Making.{CanTell}
 
 -- the sender, the number and the name of a deal, as a head has them
@@ -28,13 +29,6 @@ front_long p deal name is =
     let a = to_be_bytes w32 p in
     let b = to_be_bytes w64 deal in
     omega (arith, is, length-append (a ++ b) name, length-append a b)
-
-numbers_long : (numbers : List ℕ) → length (flat_map (to_be_bytes w32) numbers) ≡ 4 * length numbers
-numbers_long [] = refl
-numbers_long (n ∷ ns) = omega (arith, numbers_long ns, length-append (to_be_bytes w32 n) (flat_map (to_be_bytes w32) ns))
-
-pub slots_long : (numbers : List ℕ) → length (to_be_bytes w32 (length numbers) ++ flat_map (to_be_bytes w32) numbers) ≡ 4 + 4 * length numbers
-slots_long numbers = omega (arith, numbers_long numbers, length-append (to_be_bytes w32 (length numbers)) (flat_map (to_be_bytes w32) numbers))
 
 fresh_long : (p deal first len : ℕ) (name : List ℕ) (new : Bool) (body : Option (List ℕ)) → length name ≡ 32 → length (head_of (TookFresh (record { peer = p; deal = deal; name = name; first = first; len = len; new = new; body = body }))) ≡ 54
 fresh_long p deal first len name new body is =
@@ -64,9 +58,6 @@ refused_long p deal why detail =
 pub body_short : (new : Bool) (bytes : List ℕ) → length (cond new bytes []) ≤ length bytes
 body_short true bytes = omega arith
 body_short false bytes = omega arith
-
-digest_long : (name : List ℕ) → is_digest name ≡ true → length name ≡ 32
-digest_long name fits = eqb-true (length name) 32 (and_parts (length name == 32) (list_all is_u8 name) fits).0
 
 -- the change that takes a deal has its body, and its record is no longer than a record may be
 pub record IsRecordable (c : Change) : Type 0 where

@@ -72,7 +72,8 @@ use Rattle.node_core.specs.Stored.{Knows, Stored}
 use Rattle.node_core.specs.Unread.{IsUnreadMessage}
 use Rattle.node_facts.proofs.Again.{answer_is}
 use Rattle.node_facts.proofs.Compared.{meets_less}
-use Rattle.node_core.proofs.Dealt.{IsRecordable, can_judge, fits_short, number_fits, slots_long}
+use Rattle.own_offers.proofs.Lengths.{slots_long}
+use Rattle.node_core.proofs.Dealt.{IsRecordable, can_judge, fits_short, number_fits}
 use Rattle.node_core.proofs.Heard.{none_spelled, keyed_in, peer_of}
 use Rattle.node_core.proofs.Committing.{may_follow}
 

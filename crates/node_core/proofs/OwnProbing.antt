@@ -1,5 +1,5 @@
 -- The node's own probes, and what comes of an answer, are the machine's.
-use Rattle.std.proofs.Common.{◌≡◌, ℕ, ◌+◌, ◌<◌, ◌≤◌, ◌^◌, Bool, true, false, cond, if◌then◌else◌, ◌==◌, List, [], ◌∷◌, ◌++◌, length, map, is_some, option_map, option_to_list, Option, Some, None, IfSome, refl, sym, ◌∙◌, ap, subst, arith}
+use Rattle.std.proofs.Common.{◌≡◌, ℕ, ◌+◌, ◌<◌, ◌≤◌, ◌^◌, Bool, true, false, cond, if◌then◌else◌, ◌==◌, List, [], ◌∷◌, ◌++◌, length, map, is_some, unwrap_or, option_map, option_to_list, Option, Some, None, IfSome, refl, sym, ◌∙◌, ap, subst, arith}
 use Rattle.std.specs.Prelude.{replicate}
 use Rattle.std.specs.List.{list_all}
 use Rattle.std.proofs.lemmas.Bool.{and_parts, eqb-true, leb-true, lt-ltb, false≢true}
@@ -7,6 +7,7 @@ use Rattle.psb_bytes.specs.declared.ids.Object.{Object}
 use Rattle.psb_settings.specs.declared.settings.Settings.{Settings}
 use Rattle.psb_station.proofs.Spans.{same_some}
 use Rattle.psb_model.specs.State.{State, row, is_peer}
+use Rattle.psb_model.specs.Heads.{head_of, body_of}
 use Rattle.psb_model.specs.Grammar.{is_u8, is_u32, is_digest, object_fits}
 use Rattle.psb_model.specs.History.{state}
 use Rattle.psb_model.specs.Needed.{IsValid}
@@ -77,13 +78,18 @@ late_known node p x run o found runs is n k =
 
 -- ---- what may come next
 
--- a change of a probe that may be taken
-record Comes (n : Situation) (c : Change) : Type 0 where
-  take : MayTake (state n.history) c
-  brief : IsBrief c
-  none : deal_proposed c ≡ None
+-- a change that proposes no deal and may be taken, with a record that is short enough
+pub record Comes (n : Situation) (c : Change) : Type 0 where
+  pub take : MayTake (state n.history) c
+  pub there : is_some (body_of c) ≡ true
+  pub short : length (head_of c) + length (unwrap_or (body_of c) []) ≤ 67108864
+  pub none : deal_proposed c ≡ None
 
-may_come : {L : Type 0} (node : Node L) (c : Change) → (n : Situation) × Knows node n → node.ledger.state.changes < 2 ^ 62 → ((n : Situation) → Knows node n → Comes n c) → MayCome Knows node c
+-- so is one of a probe
+brief_comes : (n : Situation) (c : Change) → MayTake (state n.history) c → IsBrief c → deal_proposed c ≡ None → Comes n c
+brief_comes n c take brief none = record { take = take; there = brief.there; short = omega (arith, brief.short); none = none }
+
+pub may_come : {L : Type 0} (node : Node L) (c : Change) → (n : Situation) × Knows node n → node.ledger.state.changes < 2 ^ 62 → ((n : Situation) → Knows node n → Comes n c) → MayCome Knows node c
 may_come node c known few comes = (
   subst (λ (s : State). MayMake s c) (sym known.1.ledger) (makes known.0 known.1 (comes known.0 known.1)),
   λ n k. let it = comes n k in may_follow n c it.none (valid_snoc n.history c k.valid it.take.grammar it.take.may it.take.widths it.take.brings),
@@ -94,20 +100,20 @@ may_come node c known few comes = (
       grammar = it.take.grammar;
       may = it.take.may;
       few = subst (λ (s : State). s.changes < 2 ^ 62) k.ledger few;
-      there = it.brief.there;
-      short = omega (arith, it.brief.short);
+      there = it.there;
+      short = it.short;
     }
 
 -- its peer
-record IsOf (n : Situation) (p : ℕ) : Type 0 where
-  peer : is_peer (state n.history) p ≡ true
-  fits : is_u32 p ≡ true
-  room : (state n.history).changes ≤ 2 ^ 64
+pub record IsOf (n : Situation) (p : ℕ) : Type 0 where
+  pub peer : is_peer (state n.history) p ≡ true
+  pub fits : is_u32 p ≡ true
+  pub room : (state n.history).changes ≤ 2 ^ 64
 
 few_room : {L : Type 0} (node : Node L) (n : Situation) → Knows node n → node.ledger.state.changes < 2 ^ 62 → (state n.history).changes ≤ 2 ^ 64
 few_room node n k few = omega (arith, few, ap (λ (s : State). s.changes) k.ledger)
 
-ticked_of : {L : Type 0} (node : Node L) (n : Situation) (p : ℕ) (x : PeerState) → Knows node n → state_of node.states.items p ≡ Some x → p < 2 ^ 32 → node.ledger.state.changes < 2 ^ 62 → IsOf n p
+pub ticked_of : {L : Type 0} (node : Node L) (n : Situation) (p : ℕ) (x : PeerState) → Knows node n → state_of node.states.items p ≡ Some x → p < 2 ^ 32 → node.ledger.state.changes < 2 ^ 62 → IsOf n p
 ticked_of node n p x k found small few =
     let h = has_key node n p x k found in
     record { peer = keyed_is_peer n.history k.settings.settings p h.key k.settings.present h.keyed; fits = lt-ltb p (2 ^ 32) small; room = few_room node n k few }
@@ -116,11 +122,7 @@ silent_comes : {L : Type 0} (node : Node L) (n : Situation) (p clock : ℕ) (c :
 silent_comes node n p clock c k of is =
     late_by p clock (run_at n p) c is (λ r run same.
     let a = asked_is n.history p r.asked r.objects k.valid (run_open n p r run) in
-    subst (Comes n) (sym same) (record {
-      take = silent_may n p r k.valid k.untied of.peer of.fits (number_within n.history p r k.valid of.room (run_open n p r run)) run;
-      brief = failed_brief p r.asked 0 (replicate 32 0) r.objects refl a.fit a.few;
-      none = refl;
-    }))
+    subst (Comes n) (sym same) (brief_comes n _ (silent_may n p r k.valid k.untied of.peer of.fits (number_within n.history p r k.valid of.room (run_open n p r run)) run) (failed_brief p r.asked 0 (replicate 32 0) r.objects refl a.fit a.few) refl))
 
 pub late_may_come : {L : Type 0} (node : Node L) (p : ℕ) (x : PeerState) (o : Option Change) → p < 2 ^ 32 → node.ledger.state.changes < 2 ^ 62 → (n : Situation) × Knows node n → state_of node.states.items p ≡ Some x
     → ((n : Situation) → Knows node n → o ≡ (by_late p (later (of_peer n.volatile p).clock) (run_at n p)).grown) → IfSome o (MayCome Knows node)
@@ -133,18 +135,10 @@ outcome_comes node n p value r right k of digest run = by_right right
     by_right : (b : Bool) → Comes n (outcome_by p value r b)
     by_right true =
         let a = asked_is n.history p r.asked r.objects k.valid (run_open n p r run) in
-        record {
-          take = passed_may n p r k.valid k.untied of.peer of.fits (number_within n.history p r k.valid of.room (run_open n p r run)) run;
-          brief = passed_brief p r.asked r.objects a.fit a.few;
-          none = refl;
-        }
+        brief_comes n _ (passed_may n p r k.valid k.untied of.peer of.fits (number_within n.history p r k.valid of.room (run_open n p r run)) run) (passed_brief p r.asked r.objects a.fit a.few) refl
     by_right false =
         let a = asked_is n.history p r.asked r.objects k.valid (run_open n p r run) in
-        record {
-          take = wrong_may n p value r k.valid k.untied of.peer of.fits (number_within n.history p r k.valid of.room (run_open n p r run)) digest run;
-          brief = failed_brief p r.asked 1 value r.objects (eqb-true (length value) 32 (and_parts (length value == 32) (list_all is_u8 value) digest).0) a.fit a.few;
-          none = refl;
-        }
+        brief_comes n _ (wrong_may n p value r k.valid k.untied of.peer of.fits (number_within n.history p r k.valid of.room (run_open n p r run)) digest run) (failed_brief p r.asked 1 value r.objects (eqb-true (length value) 32 (and_parts (length value == 32) (list_all is_u8 value) digest).0) a.fit a.few) refl
 
 heard_of : {L : Type 0} (node : Node L) (n : Situation) (from : Sender) → Knows node n → key_in node.peers.keys from.peer ≡ Some from.key → is_u32 from.peer ≡ true → node.ledger.state.changes < 2 ^ 62 → IsOf n from.peer
 heard_of node n from k keyed fits few = record { peer = peer_of node n from.peer from.key k keyed; fits = fits; room = few_room node n k few }
@@ -164,11 +158,7 @@ declined_comes : {L : Type 0} (node : Node L) (n : Situation) (settings : Settin
     → (by_declined settings (sender_in from) nonce places (run_at n from.peer)).grown ≡ Some c → Comes n c
 declined_comes node n settings from nonce places c k of spelled is =
     declines_by settings (sender_in from) nonce places (run_at n from.peer) c is (λ r run theirs same.
-    subst (Comes n) (sym same) (record {
-      take = declined_may n from.peer places r k.valid k.untied of.peer of.fits (number_within n.history from.peer r k.valid of.room (run_open n from.peer r run)) spelled theirs run;
-      brief = declined_brief from.peer r.asked places (places_few places spelled);
-      none = refl;
-    }))
+    subst (Comes n) (sym same) (brief_comes n _ (declined_may n from.peer places r k.valid k.untied of.peer of.fits (number_within n.history from.peer r k.valid of.room (run_open n from.peer r run)) spelled theirs run) (declined_brief from.peer r.asked places (places_few places spelled)) refl))
 
 pub declined_may_come : {L : Type 0} (node : Node L) (settings : Settings) (from : Sender) (nonce places : List ℕ) (o : Option Change) → (n : Situation) × Knows node n → node.ledger.state.changes < 2 ^ 62 → Heard node.peers.keys from (Declines nonce places)
     → ((n : Situation) → Knows node n → o ≡ (by_declined settings (sender_in from) nonce places (run_at n from.peer)).grown) → IfSome o (MayCome Knows node)
@@ -181,11 +171,7 @@ begun_comes : {L : Type 0} (node : Node L) (n : Situation) (settings : Settings)
 begun_comes node n settings p c k of is =
     run_by settings.seed (state n.history) p (of_peer n.volatile p) (run_at n p) c is (λ o os drawn.
     let m = asked_may n.history settings p o os k.valid of.peer of.fits drawn.0 in
-    subst (Comes n) (sym drawn.1) (record {
-      take = m;
-      brief = asked_brief p (objects_drawn settings.seed (state n.history) (o ∷ os)) (and_parts (is_u32 p) (list_all object_fits (objects_drawn settings.seed (state n.history) (o ∷ os))) m.widths).1 (few_from _ (o ∷ os));
-      none = refl;
-    }))
+    subst (Comes n) (sym drawn.1) (brief_comes n _ m (asked_brief p (objects_drawn settings.seed (state n.history) (o ∷ os)) (and_parts (is_u32 p) (list_all object_fits (objects_drawn settings.seed (state n.history) (o ∷ os))) m.widths).1 (few_from _ (o ∷ os))) refl))
 
 -- ---- what is asked at a tick
 

@@ -1,30 +1,22 @@
 -- What a node makes of a tick of a peer is what the machine makes of it.
-use Rattle.std.proofs.Common.{◌≡◌, ℕ, ◌+◌, ◌<◌, ◌≤◌, ◌^◌, true, false, ◌==◌, ◌&&◌, List, [], ◌∷◌, ◌++◌, length, map, is_some, unwrap_or, option_map, option_to_list, Option, Some, None, IfSome, refl, sym, ◌∙◌, ap, subst, arith, length-append}
-use Rattle.std.specs.Prelude.{nat_le}
-use Rattle.std.specs.Int.{to_be_bytes, w32, w64}
-use Rattle.std.specs.List.{flat_map, list_all}
-use Rattle.std.proofs.lemmas.Bool.{and_parts, eqb-true, leb-true, true≢false, lt-ltb}
+use Rattle.std.proofs.Common.{◌≡◌, ℕ, ◌+◌, ◌<◌, ◌^◌, true, false, ◌&&◌, List, [], map, is_some, option_map, Option, Some, None, IfSome, refl, sym, ◌∙◌, ap, subst, arith}
+use Rattle.std.proofs.lemmas.Bool.{and_parts, true≢false, lt-ltb}
 use Rattle.psb_settings.specs.declared.settings.Settings.{Settings}
 use Rattle.psb_station.proofs.Spans.{same_some}
 use Rattle.psb_model.specs.State.{State, row}
-use Rattle.psb_model.specs.Grammar.{is_u8, is_u32, is_u64, is_digest, what_fits}
-use Rattle.psb_model.specs.Heads.{head_of, deal_fields}
+use Rattle.psb_model.specs.Grammar.{is_u32, is_u64, what_fits}
 use Rattle.psb_model.specs.History.{state}
 use Rattle.psb_model.specs.Needed.{IsValid}
-use Rattle.psb_model.specs.declared.deals.Deal.{Deal}
-use Rattle.psb_model.specs.declared.deals.DealWhat.{DealWhat}
-use Rattle.psb_model.specs.declared.deals.DealWhat.TheVariants.{Fresh, Swap, Cancel, PutBack, Forward, Return}
 use Rattle.psb_model.specs.declared.change.Change.{Change}
 use Rattle.psb_model.specs.declared.change.Change.TheVariants.{Proposed}
 use Rattle.model_laws.proofs.Fitting.{fit_state}
 use Rattle.model_laws.proofs.Bodies.{valid_snoc}
-use Rattle.wire_codec.specs.Fields.{within, are_slots}
 use Rattle.wire_codec.specs.Frames.{key_in, datagram}
 use Rattle.wire_codec.specs.declared.frame.Frame.{Frame}
-use Rattle.psb_machine.specs.Letters.{keys_of, key_with, spelled, all_spelled}
+use Rattle.psb_machine.specs.Letters.{keys_of, spelled, all_spelled}
 use Rattle.psb_machine.specs.Volatile.{PeerState as MachineState, of_peer}
 use Rattle.psb_machine.specs.OwnProbes.{Run as MachineRun, listed_by}
-use Rattle.psb_machine.specs.Proposals.{Offer as MachineOffer, letter_of, deal_letters, frame_of, is_askable, brings_bytes}
+use Rattle.psb_machine.specs.Proposals.{Offer as MachineOffer, letter_of, deal_letters, is_askable, brings_bytes}
 use Rattle.psb_machine.specs.Machine.{Situation, Tick, Rule, passes, run_at, react, grown_by, by_offer, offer_by, offer_at, rules, by_key, on_tick}
 use Rattle.psb_machine.specs.Laws.{TickFits}
 use Rattle.psb_machine.proofs.Causes.{offer_cases}
@@ -32,9 +24,12 @@ use Rattle.psb_machine.proofs.Peers.{keyed_is_peer}
 use Rattle.psb_machine.proofs.Ticking.{offer_askable, proposed_may}
 use Rattle.psb_machine.proofs.Untied.{proposed_spares}
 use Rattle.node_letters.specs.Letters.{letters_of}
-use Rattle.node_letters.specs.Peers.{PeersView}
+use Rattle.node_letters.specs.Peers.{PeersView, peers_of}
 use Rattle.node_core.specs.declared.node.Node.{Node}
-use Rattle.node_core.specs.declared.offering.Offer.{Offer}
+use Rattle.own_offers.specs.declared.offering.Offer.{Offer}
+use Rattle.own_offers.specs.Offers.{offer_in}
+use Rattle.own_offers.proofs.Lengths.{proposed_short}
+use Rattle.own_offers.proofs.Letters.{spelled_by}
 use Rattle.peer_states.specs.declared.peer_state.PeerState.{PeerState}
 use Rattle.peer_states.specs.declared.peer_state.Note.TheVariants as note
 use Rattle.node_core.specs.declared.reaction.Reaction.{Reaction}
@@ -44,9 +39,8 @@ use Rattle.node_core.specs.Reacting.{Reacts, ReactsSo, MayFollow, MayCome}
 use Rattle.node_core.specs.Stored.{Knows}
 use Rattle.own_probes.specs.Probes.{run_in}
 use Rattle.own_probes.specs.declared.run.Run.{Run}
-use Rattle.node_core.specs.Ticking.{offer_in, IsBare, IsRule, IsRunAt, Follows, FollowsSo, OffersDeal, OffersDealSo}
-use Rattle.node_core.proofs.Dealt.{slots_long}
-use Rattle.node_core.proofs.Heard.{none_spelled, keyed_in}
+use Rattle.node_core.specs.Ticking.{IsBare, IsRule, IsRunAt, Follows, FollowsSo, OffersDeal, OffersDealSo}
+use Rattle.node_core.proofs.Heard.{none_spelled}
 
 -- ---- the deal that is offered
 
@@ -165,50 +159,9 @@ offered_bare node n p o q u = u q.settings o q.present q.offer
 pub spelled_with : {L : Type 0} (node : Node L) (n : Situation) (settings : Settings) (p number : ℕ) (key : List ℕ) (f : Frame) → Knows node n → (state n.history).settings ≡ Some settings → key_in node.peers.keys p ≡ Some key
     → (p, datagram key node.peers.own.id p number f) ≡ spelled settings (letter_of p number f)
 spelled_with node n settings p number key f k present here =
-    let same : k.settings.settings ≡ settings = same_some (state n.history).settings k.settings.settings settings k.settings.present present in
-    let is : key_with k.settings.settings p ≡ key = ap (λ (o : Option (List ℕ)). unwrap_or o []) (keyed_in node n p key k here) in
-    ap (λ (v : PeersView). (p, datagram key v.own.id p number f)) k.settings.peers
-    ∙ ap (λ (q : List ℕ). (p, datagram q k.settings.settings.id p number f)) (sym is)
-    ∙ ap (λ (st : Settings). spelled st (letter_of p number f)) same
-
--- no frame, and so no letter
-pub none_offers : (settings : Settings) (h : List Change) (p : ℕ) (d : Deal) → None ≡ frame_of settings h p d.what → [] ≡ map (spelled settings) (deal_letters settings h p d)
-none_offers settings h p d is = ap (λ (o : Option Frame). map (spelled settings) (option_to_list (option_map (letter_of p d.number) o))) is
-
-pub one_offers : (settings : Settings) (h : List Change) (p : ℕ) (d : Deal) (f : Frame) (out : List (ℕ × List ℕ)) → Some f ≡ frame_of settings h p d.what → out ≡ spelled settings (letter_of p d.number f) ∷ [] → out ≡ map (spelled settings) (deal_letters settings h p d)
-one_offers settings h p d f out is one = one ∙ ap (λ (o : Option Frame). map (spelled settings) (option_to_list (option_map (letter_of p d.number) o))) is
+    spelled_by node.peers settings p number key f (k.settings.peers ∙ ap peers_of (same_some (state n.history).settings k.settings.settings settings k.settings.present present)) here
 
 -- ---- what is proposed may be made
-
-named_long : (name : List ℕ) → is_digest name ≡ true → length name ≡ 32
-named_long name h = eqb-true (length name) 32 (and_parts (length name == 32) (list_all is_u8 name) h).0
-
-few_slots : (least : ℕ) (numbers : List ℕ) → are_slots least numbers ≡ true → length numbers ≤ 64
-few_slots least numbers h =
-    let a = and_parts (within least 64 (length numbers)) _ h in
-    leb-true (length numbers) 64 (and_parts (nat_le least (length numbers)) (nat_le (length numbers) 64) a.0).1
-
-fields_short : (s : State) (p : ℕ) (what : DealWhat) → what_fits what ≡ true → is_askable s p what ≡ true → length (deal_fields what) ≤ 300
-fields_short s p (Fresh name) w a = omega (arith, named_long name w)
-fields_short s p (Swap name numbers) w a =
-    let named = named_long name (and_parts (is_digest name) (list_all is_u32 numbers) w).0 in
-    let few = few_slots 0 numbers (and_parts _ (are_slots 0 numbers) a).1 in
-    omega (arith, named, few, slots_long numbers, length-append name (to_be_bytes w32 (length numbers) ++ flat_map (to_be_bytes w32) numbers))
-fields_short s p (Cancel name numbers) w a =
-    let named = named_long name (and_parts (is_digest name) (list_all is_u32 numbers) w).0 in
-    let few = few_slots 1 numbers a in
-    omega (arith, named, few, slots_long numbers, length-append name (to_be_bytes w32 (length numbers) ++ flat_map (to_be_bytes w32) numbers))
-fields_short s p (PutBack name first) w a =
-    let named = named_long name (and_parts (is_digest name) (is_u32 first) w).0 in
-    omega (arith, named, length-append name (to_be_bytes w32 first))
-fields_short s p (Forward slot entry) w a = omega (arith, length-append (to_be_bytes w32 slot ++ to_be_bytes w32 entry.peer) (to_be_bytes w32 entry.slot), length-append (to_be_bytes w32 slot) (to_be_bytes w32 entry.peer))
-fields_short s p (Return slot) w a = omega arith
-
-proposed_short : (p number : ℕ) (what : DealWhat) → length (deal_fields what) ≤ 300 → length (head_of (Proposed (record { peer = p; deal = number; what = what }))) ≤ 400
-proposed_short p number what few =
-    let a = to_be_bytes w32 p in
-    let b = to_be_bytes w64 number in
-    omega (arith, few, length-append (a ++ b) (deal_fields what), length-append a b)
 
 -- a tick after which the next deal has a number
 pub tick_fits : (n : Situation) (p : ℕ) → IsValid n.history → p < 2 ^ 32 → (state n.history).changes < 2 ^ 62 → TickFits (state n.history) p
@@ -240,7 +193,7 @@ may_propose node n p o c k small few q grown =
         may = m.may;
         few = few;
         there = refl;
-        short = omega (arith, proposed_short p number what (fields_short s p what fits.1 askable));
+        short = omega (arith, proposed_short s p number what fits.1 askable);
       };
       follow = record {
         valid = valid_snoc n.history (Proposed (record { peer = p; deal = number; what = what })) k.valid m.grammar m.may m.widths m.brings;

@@ -8,6 +8,7 @@ use Rattle.psb_machine.specs.Volatile.{Note as MachineNote}
 use Rattle.psb_machine.specs.Sampling.{question_of}
 use Rattle.psb_machine.specs.Machine.{Situation, Input, Reaction as MachineReaction, react, settled}
 use Rattle.psb_machine.specs.Laws.{SparesProbes}
+use Rattle.probe_laws.specs.Just.{JustOutcome}
 use Rattle.node_letters.specs.Letters.{letters_of}
 use Rattle.peer_states.specs.PeerStates.{note_in, states_noted}
 use Rattle.node_core.specs.Making.{MayMake}
@@ -77,3 +78,8 @@ pub record IsNoted {L : Type 0} (note : MachineNote) (old new : Node L) : Type 0
 abbrev pub numbered : Option Change → ℕ → Option ℕ
 numbered None number = None
 numbered (Some c) number = Some number
+
+-- the history is as it was, or has one change more, which has its reason in the input where it is one of the node's own
+-- probes
+abbrev pub GrewJustly : Situation → Input → Situation → Type 0
+GrewJustly n x m = (m.history ≡ n.history) ⊎ (c : Change) × (m.history ≡ n.history ++ c ∷ []) × JustOutcome n x c

@@ -1,41 +1,24 @@
 -- What a tick of a peer comes to, as a node finds it by what it keeps.
-use Rattle.std.specs.Prelude.{◌≡◌, ℕ, true, false, ◌==◌, if◌then◌else◌, List, length, option_map, option_to_list, Option, Some, None}
+use Rattle.std.specs.Prelude.{◌≡◌, ℕ, true, false, ◌==◌, List, length, option_map, option_to_list, Option, Some, None}
 use Rattle.psb_settings.specs.declared.settings.Settings.{Settings}
 use Rattle.psb_model.specs.State.{State}
 use Rattle.psb_model.specs.History.{state}
-use Rattle.psb_model.specs.declared.deals.Deal.{Deal}
-use Rattle.psb_model.specs.declared.change.Change.{Change}
-use Rattle.psb_model.specs.declared.change.Change.TheVariants.{Proposed}
 use Rattle.wire_codec.specs.Frames.{key_in}
 use Rattle.psb_machine.specs.Letters.{all_spelled}
 use Rattle.psb_machine.specs.Volatile.{later, of_peer}
-use Rattle.psb_machine.specs.Proposals.{Offer as MachineOffer, brings_bytes, is_even}
+use Rattle.psb_machine.specs.Proposals.{Offer as MachineOffer, brings_bytes}
 use Rattle.psb_machine.specs.Sampling.{question_of, questions}
-use Rattle.psb_machine.specs.Machine.{Situation, Rule, by_late, by_choice, choice_at, by_offer, offer_at, by_run, run_at, sends, then_by, on_tick}
+use Rattle.psb_machine.specs.Machine.{Situation, Rule, by_late, by_due, by_choice, choice_at, by_offer, offer_at, by_run, run_at, sends, then_by, on_tick}
 use Rattle.psb_machine.specs.declared.question.Question.{Question}
 use Rattle.node_letters.specs.Letters.{letters_of}
 use Rattle.own_probes.specs.declared.run.Run.{Run}
 use Rattle.own_probes.specs.Probes.{run_in}
 use Rattle.node_core.specs.Stored.{Knows}
 use Rattle.node_core.specs.declared.node.Node.{Node}
-use Rattle.node_core.specs.declared.offering.Offer.{Offer}
-use Rattle.peer_states.specs.declared.peer_state.PeerState.{PeerState}
 use Rattle.node_core.specs.declared.reaction.Reaction.{Reaction}
 use Rattle.node_core.specs.declared.reaction.Asking.{Asking}
 
 -- ---- the deal that is offered
-
-abbrev pub offer_in : Offer → MachineOffer
-offer_in o = record { deal = o.deal; is_new = o.is_new }
-
--- the deal that a change proposes
-abbrev pub offer_of : Change → Option MachineOffer
-offer_of (Proposed x) = Some (record { deal = record { number = x.deal; what = x.what }; is_new = true })
-offer_of _ = None
-
--- one without a reply at each second tick
-abbrev pub offered_again : PeerState → Deal → Option MachineOffer
-offered_again x d = if is_even (later x.clock) then Some (record { deal = d; is_new = false }) else None
 
 -- no bytes are read for what a tick of the peer offers
 abbrev pub IsBare : Situation → ℕ → Type 0
@@ -75,6 +58,10 @@ OffersDealSo r n p = (settings : Settings) → (state n.history).settings ≡ So
 -- the probe of the peer that runs, if one does
 abbrev pub IsRunAt : {L : Type 0} → Option Run → Node L → ℕ → Type 0
 IsRunAt o node p = (n : Situation) → Knows node n → option_map run_in o ≡ run_at n p
+
+-- what failures of the peer come to: the end of a probe that is late, or a discard that is due
+abbrev pub by_failure : Situation → ℕ → Rule
+by_failure n p = then_by (by_late p (later (of_peer n.volatile p).clock) (run_at n p)) (by_due (state n.history) p)
 
 -- the rules behind the deal
 abbrev pub asked_at : Settings → Situation → ℕ → Rule

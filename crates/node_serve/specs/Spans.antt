@@ -4,9 +4,11 @@ use Rattle.psb_station.specs.View.{View, Heard}
 use Rattle.psb_station.specs.Calls.{Grows}
 use Rattle.psb_station.specs.Span.{Leaves, Tells_bytes}
 use Rattle.node_journal.specs.Entry.{Entry}
-use Rattle.psb_machine.specs.Machine.{Situation}
+use Rattle.psb_model.specs.declared.change.Change.{Change}
+use Rattle.psb_machine.specs.Machine.{Situation, fresh}
 use Rattle.psb_machine.specs.Course.{Step, after_all, tellings, sent_in, said_in, taken_in, dropped_in, told_by, tried_in}
 use Rattle.psb_machine.specs.Commands.{Turn}
+use Rattle.probe_laws.specs.Courses.{ProbesAreJust}
 use Rattle.node_core.specs.declared.node.Node.{Node}
 use Rattle.node_history.specs.Stands.{ReopensTo}
 use Rattle.node_core.specs.Stored.{Knows, Stored, IsCounted}
@@ -133,3 +135,10 @@ pub record RanTurns {L : Type 0} (holds : L → List Entry → List ℕ → Type
 pub record MadeTurn {L : Type 0} (holds : L → List Entry → List ℕ → Type 0) (stands : List Entry → List ℕ → Type 0) (broken : L → Bool) (peers : List ℕ) (clock clock' : ℕ) (old new : Node L) (before now : View) (counts : Option Tally) (end : End) (came : Option (List ℕ)) : Type 0 where
   pub ran : RanTurns holds stands broken peers clock clock' old new before now 1 counts end
   pub came_in : CameIn end ran.full came
+
+-- The node stands behind steps from this history on, and each change that they made of its own probes has its reason.
+pub record ServedJustly {L : Type 0} (holds : L → List Entry → List ℕ → Type 0) (node : Node L) (h : List Change) (now : View) : Type 0 where
+  pub done : List Step
+  pub knows : Knows node (after_all (fresh h) done)
+  pub stored : Stored holds node (after_all (fresh h) done).history now
+  pub just : ProbesAreJust h done

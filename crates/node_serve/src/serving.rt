@@ -1,8 +1,9 @@
-ghost use Rattle.std.specs.Prelude.{◌≡◌, ℕ, ◌⊎◌, ◌+◌, ◌*◌, ◌≤◌, [], ◌∷◌, Some, true, false, if◌then◌else◌, is_some, is_ok, IfOk, IsOk, OnOk, OnErr, length};
+ghost use Rattle.std.specs.Prelude.{◌≡◌, ℕ, ◌⊎◌, ◌+◌, ◌*◌, ◌≤◌, List, [], ◌∷◌, Some, true, false, if◌then◌else◌, is_some, is_ok, IfOk, IsOk, OnOk, OnErr, length};
 ghost use Rattle.psb_station.specs.Calls.{Rose};
 ghost use Rattle.psb_station.specs.Span.{Tells_bytes};
 ghost use Rattle.psb_settings.specs.Settings.{most_peers};
-ghost use Rattle.psb_machine.specs.Machine.{Situation};
+ghost use Rattle.psb_model.specs.declared.change.Change.{Change};
+ghost use Rattle.psb_machine.specs.Machine.{Situation, fresh};
 ghost use Rattle.psb_machine.specs.Course.{Absorb, datagrams};
 ghost use Rattle.psb_machine.specs.Commands.{ticks};
 ghost use Rattle.node_core.specs.declared.fault.Fault.TheVariants as fault;
@@ -10,7 +11,7 @@ ghost use Rattle.node_core.specs.Inputs.{input_of};
 ghost use Rattle.node_core.specs.Stored.{Knows, Stored, IsCounted};
 ghost use Rattle.node_serve.specs.Buffers.{last_of};
 ghost use Rattle.node_serve.specs.Hears.{End, Stopped};
-ghost use Rattle.node_serve.specs.Spans.{IsReady, Counts, Fed, Received, MadeTurn, RanTurns};
+ghost use Rattle.node_serve.specs.Spans.{IsReady, Counts, Fed, Received, MadeTurn, RanTurns, ServedJustly};
 ghost use Rattle.node_serve.specs.Turns.{IsEnd, IsEarly, OnlySends, peers_in, end_of, turned_counts, total_counts};
 
 use crate::Buffer;
@@ -237,6 +238,10 @@ pub fn serve<L: Log, S: Station>(
 
     // So many turns, each with one `recv` and one `now`; and a failure of the link or of the node is the last.
     ensures ran { (e : End) × IsEnd result e × (clock : ℕ) × RanTurns L.holds L.stands L.is_broken (peers_in node.old.ledger.state.settings) 0 clock node.old node.new (S.view station.old) (S.view station.new) turns (total_counts result) e }
+
+    // Unless its log broke: each change of the node's own probes has its reason, and none that answered is booked as silent.
+    ensures just { L.is_broken node.new.log ≡ false → Tells_bytes (S.view station.new) → (h : List Change) → Knows node.old (fresh h) → Stored L.holds node.old h (S.view station.old)
+        → ServedJustly L.holds node.new h (S.view station.new) }
     ensures unbroken { (result ≡ Err ServeFault.Memory) ⊎ (result ≡ Err ServeFault.Link) → L.is_broken node.new.log ≡ false }
     ensures whole { OnOk result (L.is_broken node.new.log ≡ false) }
     ensures counts { Counts (S.view station.old) (S.view station.new) }

@@ -9,7 +9,6 @@ ghost use Rattle.node_journal.specs.Entry.{Entry};
 ghost use Rattle.psb_model.specs.declared.change.Change.{Change as AnyChange};
 ghost use Rattle.psb_machine.specs.OwnProbes.{are_places_of};
 ghost use Rattle.psb_machine.specs.Machine.{by_proof, by_declined};
-ghost use Rattle.slot_places.specs.Slots.{AreBelow};
 ghost use Rattle.node_history.specs.Stands.{AreDecoded};
 ghost use Rattle.node_history.specs.Names.{AreThere};
 ghost use Rattle.node_facts.specs.Probed.{Knows};
@@ -105,7 +104,6 @@ pub fn proof_outcome<L: Log, D: Disk>(
 ) -> Result<Option<Change>, ReadFault>
     requires whole { L.is_broken log.old ≡ false }
     requires there { AreThere held.now.names.now (L.size log.old) (L.keeps_body log.old) }
-    requires below { AreBelow held.now.slots.now (L.size log.old) }
 
     // Where the disk tells its bytes.
     ensures exact { IfOk result (λ o. Tells_bytes (D.view disk.new) → (h : List AnyChange) (es : List Entry) → Knows held.now h → AreDecoded h es → Shows (L.holds log.old es) (D.view disk.old)

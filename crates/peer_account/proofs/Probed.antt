@@ -1,21 +1,16 @@
--- A probe's objects: the same list, objects at places, and rows of debt that come and go.
-use Rattle.std.proofs.Common.{◌≡◌, ℕ, ◌+◌, ◌≤◌, ◌<◌, Bool, true, false, not, ◌&&◌, ◌||◌, cond, List, [], ◌∷◌, ◌++◌, length, take, drop, map, filter, sum_by, get_or, Option, Some, None, refl, sym, ap, ◌∙◌, arith, append-nil}
-use Rattle.std.specs.Prelude.{◌==◌, nat_lt, slice_get, option_to_list}
-use Rattle.std.specs.List.{list_all}
-use Rattle.std.specs.Cmp.Lexicographic.{pointwise}
-use Rattle.std.proofs.lemmas.Bool.{false≢true, and_parts, eqb-true, ltb-true}
-use Rattle.std.proofs.lemmas.Bool.Decides.{nat_tests}
-use Rattle.std.proofs.lemmas.Option.{slice_get_within, slice_get-get_or, get_or_from_slice_get}
+-- A probe's objects: objects at places, and rows of debt that come and go.
+use Rattle.std.proofs.Common.{◌≡◌, ℕ, ◌+◌, ◌≤◌, ◌<◌, Bool, true, false, not, ◌||◌, cond, List, [], ◌∷◌, ◌++◌, length, take, drop, map, filter, sum_by, get_or, Option, Some, None, refl, sym, ap, ◌∙◌, arith, append-nil}
+use Rattle.std.specs.Prelude.{◌==◌, slice_get, option_to_list}
+use Rattle.std.proofs.lemmas.Bool.{false≢true, and_parts, eqb-true}
+use Rattle.std.proofs.lemmas.Option.{slice_get-get_or, get_or_from_slice_get}
 use Rattle.std.proofs.lemmas.List.{append_assoc, take_more, drop_more, take-append-drop, length-append}
 use Rattle.std.proofs.lemmas.List.Sums.{sum_by-cons}
-use Rattle.psb_bytes.specs.contracts.ids.ObjectPartialEq.TheImpl.{eq-value as derived_eq}
 use Rattle.psb_bytes.specs.declared.ids.Object.{Object}
-use Rattle.psb_bytes.specs.declared.ids.Object.TheVariants.{Chunk, Slot}
 use Rattle.psb_model.specs.declared.entries.OutEntry.{OutEntry}
 use Rattle.psb_model.specs.declared.entries.DebtEntry.{DebtEntry}
 use Rattle.psb_model.specs.Words.{object_eq, listed, objects_distinct, has, occurs, only, with_all, without}
 use Rattle.psb_model.specs.State.{Row, out_key, out_size, debt_key, debt_size}
-use Rattle.psb_model.specs.Conditions.{same_objects, at_places}
+use Rattle.psb_model.specs.Conditions.{at_places}
 use Rattle.psb_model.specs.Effects.{debt_row, lost_rows, out_again, is_whole_listed}
 use Rattle.psb_model.proofs.ByObject.{by_cases, object_eq-same, object_eq-refl, object_eq-swap, units_at-with_all, units_at-append, has-occurs}
 use Rattle.peer_account.specs.View.{out_anew, lost_row, regained_row}
@@ -25,43 +20,7 @@ use Rattle.peer_lists.proofs.Trees.{without_none}
 use Rattle.peer_lists.proofs.Found.{none_behind, rest_ordered}
 use Rattle.peer_lists.proofs.Ordered.{is_false}
 
--- the derived test of objects is the one of the definitions
-derived_same : (a b : Object) → derived_eq.it a b ≡ object_eq a b
-derived_same (Chunk a) (Chunk b) = refl
-derived_same (Chunk a) (Slot b) = refl
-derived_same (Slot a) (Chunk b) = refl
-derived_same (Slot a) (Slot b) = refl
-
-pub pointwise_same : (xs ys : List Object) → pointwise derived_eq.it xs ys ≡ same_objects xs ys
-pointwise_same [] [] = refl
-pointwise_same [] (y ∷ ys) = refl
-pointwise_same (x ∷ xs) [] = refl
-pointwise_same (x ∷ xs) (y ∷ ys) = λ i. derived_same x y i && pointwise_same xs ys i
-
 -- ---- objects at places
-
--- each place is one of the list, and its object passes
-pub all_at : (test : Object → Bool) (os : List Object) (ks : List ℕ) → list_all (λ k. elim (slice_get os k) [ None ↦ false | Some o ↦ test o ]) ks ≡ (list_all (λ k. nat_lt k (length os)) ks && list_all test (at_places os ks))
-all_at test os [] = refl
-all_at test os (k ∷ ks) = one (slice_get os k) refl (all_at test os ks)
-  where
-    swap : (a b c : Bool) → (a && (b && c)) ≡ (b && (a && c))
-    swap true b c = refl
-    swap false true c = refl
-    swap false false c = refl
-
-    inside : (j : ℕ) → j < length os → nat_lt j (length os) ≡ true
-    inside j lt = grind (arith, nat_tests, lt)
-
-    past : (j : ℕ) → slice_get os j ≡ None → nat_lt j (length os) ≡ false
-    past j none = by_cases (nat_lt j (length os))
-        (λ t. let clash : None ≡ Some (get_or os j (Slot 0)) = sym none ∙ slice_get-get_or os j (Slot 0) (ltb-true j (length os) t) in absurd (cc (clash)))
-        (λ f. f)
-
-    one : (g : Option Object) → slice_get os k ≡ g → list_all (λ j. elim (slice_get os j) [ None ↦ false | Some o ↦ test o ]) ks ≡ (list_all (λ j. nat_lt j (length os)) ks && list_all test (at_places os ks))
-        → (elim g [ None ↦ false | Some o ↦ test o ] && list_all (λ j. elim (slice_get os j) [ None ↦ false | Some o ↦ test o ]) ks) ≡ (nat_lt k (length os) && list_all (λ j. nat_lt j (length os)) ks && list_all test (option_to_list g ++ at_places os ks))
-    one None is ih = rw (past k is) refl
-    one (Some o) is ih = rw (inside k (slice_get_within os k o is)) (ap (λ b. test o && b) ih ∙ swap (test o) (list_all (λ j. nat_lt j (length os)) ks) (list_all test (at_places os ks)))
 
 pub at_append : (os : List Object) (ks js : List ℕ) → at_places os (ks ++ js) ≡ at_places os ks ++ at_places os js
 at_append os [] js = refl

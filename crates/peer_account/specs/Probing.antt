@@ -1,10 +1,10 @@
 -- What an account needs for the outcome of a probe: room, and sums that fit.
-use Rattle.std.specs.Prelude.{◌≡◌, ℕ, ◌+◌, ◌*◌, ◌<◌, ◌≤◌, ◌^◌, Bool, true, false, not, List, length, filter, slice_get, Some, None}
+use Rattle.std.specs.Prelude.{◌≡◌, ◌+◌, ◌*◌, ◌<◌, ◌≤◌, ◌^◌, true, List, length, filter}
 use Rattle.psb_bytes.specs.declared.ids.Object.{Object}
 use Rattle.psb_model.specs.declared.entries.DebtEntry.{DebtEntry}
 use Rattle.psb_model.specs.declared.entries.OutEntry.{OutEntry}
 use Rattle.psb_model.specs.Words.{objects_distinct, occurs}
-use Rattle.psb_model.specs.State.{Row, ties_out, out_key, debt_key, back_units, debt_units}
+use Rattle.psb_model.specs.State.{out_key, debt_key, back_units, debt_units}
 use Rattle.psb_model.specs.Effects.{is_whole_listed}
 use Rattle.peer_account.specs.View.{AccountView}
 
@@ -24,7 +24,3 @@ pub record Loses (v : AccountView) (objects : List Object) : Type 0 where
   pub debt_room : length objects ≤ v.debt_room
   pub distinct : objects_distinct objects ≡ true
   pub small : back_units v.row + debt_units v.row < 2 ^ 32
-
--- the place is one of the list, and no deal ties its object there
-abbrev pub is_untied_at : Row → List Object → ℕ → Bool
-is_untied_at r objects k = elim (slice_get objects k) [ None ↦ false | Some o ↦ not (ties_out r.pending o) ]

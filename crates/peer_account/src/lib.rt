@@ -4,4 +4,4 @@
 mod account;
 mod probes;
 
-pub use account::{Account, Measure, is_named};
+pub use account::{Account, is_named};

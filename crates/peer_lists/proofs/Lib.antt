@@ -6,6 +6,4 @@ pub mod Both
 pub mod States
 pub mod Walks
 pub mod Parts
-pub mod Counts
-pub mod Owed
 pub mod Next

@@ -16,7 +16,7 @@ use Rattle.peer_lists.specs.Walks.{IsSlotFrom, is_past, chunk_after, is_behind, 
 
 -- ---- by the slots from a number on
 
-abbrev first_of : {E : Type 0} → List E → Option E
+abbrev pub first_of : {E : Type 0} → List E → Option E
 first_of [] = None
 first_of (e ∷ es) = Some e
 
@@ -28,7 +28,7 @@ find_first t u (e ∷ es) f = by_cases (t e)
     rw (f e ∙ ap not k, k) (find_first t u es f ∙ ap (λ n. first_of (drop n (e ∷ es))) more))
     (λ k. rw (f e ∙ ap not k, k) refl)
 
-slot_behind : (n : ℕ) (o : Object) → is_lt (object_cmp (Slot n) o) ≡ not (is_lt (object_cmp o (Slot (n + 1))))
+pub slot_behind : (n : ℕ) (o : Object) → is_lt (object_cmp (Slot n) o) ≡ not (is_lt (object_cmp o (Slot (n + 1))))
 slot_behind n (Chunk c) = refl
 slot_behind n (Slot m) = grind (arith, nat_tests)
 
@@ -151,7 +151,7 @@ found_passes t (x ∷ xs) e h = by_cases (t x)
     (λ k. let some : Some e ≡ Some x = rw k at h in let same : e ≡ x = cc (some) in ap t same ∙ k)
     (λ k. found_passes t xs e (rw k at h))
 
-every_behind : {E : Type 0} (key : E → Object) (o : Object) (l : List E) → list_all (λ y. is_lt (object_cmp o (key y))) l ≡ true → behind key (Some o) l ≡ l
+pub every_behind : {E : Type 0} (key : E → Object) (o : Object) (l : List E) → list_all (λ y. is_lt (object_cmp o (key y))) l ≡ true → behind key (Some o) l ≡ l
 every_behind key o [] a = refl
 every_behind key o (y ∷ ys) a =
     let two = and_parts (is_lt (object_cmp o (key y))) (list_all (λ z. is_lt (object_cmp o (key z))) ys) a in

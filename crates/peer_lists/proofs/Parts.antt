@@ -1,26 +1,34 @@
 -- Slots that are sought, as the runs of a list give them.
-use Rattle.std.proofs.Common.{◌≡◌, ℕ, zero, suc, ◌+◌, ◌-◌, ◌<◌, ◌≤◌, Bool, true, false, not, List, [], ◌∷◌, ◌++◌, length, take, map, append-nil, Option, Some, None, refl, sym, ap, ◌∙◌, arith}
-use Rattle.std.specs.Prelude.{min, if◌then◌else◌, option_map}
-use Rattle.std.specs.List.{slice_get}
+use Rattle.std.proofs.Common.{◌≡◌, ℕ, zero, suc, ◌+◌, ◌-◌, ◌<◌, ◌≤◌, Bool, true, false, not, List, [], ◌∷◌, ◌++◌, length, take, filter, map, append-nil, Option, Some, None, refl, sym, ap, ◌∙◌, arith}
+use Rattle.std.specs.Prelude.{find, min, if◌then◌else◌, option_map}
+use Rattle.std.specs.List.{list_all, prefix_len, slice_get}
+use Rattle.std.specs.Ordering.{is_lt}
 use Rattle.std.proofs.lemmas.Bool.{and_parts}
 use Rattle.std.proofs.lemmas.List.{append_assoc, length-append, map-append}
 use Rattle.std.proofs.lemmas.List.Elements.{filter-append}
+use Rattle.psb_bytes.specs.Objects.{object_cmp}
 use Rattle.psb_bytes.specs.declared.ids.Object.{Object}
 use Rattle.psb_bytes.specs.declared.ids.Object.TheVariants.{Slot}
 use Rattle.psb_model.specs.Words.{listed, slots}
 use Rattle.psb_model.proofs.ByObject.{by_cases}
+use Rattle.psb_model.proofs.ObjectOrder.{less_then}
 use Rattle.peer_lists.specs.Chunks.{is_chunk}
 use Rattle.peer_lists.specs.Entries.{in_order, find_at, from_object}
 use Rattle.slot_runs.specs.declared.run.Run.{Run}
 use Rattle.slot_runs.specs.declared.part.Part.{Part}
 use Rattle.slot_runs.specs.Runs.{rest_in, AreRuns, IsNext}
-use Rattle.peer_lists.specs.Walks.{IsRunFrom}
+use Rattle.peer_lists.specs.Walks.{IsRunFrom, is_behind as is_behind_object, entry_after}
 use Rattle.peer_lists.specs.Slots.{slots_from, expand, slot_items}
 use Rattle.slot_runs.specs.Runs.{count_up}
-use Rattle.peer_lists.specs.Sought.{is_sought, sought, found, IsPart}
+use Rattle.peer_lists.specs.Sought.{is_sought, sought, number_behind, found, IsPart}
+use Rattle.peer_lists.specs.declared.entry_list.EntryList.{EntryList}
+use Rattle.peer_lists.specs.Trees.{tree_items}
+use Rattle.peer_lists.specs.EntryLists.{items, IsList}
+use Rattle.slot_runs.specs.SlotRuns.{runs}
 use Rattle.peer_lists.proofs.Trees.{IsJoin}
 use Rattle.peer_lists.proofs.Tables.{IsTable, table_of}
-use Rattle.peer_lists.proofs.Both.{chunks, are_slots, past_chunks, first_at, none_from, from_start}
+use Rattle.peer_lists.proofs.Both.{chunks, are_slots, past_chunks, first_at, none_from, from_start, list_ordered}
+use Rattle.peer_lists.proofs.Next.{first_of, slot_behind}
 
 -- THE SLOTS OF A RUN
 
@@ -160,6 +168,61 @@ is_behind joined p s s' all n left left' place is size le now same =
     let long : length (found joined p) ≡ n = found_length joined p ∙ sym size in
     let at : left' ≡ left - length (found joined p) = omega (arith, now, long) in
     ap (slice_get s') at ∙ sym (skipped (found joined p) s' left (omega (arith, long, le))) ∙ ap (λ l. slice_get l left) (sym is) ∙ same
+
+-- THE FIRST BEHIND A NUMBER
+
+-- what holds of all that are left holds of the first that is sought
+first_all : {E : Type 0} (u p : E → Bool) (l : List E) → list_all u l ≡ true → first_of (filter p l) ≡ find u (filter p l)
+first_all u p [] h = refl
+first_all u p (x ∷ xs) h =
+    let a = and_parts (u x) (list_all u xs) h in
+    by_cases (p x) (λ k. rw (k, a.0) refl) (λ k. rw k (first_all u p xs a.1))
+
+-- of those from a number on, the first that is sought is the first of all that are which comes behind the one in front
+first_later : {E : Type 0} (key : E → Object) (p : E → Bool) (n : ℕ) (l : List E) → in_order key l ≡ true → first_of (filter p (from_object key (Slot (n + 1)) l)) ≡ entry_after key (Some (Slot n)) (filter p l)
+first_later key p n [] h = refl
+first_later {E = E} key p n (x ∷ xs) h =
+    let a = and_parts (list_all (λ y. is_lt (object_cmp (key x) (key y))) xs) (in_order key xs) h in
+    let u = is_behind_object (Some (Slot n)) in
+    by_cases (is_lt (object_cmp (key x) (Slot (n + 1))))
+    (λ k.
+    let more : 1 + prefix_len (λ e. is_lt (object_cmp (key e) (Slot (n + 1)))) xs ≡ suc (prefix_len (λ e. is_lt (object_cmp (key e) (Slot (n + 1)))) xs) = omega arith in
+    let no : is_lt (object_cmp (Slot n) (key x)) ≡ false = slot_behind n (key x) ∙ ap not k in
+    rw (k, more) (first_later key p n xs a.1 ∙ by_cases (p x) (λ j. rw (j, no) refl) (λ j. rw j refl)))
+    (λ k.
+    let yes : is_lt (object_cmp (Slot n) (key x)) ≡ true = slot_behind n (key x) ∙ ap not k in
+    let all : list_all (λ e. u (key e)) (x ∷ xs) ≡ true = rw yes (below_rest_of (Slot n) (key x) xs yes a.0) in
+    rw k (first_all (λ e. u (key e)) p (x ∷ xs) all))
+  where
+    below_rest_of : (o b : Object) (ys : List E) → is_lt (object_cmp o b) ≡ true → list_all (λ y. is_lt (object_cmp b (key y))) ys ≡ true → list_all (λ y. is_lt (object_cmp o (key y))) ys ≡ true
+    below_rest_of o b [] h k = refl
+    below_rest_of o b (y ∷ ys) h k =
+        let two = and_parts (is_lt (object_cmp b (key y))) (list_all (λ z. is_lt (object_cmp b (key z))) ys) k in
+        rw (less_then o b (key y) h two.0) (below_rest_of o b ys h two.1)
+
+first_found : {E : Type 0} (l : List E) → first_of l ≡ find (λ _. true) l
+first_found [] = refl
+first_found (x ∷ xs) = refl
+
+pub first_behind : {E R : Type 0} (key : E → Object) (joined : Object → R → E) → IsJoin key joined → (test : E → Bool) (but : List ℕ) (l : EntryList E R) (place : Option ℕ) (n : ℕ) → IsList key joined l → n ≡ number_behind place → first_of (sought key test but (from_object key (Slot n) (items key joined l))) ≡ entry_after key (option_map Slot place) (sought key test but (items key joined l))
+first_behind key joined join test but l None n list is =
+    let all = items key joined l in
+    ap (λ m. first_of (sought key test but (from_object key (Slot m) all))) is
+    ∙ ap first_of (from_first key joined join test but (tree_items key joined l.chunks) (runs l.slots) list.chunks list.slots.are)
+    ∙ first_found (sought key test but all)
+first_behind key joined join test but l (Some m) n list is =
+    let all = items key joined l in
+    ap (λ k. first_of (sought key test but (from_object key (Slot k) all))) is
+    ∙ first_later key (is_sought key test but) m all (list_ordered key joined join l list)
+
+-- a part that is not sought is passed, and of one that is the first slot is the first
+pub part_skipped : {E R : Type 0} (joined : Object → R → E) (p : Part R) (s s' : List E) → s ≡ found joined p ++ s' → p.is_sought ≡ false → s ≡ s'
+part_skipped joined p s s' is k = is ∙ rw k refl
+
+pub part_first : {E R : Type 0} (joined : Object → R → E) (p : Part R) (s s' : List E) → s ≡ found joined p ++ s' → p.is_sought ≡ true → p.run.first ≤ p.run.last → Some (joined (Slot p.run.first) p.run.rest) ≡ first_of s
+part_first joined p s s' is k le =
+    let some : p.run.last + 1 - p.run.first ≡ suc (p.run.last - p.run.first) = omega (arith, le) in
+    sym (ap first_of is ∙ rw k (ap (λ u. first_of (slots_from joined p.run.rest p.run.first u ++ s')) some))
 
 -- THE LEAST
 

@@ -7,4 +7,3 @@ pub mod Slots
 pub mod EntryLists
 pub mod Walks
 pub mod Sought
-pub mod Debts

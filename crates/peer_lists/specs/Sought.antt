@@ -30,6 +30,11 @@ is_sought key test but e = not (is_chunk (key e)) && test e && not (listed (slot
 abbrev pub sought : {E : Type 0} → (E → Object) → (E → Bool) → List ℕ → List E → List E
 sought key test but = filter (is_sought key test but)
 
+-- the first number, or the first behind this one
+abbrev pub number_behind : Option ℕ → ℕ
+number_behind None = 0
+number_behind (Some n) = n + 1
+
 -- the slots of a part of a run that are sought: all or none
 abbrev pub found : {E R : Type 0} → (Object → R → E) → Part R → List E
 found joined p = if p.is_sought then expand joined p.run else []

@@ -10,9 +10,9 @@ ghost use Rattle.peer_lists.specs.Entries.{in_order, find_at};
 ghost use Rattle.peer_lists.specs.Trees.{items_of};
 
 use crate::entry::Entry;
+use crate::order::compare;
 use psb_bytes::{Digest, Memory, Object};
 use std::alloc::Global;
-use std::cmp::Ordering;
 use std::collections::BTreeMap;
 use std::ops::Bound;
 
@@ -59,21 +59,6 @@ fn is_past(place: &Option<Digest>, object: &Object) -> bool
     match place {
         None => true,
         Some(name) => compare(&Object::Chunk(*name), object).is_lt(),
-    }
-}
-
-fn compare(a: &Object, b: &Object) -> Ordering
-    ensures { result ≡ object_cmp a.now b.now }
-{
-    match a {
-        Object::Chunk(x) => match b {
-            Object::Chunk(y) => x.cmp(y),
-            Object::Slot(_) => Ordering::Less,
-        },
-        Object::Slot(x) => match b {
-            Object::Chunk(_) => Ordering::Greater,
-            Object::Slot(y) => x.cmp(y),
-        },
     }
 }
 

@@ -2,13 +2,14 @@
 
 ghost use Rattle.std.specs.Prelude.{◌≡◌, ◌≤◌, ◌<◌, ◌+◌, ◌*◌, ◌^◌, ◌∷◌, [], true, false, length, map, take, if◌then◌else◌, OnOk, IfOk};
 ghost use Rattle.std.specs.List.{slice_get};
+ghost use Rattle.std.specs.Option.{option_map};
 ghost use Rattle.psb_bytes.specs.declared.ids.Object.TheVariants.{Chunk, Slot};
 ghost use Rattle.psb_model.specs.Words.{has, object_eq, slots, with_one, with_all, without};
 ghost use Rattle.psb_model.specs.Grammar.{ascend};
 ghost use Rattle.psb_model.specs.State.{out_key};
 ghost use Rattle.psb_model.specs.Effects.{chunk_out, own_slots};
 ghost use Rattle.peer_lists.specs.Entries.{find_at, lacks_all, in_order};
-ghost use Rattle.peer_lists.specs.Walks.{IsSlotFrom, chunk_after};
+ghost use Rattle.peer_lists.specs.Walks.{IsSlotFrom, chunk_after, entry_after};
 ghost use Rattle.peer_lists.specs.Sought.{sought, out_passes};
 
 use crate::entry::{Entry, Holding, OutTest};
@@ -90,6 +91,16 @@ impl OutList {
         ensures { result ≡ slice_get (sought out_key (out_passes test) but.now self.now.items) place }
     {
         self.list.sought_at(&test, but, place)
+    }
+
+    /// The first of them, or the first behind the slot of this number. Takes a step for each run that it
+    /// passes on the way, and each of the numbers.
+    pub fn slot_after(&self, test: OutTest, but: &[u32], place: Option<u32>) -> Option<OutEntry>
+        requires { ascend but.now ≡ true }
+        ensures slot { result ≡ entry_after out_key (option_map Slot place) (sought out_key (out_passes test) but.now self.now.items) }
+        ensures ordered { in_order out_key self.now.items ≡ true }
+    {
+        self.list.sought_after(&test, but, place)
     }
 
     /// The numbers of the least of them, `most` at most.

@@ -2,16 +2,29 @@
 
 ghost use Rattle.std.specs.Prelude.{◌≡◌, ◌≤◌, ◌^◌, true, length, take, map, IfOk};
 ghost use Rattle.std.specs.List.{slice_get};
+ghost use Rattle.std.specs.Option.{option_map};
+ghost use Rattle.psb_bytes.specs.declared.ids.Object.TheVariants.{Slot};
 ghost use Rattle.psb_model.specs.Grammar.{ascend};
 ghost use Rattle.psb_model.specs.Words.{slots};
-ghost use Rattle.peer_lists.specs.Walks.{IsRunFrom};
-ghost use Rattle.peer_lists.specs.Sought.{IsPart, sought};
+ghost use Rattle.peer_lists.specs.Walks.{IsRunFrom, entry_after};
+ghost use Rattle.peer_lists.specs.Sought.{IsPart, sought, number_behind};
 
 use crate::entry::Entry;
 use crate::entry_list::EntryList;
 use psb_bytes::{Memory, Object, SlotList};
 use slot_runs::{Part, Run, part_of};
 use std::alloc::Global;
+
+/// The first number, or the first behind this one.
+fn number_behind(place: Option<u32>) -> u64
+    ensures number { result ≡ number_behind place }
+    ensures fits { result ≤ 2 ^ 32 }
+{
+    match place {
+        None => 0,
+        Some(number) => u64::from(number) + 1,
+    }
+}
 
 impl<E: Entry> EntryList<E, E::Rest> {
     ghost use Rattle.peer_lists.specs.EntryLists.{items, IsList};
@@ -64,6 +77,22 @@ impl<E: Entry> EntryList<E, E::Rest> {
                 return Some(E::join(Object::Slot(number), part.run.rest));
             }
             left -= count;
+            from = u64::from(part.run.last) + 1;
+        }
+        None
+    }
+
+    /// The first slot that is sought, or the first behind the one of this number.
+    pub fn sought_after(&self, test: &E::Test, but: &[u32], place: Option<u32>) -> Option<E>
+        requires ascend { ascend but.now ≡ true }
+        requires list { IsList E.key E.joined self.now }
+        ensures { result ≡ entry_after E.key (option_map Slot place) (sought E.key (E.passes test.now) but.now (items E.key E.joined self.now)) }
+    {
+        let mut from = number_behind(place);
+        while let Some(part) = self.part_from(test, but, from) {
+            if part.is_sought {
+                return Some(E::join(Object::Slot(part.run.first), part.run.rest));
+            }
             from = u64::from(part.run.last) + 1;
         }
         None

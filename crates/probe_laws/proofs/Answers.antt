@@ -1,6 +1,6 @@
 -- A Proof of the probe that runs is noted as its outcome.
-use Rattle.std.proofs.Common.{◌≡◌, ◌≤◌, ℕ, ⊎_elim, Bool, true, false, ◌==◌, cond, if◌then◌else◌, option_to_list, List, [], ◌∷◌, ◌++◌, Option, Some, None, refl, sym, ap, ◌∙◌, subst, arith}
-use Rattle.std.proofs.lemmas.Bool.{eqb-true, eq-eqb}
+use Rattle.std.proofs.Common.{◌≡◌, ◌≤◌, ℕ, ⊎_elim, Bool, true, false, ◌==◌, cond, if◌then◌else◌, option_to_list, List, [], ◌∷◌, ◌++◌, Option, Some, None, refl, sym, ap, ◌∙◌, subst}
+use Rattle.std.proofs.lemmas.Bool.{eq-eqb}
 use Rattle.psb_bytes.specs.declared.ids.Object.{Object}
 use Rattle.psb_bytes.specs.Objects.{name_eq}
 use Rattle.psb_model.specs.State.{Row, State, row, row_in, has_row, is_peer}
@@ -26,7 +26,7 @@ use Rattle.psb_machine.specs.OwnProbes.{Run, run_by, nonce_of, is_of, own_bytes,
 use Rattle.psb_machine.specs.Machine.{Situation, Input, Reaction, quiet, by_value, by_proof, fresh, run_at, react, next}
 use Rattle.psb_machine.specs.Course.{after_all}
 use Rattle.psb_machine.proofs.Causes.{react-message}
-use Rattle.psb_machine.proofs.Runs.{run_open}
+use Rattle.psb_machine.proofs.Runs.{run_open, not_zero}
 use Rattle.probe_laws.specs.Just.{IsProof}
 use Rattle.probe_laws.specs.Answers.{IsNoted, AnswersAreNoted}
 use Rattle.probe_laws.proofs.Carried.{some_is}
@@ -72,9 +72,6 @@ behind_step h c lawful grammar may all p k objects is =
 
 asked_behind : (h : List Change) (p k : ℕ) (objects : List Object) → is_lawful h ≡ true → (row (state h) p).asked ≡ Some (k, objects) → 1 ≤ k
 asked_behind h p k objects lawful is = by_growth IsBehind (λ q m os e. absurd (cc (e))) behind_step h lawful p k objects is
-
-not_zero : (n : ℕ) → 1 ≤ n → (n == 0) ≡ false
-not_zero n h = by_cases (n == 0) (λ k. absurd (omega (arith, h, eqb-true n 0 k))) (λ k. k)
 
 -- who was asked has a row
 asked_row : (rows : List (ℕ × Row)) (p : ℕ) (a : ℕ × List Object) → (row_in rows p).asked ≡ Some a → has_row rows p ≡ true

@@ -71,6 +71,7 @@ react_carries n x = caused Carries n x (record {
   choice = λ settings p key candidates came present keyed chosen. refl;
   propose = λ settings p key what came present keyed idle found. refl;
   late = λ settings p key r came present keyed run over. refl;
+  due = λ settings p key came present keyed is. refl;
   asks = λ settings p key first rest came present keyed idle there. refl;
   proof = λ settings bytes i nonce value own r came present read is run of known. value_body i.from value r (name_eq own value);
   declined = λ settings bytes i nonce places r came present read is run of theirs. refl;

@@ -1,5 +1,5 @@
 -- Each outcome of a probe has its reason.
-use Rattle.std.proofs.Common.{◌≡◌, inl, inr, ℕ, Bool, true, false, ◌==◌, if◌then◌else◌, List, [], ◌∷◌, filter, Option, Some, None, Ok, refl, sym, ap, ◌∙◌, subst}
+use Rattle.std.proofs.Common.{◌≡◌, inl, inr, ℕ, Bool, true, false, ◌==◌, if◌then◌else◌, List, ◌∷◌, Option, Some, None, Ok, refl, sym, ap, ◌∙◌, subst}
 use Rattle.std.specs.List.{list_all}
 use Rattle.std.proofs.lemmas.Bool.{and_parts, eqb-true}
 use Rattle.psb_bytes.specs.declared.ids.Object.{Object}
@@ -8,7 +8,6 @@ use Rattle.psb_settings.specs.declared.settings.Settings.{Settings}
 use Rattle.psb_model.specs.State.{row}
 use Rattle.psb_model.specs.History.{state}
 use Rattle.psb_model.specs.declared.change.Change.{Change}
-use Rattle.psb_model.proofs.ByObject.{by_cases}
 use Rattle.psb_model.proofs.Own.{name_same}
 use Rattle.wire_codec.specs.Frames.{Incoming, read_frame}
 use Rattle.wire_codec.specs.declared.frame.Frame.{Frame}
@@ -23,7 +22,7 @@ use Rattle.psb_machine.specs.Settling.{Reply, Accepts, Refuses, answers_deal}
 use Rattle.psb_machine.specs.Machine.{Situation, Input, Datagram, run_at, react}
 use Rattle.psb_machine.proofs.Causes.{caused}
 use Rattle.psb_machine.proofs.Made.{settles_by}
-use Rattle.psb_machine.proofs.Listing.{all_from}
+use Rattle.psb_machine.proofs.Listing.{all_from, passes_filter}
 use Rattle.probe_laws.specs.Just.{IsRead, IsCompared, JustOutcome, OutcomesAreJust}
 
 -- ---- frames
@@ -101,10 +100,6 @@ compared n settings bytes i nonce value own r present read is run of known =
       compared = refl;
     }
 
-passes_filter : (q : Object → Bool) (os : List Object) → list_all q (filter q os) ≡ true
-passes_filter q [] = refl
-passes_filter q (o ∷ os) = by_cases (q o) (λ k. rw k (rw k (passes_filter q os))) (λ k. rw k (passes_filter q os))
-
 -- each of them may be listed
 drawn_may : (n : Situation) (p k : ℕ) → list_all (may_list (row (state n.history) p)) (listed_from k (objects_to_ask (row (state n.history) p))) ≡ true
 drawn_may n p k = all_from (may_list (row (state n.history) p)) k (objects_to_ask (row (state n.history) p)) (passes_filter (may_list (row (state n.history) p)) _)
@@ -114,6 +109,7 @@ just n x = caused (Just n x) n x (record {
   none = tt;
   deal = λ settings bytes i deal came present read is fresh. just_deal n x settings n.history i.from i.number deal;
   reply = λ settings bytes i reply c came present read is made. subst (λ (d : Change). JustOutcome n x d) (settles_by (state n.history) i.from i.number reply c made) (just_answer n x i.from i.number reply);
+  due = λ settings p key came present keyed is. tt;
   choice = λ settings p key candidates came present keyed chosen. tt;
   propose = λ settings p key what came present keyed idle found. tt;
   late = λ settings p key r came present keyed run over. inl (record { ticks = came; began = r.began; runs = run; late = over; how = refl; got = refl });

@@ -25,9 +25,9 @@ use Rattle.psb_model.proofs.Own.{name_same}
 use Rattle.psb_model.proofs.Parts.{own_slots-chunk}
 use Rattle.psb_model.proofs.Steps.{parts}
 use Rattle.psb_model.proofs.Rows.{note_lists}
-use Rattle.psb_model.proofs.Bare.{bare, bare_rows, bare_out, bare_debt, has_bare, changed, rows_then}
+use Rattle.psb_model.proofs.Bare.{changed, named_then}
 use Rattle.psb_model.proofs.Held.{any_less}
-use Rattle.psb_model.proofs.Lent.{lent, has_both, has_only, moved_outs}
+use Rattle.psb_model.proofs.Lent.{lent, has_both, has_only, booked_has, again_has, moved_outs}
 use Rattle.psb_model.proofs.Prefixes.{lawful_cons}
 use Rattle.psb_model.proofs.Steady.{IsSteady, or_true, allows, row_names, own_keeps, steady_after, steady_nothing}
 use Rattle.probe_laws.specs.There.{RowsNameOwn}
@@ -48,11 +48,6 @@ used_has (suc n) (d ∷ ds) o h = by_cases (nat_le d.left (suc n))
     (λ k. let h' = rw k at h in let there = used_has (suc n - d.left) ds o h' in rw there (or_true (object_eq d.object o)))
     (λ k. let h' = rw k at h in h')
 
--- (as the private one of psb_model: its Lent)
-booked_has : (n : ℕ) (declined : Bool) (l : List OutEntry) (o : Object) → has debt_key (map (debt_row n declined) l) o ≡ has out_key l o
-booked_has n declined [] o = refl
-booked_has n declined (e ∷ es) o = ap (λ b. object_eq e.object o || b) (booked_has n declined es o)
-
 -- what is booked was there
 lost_was : (n : ℕ) (declined : Bool) (objects : List Object) (l : List OutEntry) (o : Object) → has debt_key (lost_rows n declined objects l) o ≡ true → has out_key l o ≡ true
 lost_was n declined [] l o h = absurd (false≢true h)
@@ -61,10 +56,6 @@ lost_was n declined (x ∷ xs) l o h =
     (sym (has_both debt_key (map (debt_row n declined) (only out_key (x ∷ []) l)) (lost_rows n declined xs l) o) ∙ h)
     (λ k. (and_parts (has out_key l o) (listed (x ∷ []) o) (sym (booked_has n declined (only out_key (x ∷ []) l) o ∙ has_only out_key (x ∷ []) l o) ∙ k)).0)
     (λ k. lost_was n declined xs l o k)
-
-again_has : (l : List DebtEntry) (o : Object) → has out_key (map out_again l) o ≡ has debt_key l o
-again_has [] o = refl
-again_has (d ∷ ds) o = ap (λ b. object_eq d.object o || b) (again_has ds o)
 
 -- what returns was in debt
 returned_was : (objects : List Object) (ds : List DebtEntry) (o : Object) → has out_key (map out_again (filter (is_whole_listed objects) ds)) o ≡ true → has debt_key ds o ≡ true
@@ -215,17 +206,6 @@ changed_own s c p n was may e own h =
     (λ k. pending_own s c p n was may e own k)
 
 -- ---- rows
-
--- states of entries do not matter
-named_bare : (rows : List (ℕ × Row)) (n : List ℕ) → is_named (bare_rows rows) n ≡ is_named rows n
-named_bare [] n = refl
-named_bare (x ∷ xs) n =
-    ap (λ b. (b || has debt_key (bare x.1).debts (Chunk n) || name_listed (pending_name deal_name x.1.pending) n) || is_named (bare_rows xs) n) (has_bare out_key bare_out (λ e. refl) x.1.outs (Chunk n))
-    ∙ ap (λ b. (has out_key x.1.outs (Chunk n) || b || name_listed (pending_name deal_name x.1.pending) n) || is_named (bare_rows xs) n) (has_bare debt_key bare_debt (λ e. refl) x.1.debts (Chunk n))
-    ∙ ap (λ b. row_names x.1 n || b) (named_bare xs n)
-
-named_then : (s : State) (c : Change) (p : ℕ) (n : List ℕ) → peer_of c ≡ Some p → is_named (all_rows_after s c) n ≡ is_named (at_row p (changed s c) s.rows) n
-named_then s c p n peer = sym (named_bare (all_rows_after s c) n) ∙ ap (λ rows. is_named rows n) (rows_then s c p peer) ∙ named_bare (at_row p (changed s c) s.rows) n
 
 -- where one row changes, what is named is named by it or was named
 named_from : {P : Type 0} (p : ℕ) (f : Row → Row) (rows : List (ℕ × Row)) (n : List ℕ) → (is_named rows n ≡ true → P) → (row_names (f (row_in rows p)) n ≡ true → P) → is_named (at_row p f rows) n ≡ true → P

@@ -4,20 +4,19 @@ use Rattle.std.specs.Prelude.{◌==◌, position}
 use Rattle.std.specs.List.{list_any, list_all}
 use Rattle.std.proofs.lemmas.Bool.{false≢true, and_parts}
 use Rattle.psb_bytes.specs.declared.ids.Object.{Object}
-use Rattle.psb_bytes.specs.declared.ids.Object.TheVariants.{Chunk}
 use Rattle.psb_model.specs.declared.entries.DebtEntry.{DebtEntry}
 use Rattle.psb_model.specs.declared.entries.OwnEntry.{OwnEntry}
 use Rattle.psb_model.specs.declared.change.Change.{Change}
-use Rattle.psb_model.specs.Words.{has, name_listed}
-use Rattle.psb_model.specs.State.{Row, State, row, has_row, at_row, in_key, out_key, debt_key, held_units, ties_in, own_has, own_len, used}
+use Rattle.psb_model.specs.Words.{has}
+use Rattle.psb_model.specs.State.{Row, State, row, has_row, at_row, in_key, held_units, ties_in, own_has, own_len, used}
 use Rattle.psb_model.specs.Grammar.{in_grammar}
 use Rattle.psb_model.specs.Conditions.{allowed, peer_of, of_a_peer}
-use Rattle.psb_model.specs.Effects.{after, all_rows_after, own_after, deal_name, pending_name, is_named, given_up, issued_after, settings_after, kept_after, snapped_after, chosen_after}
+use Rattle.psb_model.specs.Effects.{after, all_rows_after, own_after, is_named, given_up, issued_after, settings_after, kept_after, snapped_after, chosen_after}
 use Rattle.psb_model.proofs.Own.{named_keeps}
 use Rattle.psb_model.proofs.Held.{filter_has}
 use Rattle.psb_model.proofs.Steady.{allows, row_use, rows_use, use_within, use_at_row, KeepsNamed, uses_kept, is_kept}
 use Rattle.psb_model.proofs.Freed.{freed, rows_freed, freed_bare, freed_uses, frees_none, freed_none}
-use Rattle.psb_model.proofs.Bare.{bare, bare_out, bare_debt, bare_rows, has_bare, changed}
+use Rattle.psb_model.proofs.Bare.{bare_rows, changed, named_bare}
 use Rattle.psb_ledger.specs.declared.ledger.Ledger.TheInside.{Inside}
 use Rattle.peer_account.specs.View.{AccountView, named_row}
 use Rattle.psb_ledger.specs.View.{LedgerView, IsReached, IsSound}
@@ -122,14 +121,6 @@ found_freed l c p i r q vs f fr =
 -- a change that changes no state leaves them as they are
 pub unfreed : (l : Inside) (c : Change) (i p : ℕ) (r : AccountView) → frees_none c ≡ true → IsAt l c p i r → IsFreed l c l.accounts.items i r
 unfreed l c i p r none f = record { rows = sym (freed_none (state_of l) c none); here = f.here }
-
--- what rows name does not look at states
-named_bare : (rows : List (ℕ × Row)) (n : List ℕ) → is_named (bare_rows rows) n ≡ is_named rows n
-named_bare [] n = refl
-named_bare (x ∷ xs) n =
-    ap (λ b. b || has debt_key (bare x.1).debts (Chunk n) || name_listed (pending_name deal_name x.1.pending) n || is_named (bare_rows xs) n) (has_bare out_key bare_out (λ e. refl) x.1.outs (Chunk n))
-    ∙ ap (λ b. has out_key x.1.outs (Chunk n) || b || name_listed (pending_name deal_name x.1.pending) n || is_named (bare_rows xs) n) (has_bare debt_key bare_debt (λ d. refl) x.1.debts (Chunk n))
-    ∙ ap (λ b. has out_key x.1.outs (Chunk n) || has debt_key x.1.debts (Chunk n) || name_listed (pending_name deal_name x.1.pending) n || b) (named_bare xs n)
 
 kept_freed : (l : Inside) (c : Change) (i : ℕ) (q : AccountView) (vs : List AccountView) (own : List OwnEntry) → IsFreed l c vs i q → list_all (is_kept (state_of l).rows) own ≡ true → list_all (is_kept (map named_row vs)) own ≡ true
 kept_freed l c i q vs [] fr h = refl

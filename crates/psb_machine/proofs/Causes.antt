@@ -29,7 +29,7 @@ use Rattle.psb_machine.specs.Sampling.{open_question, answers}
 use Rattle.psb_machine.specs.declared.snap_note.SnapNote.{SnapNote}
 use Rattle.psb_machine.specs.declared.deals.Standing.{Standing}
 use Rattle.psb_machine.specs.declared.deals.Standing.TheVariants.{Fresh, Repeat, Stale, Gap}
-use Rattle.psb_machine.specs.Machine.{Situation, Input, Datagram, Tick, Keep, Snap, Forget, Reaction, Rule, then_by, quiet, by_standing, by_settled, by_value, by_proof, by_declined, run_at, by_late, begins_with, by_run, on_message, by_message, on_read, on_datagram, kept_with, snapped_with, has_snapshot, choice_at, choice_of, by_choice, offer_by, offer_at, grown_by, by_offer, by_key, on_tick, react}
+use Rattle.psb_machine.specs.Machine.{Situation, Input, Datagram, Tick, Keep, Snap, Forget, Reaction, Rule, then_by, quiet, by_standing, by_settled, by_value, by_proof, by_declined, run_at, by_late, discarded_by, by_due, begins_with, by_run, on_message, by_message, on_read, on_datagram, kept_with, snapped_with, has_snapshot, choice_at, choice_of, by_choice, offer_by, offer_at, grown_by, by_offer, by_key, on_tick, react}
 use Rattle.psb_machine.proofs.Taken.{either_none}
 
 -- with its settings the machine reads the datagram
@@ -83,6 +83,7 @@ pub record Causes (P : Option Change → Type 0) (n : Situation) (x : Input) : T
       → proposal (state n.history) p (listed_by (run_at n p)) (propose_facts settings (state n.history)) ≡ Some what → P (Some (Proposed (record { peer = p; deal = (row (state n.history) p).mine + 1; what = what })))
   pub late : (settings : Settings) (p : ℕ) (key : List ℕ) (r : Run) → x ≡ Tick p → (state n.history).settings ≡ Some settings → key_in (keys_of settings) p ≡ Some key → run_at n p ≡ Some r
       → is_late r.began (later (of_peer n.volatile p).clock) ≡ true → P (Some (silent_by p r))
+  pub due : (settings : Settings) (p : ℕ) (key : List ℕ) → x ≡ Tick p → (state n.history).settings ≡ Some settings → key_in (keys_of settings) p ≡ Some key → (row (state n.history) p).due ≡ true → P (Some (discarded_by (state n.history) p))
   pub asks : (settings : Settings) (p : ℕ) (key : List ℕ) (o : Object) (os : List Object) → x ≡ Tick p → (state n.history).settings ≡ Some settings → key_in (keys_of settings) p ≡ Some key → run_at n p ≡ None
       → objects_to_ask (row (state n.history) p) ≡ o ∷ os → P (Some (Asked (record { peer = p; objects = objects_drawn settings.seed (state n.history) (o ∷ os) })))
   pub proof : (settings : Settings) (bytes : List ℕ) (i : Incoming) (nonce value own : List ℕ) (r : Run) → x ≡ Datagram bytes → (state n.history).settings ≡ Some settings → read_frame settings.id (keys_of settings) bytes ≡ Ok i
@@ -185,6 +186,9 @@ late_makes P settings n p key None w present keyed is = w.none
 late_makes P settings n p key (Some r) w present keyed is =
     by_cases (is_late r.began (later (of_peer n.volatile p).clock)) (λ k. rw k (w.late settings p key r refl present keyed is k)) (λ k. rw k w.none)
 
+due_makes : (P : Option Change → Type 0) (settings : Settings) (n : Situation) (p : ℕ) (key : List ℕ) → Causes P n (Tick p) → (state n.history).settings ≡ Some settings → key_in (keys_of settings) p ≡ Some key → P (by_due (state n.history) p).grown
+due_makes P settings n p key w present keyed = by_cases (row (state n.history) p).due (λ k. rw k (w.due settings p key refl present keyed k)) (λ k. rw k w.none)
+
 begins_makes : (P : Option Change → Type 0) (settings : Settings) (n : Situation) (p clock : ℕ) (key : List ℕ) (os : List Object) → Causes P n (Tick p) → (state n.history).settings ≡ Some settings → key_in (keys_of settings) p ≡ Some key
     → run_at n p ≡ None → objects_to_ask (row (state n.history) p) ≡ os → P (begins_with settings.seed (state n.history) p clock os).grown
 begins_makes P settings n p clock key [] w present keyed idle is = w.none
@@ -203,9 +207,10 @@ key_makes : (P : Option Change → Type 0) (settings : Settings) (n : Situation)
 key_makes P settings n p None w present keyed = w.none
 key_makes P settings n p (Some key) w present keyed =
     then_makes P (by_late p (later (of_peer n.volatile p).clock) (run_at n p)) _ (late_makes P settings n p key (run_at n p) w present keyed refl)
+    (then_makes P (by_due (state n.history) p) _ (due_makes P settings n p key w present keyed)
     (then_makes P (by_choice (choice_at settings n p)) _ (choice_makes P settings n p key (choice_at settings n p) w present keyed refl)
     (then_makes P (by_offer settings n.history p (offer_at settings n p)) _ (offer_makes P settings n p key (offer_at settings n p) w present keyed refl)
-    (then_makes P (by_run settings.seed (state n.history) p (of_peer n.volatile p) (run_at n p)) _ (run_makes P settings n p key (run_at n p) w present keyed refl) w.none)))
+    (then_makes P (by_run settings.seed (state n.history) p (of_peer n.volatile p) (run_at n p)) _ (run_makes P settings n p key (run_at n p) w present keyed refl) w.none))))
 
 tick_makes : (P : Option Change → Type 0) (n : Situation) (p : ℕ) (o : Option Settings) → Causes P n (Tick p) → (state n.history).settings ≡ o → P (on_tick o n p).grown
 tick_makes P n p None w is = w.none

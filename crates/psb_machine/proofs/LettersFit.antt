@@ -16,7 +16,7 @@ use Rattle.psb_model.specs.declared.deals.DealWhat.TheVariants as own
 use Rattle.psb_model.specs.declared.entries.Candidate.{Candidate}
 use Rattle.psb_model.specs.declared.change.Change.{Change}
 use Rattle.psb_model.specs.declared.change.Change.TheVariants.{TookFresh, Refused, Forgot, Asked}
-use Rattle.psb_model.specs.State.{row, is_peer, is_held, own_has}
+use Rattle.psb_model.specs.State.{State, row, is_peer, is_held, own_has}
 use Rattle.psb_model.specs.Grammar.{fits_widths, is_u8, is_u32, is_u64, is_digest, object_fits, what_fits}
 use Rattle.psb_model.specs.Conditions.{most_claims, tests}
 use Rattle.psb_model.specs.History.{state}
@@ -52,7 +52,7 @@ use Rattle.psb_machine.specs.declared.deals.Refusal.{Refusal}
 use Rattle.psb_machine.specs.declared.deals.Standing.{Standing}
 use Rattle.psb_machine.specs.declared.deals.Standing.TheVariants.{Fresh, Repeat, Stale, Gap}
 use Rattle.psb_machine.specs.declared.question.Question.{Question}
-use Rattle.psb_machine.specs.Machine.{Situation, Input, Datagram, Tick, Keep, Snap, Forget, Reaction, Rule, quiet, grows, keeps, answers_with, by_standing, here, by_settled, on_message, by_message, on_read, on_datagram, kept_with, has_snapshot, then_by, sends, choice_at, by_choice, offer_at, by_offer, by_key, on_tick, react, run_at, by_value, by_proof, by_declined, by_late, by_run, ends_with, passes, again_at, begins_with}
+use Rattle.psb_machine.specs.Machine.{Situation, Input, Datagram, Tick, Keep, Snap, Forget, Reaction, Rule, quiet, grows, keeps, answers_with, by_standing, here, by_settled, on_message, by_message, on_read, on_datagram, kept_with, has_snapshot, then_by, sends, choice_at, by_choice, offer_at, by_offer, by_key, on_tick, react, run_at, by_value, by_proof, by_declined, by_late, discarded_by, by_due, by_run, ends_with, passes, again_at, begins_with}
 use Rattle.psb_machine.specs.Laws.{Fits, TickFits, HasRoom, AllAreFrames}
 use Rattle.psb_machine.proofs.Standings.{fresh_is_next, repeat_is_last}
 use Rattle.psb_machine.proofs.Lasts.{IsAnswered, last_there}
@@ -312,6 +312,13 @@ late_letters h p clock (Some r) = by_time (is_late r.began clock)
     by_time true = tt
     by_time false = tt
 
+due_letters : (h : List Change) (s : State) (p : ℕ) → LettersFit h (by_due s p).letters
+due_letters h s p = by_row (row s p).due
+  where
+    by_row : (b : Bool) → LettersFit h (if b then ends_with (discarded_by s p) [] else passes).letters
+    by_row true = tt
+    by_row false = tt
+
 -- a probe has the number of the change that asks, and the objects that one lists
 objects_spelled : (os : List Object) → list_all object_fits os ≡ true → list_all is_object os ≡ true
 objects_spelled [] h = refl
@@ -358,12 +365,14 @@ tick_letters settings n p (Some key) v present f keyed =
     let probed = by_run settings.seed (state n.history) p (of_peer n.volatile p) (run_at n p) in
     let offered = by_offer settings n.history p (offer_at settings n p) in
     let chosen = by_choice (choice_at settings n p) in
+    let due = by_due (state n.history) p in
     let late = by_late p (later (of_peer n.volatile p).clock) (run_at n p) in
-    then_letters n.history late (then_by chosen (then_by offered (then_by probed last))) (late_letters n.history p (later (of_peer n.volatile p).clock) (run_at n p))
+    then_letters n.history late (then_by due (then_by chosen (then_by offered (then_by probed last)))) (late_letters n.history p (later (of_peer n.volatile p).clock) (run_at n p))
+    (then_letters n.history due (then_by chosen (then_by offered (then_by probed last))) (due_letters n.history (state n.history) p)
     (then_letters n.history chosen (then_by offered (then_by probed last)) (choice_letters n.history (choice_at settings n p))
     (then_letters n.history offered (then_by probed last) (offer_letters settings n p key (offer_at settings n p) v present keyed f refl)
     (then_letters n.history probed last (run_letters settings n p key (run_at n p) v present keyed f refl)
-    (question_letters n.history p (open_question (state n.history)) v f.peer refl))))
+    (question_letters n.history p (open_question (state n.history)) v f.peer refl)))))
 
 -- ---- any input
 

@@ -22,13 +22,13 @@ use Rattle.psb_machine.proofs.Taken.{MayTake, begun_here}
 
 -- ---- no object twice
 
-abbrev self : Object → Object
+abbrev pub self : Object → Object
 self o = o
 
-abbrev count : List Object → Object → ℕ
+abbrev pub count : List Object → Object → ℕ
 count os o = occurs self os o
 
-distinct_once : (os : List Object) → ((o : Object) → count os o ≤ 1) → objects_distinct os ≡ true
+pub distinct_once : (os : List Object) → ((o : Object) → count os o ≤ 1) → objects_distinct os ≡ true
 distinct_once [] h = refl
 distinct_once (x ∷ xs) h =
     by_cases (listed xs x)
@@ -68,7 +68,7 @@ all_filter : (t q : Object → Bool) (os : List Object) → list_all t os ≡ tr
 all_filter t q [] h = refl
 all_filter t q (o ∷ os) h = let a = and_parts (t o) (list_all t os) h in by_cases (q o) (λ k. rw k (rw (a.0) (all_filter t q os a.1))) (λ k. rw k (all_filter t q os a.1))
 
-passes_filter : (q : Object → Bool) (os : List Object) → list_all q (filter q os) ≡ true
+pub passes_filter : (q : Object → Bool) (os : List Object) → list_all q (filter q os) ≡ true
 passes_filter q [] = refl
 passes_filter q (o ∷ os) = by_cases (q o) (λ k. rw k (rw k (passes_filter q os))) (λ k. rw k (passes_filter q os))
 

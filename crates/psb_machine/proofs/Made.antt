@@ -142,6 +142,7 @@ makes_such n x = caused are_made n x (record {
   choice = λ settings p key candidates came present keyed chosen. refl;
   propose = λ settings p key what came present keyed idle found. one_made (Proposed (record { peer = p; deal = (row (state n.history) p).mine + 1; what = what })) (subst (λ (o : Option DealWhat). is_made_what o ≡ true) found (proposal_made (state n.history) p (listed_by (run_at n p)) (propose_facts settings (state n.history))));
   late = λ settings p key r came present keyed run is. refl;
+  due = λ settings p key came present keyed is. refl;
   asks = λ settings p key o os came present keyed idle is. refl;
   proof = λ settings bytes i nonce value own r came present read is run of_it made. value_made i.from value r (name_eq own value);
   declined = λ settings bytes i nonce places r came present read is run of among. refl;

@@ -35,7 +35,7 @@ run_open n p r is = (run_parts (of_peer n.volatile p).began (row (state n.histor
 
 -- ---- an outcome may be noted
 
-same_objects-refl : (os : List Object) → same_objects os os ≡ true
+pub same_objects-refl : (os : List Object) → same_objects os os ≡ true
 same_objects-refl [] = refl
 same_objects-refl (o ∷ os) = rw (object_eq-refl o) (same_objects-refl os)
 
@@ -51,7 +51,7 @@ record IsOpen (h : List Change) (p : ℕ) (r : Run) : Type 0 where
   fit : list_all object_fits r.objects ≡ true
   untied : all_untied (row (state h) p) r.objects ≡ true
 
-not_zero : (n : ℕ) → 1 ≤ n → (n == 0) ≡ false
+pub not_zero : (n : ℕ) → 1 ≤ n → (n == 0) ≡ false
 not_zero n h = by_cases (n == 0) (λ k. absurd (omega (arith, h, eqb-true n 0 k))) (λ k. k)
 
 is_open : (h : List Change) (p : ℕ) (r : Run) → IsValid h → is_peer (state h) p ≡ true → is_u32 p ≡ true → is_u64 r.asked ≡ true → (row (state h) p).asked ≡ Some (r.asked, r.objects) → all_untied (row (state h) p) r.objects ≡ true → IsOpen h p r

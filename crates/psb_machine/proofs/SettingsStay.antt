@@ -46,6 +46,7 @@ react_stays n x = caused (Stays (state n.history)) n x (record {
   choice = λ settings p key candidates came present keyed chosen. refl;
   propose = λ settings p key what came present keyed idle found. refl;
   late = λ settings p key r came present keyed run is. refl;
+  due = λ settings p key came present keyed is. refl;
   asks = λ settings p key o os came present keyed idle is. refl;
   proof = λ settings bytes i nonce value own r came present read is run of_it made. value_stays (state n.history) i.from value r (name_eq own value);
   declined = λ settings bytes i nonce places r came present read is run of among. refl;

@@ -139,6 +139,7 @@ react_spares n x = caused (Spares n) n x (record {
   choice = λ settings p key candidates came present keyed chosen. λ q d r is run. absurd (cc (is));
   propose = λ settings p key what came present keyed idle found. proposed_spares n settings p what found;
   late = λ settings p key r came present keyed run over. λ q d e is k. absurd (cc (is));
+  due = λ settings p key came present keyed is. λ q d r k run. absurd (cc (k));
   asks = λ settings p key first rest came present keyed idle there. λ q d r is run. absurd (cc (is));
   proof = λ settings bytes i nonce value own r came present read is run of known. none_spares n (if name_eq own value then passed_by i.from r else wrong_by i.from value r) (value_none i.from value r (name_eq own value));
   declined = λ settings bytes i nonce places r came present read is run of theirs. λ q d e k j. absurd (cc (k));

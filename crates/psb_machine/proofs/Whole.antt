@@ -28,7 +28,7 @@ use Rattle.psb_machine.specs.Replies.{reply}
 use Rattle.psb_machine.specs.Settling.{settle}
 use Rattle.psb_machine.specs.Proposals.{Offer, frame_of, letter_of, is_even}
 use Rattle.psb_machine.specs.Sampling.{open_question, question_to, questions, answers}
-use Rattle.psb_machine.specs.Machine.{Situation, Input, Datagram, Tick, Keep, Snap, Forget, Reaction, Rule, sends, then_by, quiet, grows, answers_with, kept_with, snapped_with, has_snapshot, settled, react, by_standing, on_message, by_message, on_read, on_datagram, here, sample_to, by_settled, choice_at, by_choice, offer_at, by_offer, rules, by_key, on_tick, run_at, by_value, by_proof, by_declined, by_late, begins_with, by_run, ends_with, passes}
+use Rattle.psb_machine.specs.Machine.{Situation, Input, Datagram, Tick, Keep, Snap, Forget, Reaction, Rule, sends, then_by, quiet, grows, answers_with, kept_with, snapped_with, has_snapshot, settled, react, by_standing, on_message, by_message, on_read, on_datagram, here, sample_to, by_settled, choice_at, by_choice, offer_at, by_offer, rules, by_key, on_tick, run_at, by_value, by_proof, by_declined, by_late, discarded_by, by_due, begins_with, by_run, ends_with, passes}
 use Rattle.psb_machine.specs.declared.deals.Standing.{Standing}
 use Rattle.psb_machine.specs.declared.deals.Standing.TheVariants.{Fresh, Repeat, Stale, Gap}
 use Rattle.psb_model.specs.Grammar.{is_u64}
@@ -45,6 +45,7 @@ use Rattle.psb_machine.proofs.Choosing.{choice_may}
 use Rattle.psb_machine.proofs.Ticking.{proposed_valid}
 use Rattle.psb_machine.proofs.Runs.{run_open, number_within, passed_may, wrong_may, silent_may, declined_may}
 use Rattle.psb_machine.proofs.Listing.{asked_may}
+use Rattle.psb_machine.proofs.Discarding.{discarded_may}
 
 pub frame_read_fits : (own : ℕ) (keys : List (ℕ × List ℕ)) (x : List ℕ) (i : Incoming) → AreBytes x → read_frame own keys x ≡ Ok i → FrameFits i.from i.number i.frame
 frame_read_fits own keys x i bytes read =
@@ -89,6 +90,9 @@ keeps_valid n x v o fit = caused (λ (o : Option Change). IsValid (n.history ++ 
   late = λ settings p key r came present keyed run over.
       let f : TickFits (state n.history) p = subst (Fits n) came fit in
       take_valid n.history (silent_by p r) v (silent_may n p r v o (keyed_is_peer n.history settings p key present keyed) f.peer (number_within n.history p r v (omega (arith, f.room)) (run_open n p r run)) run);
+  due = λ settings p key came present keyed is.
+      let f : TickFits (state n.history) p = subst (Fits n) came fit in
+      take_valid n.history (discarded_by (state n.history) p) v (discarded_may n.history p v (keyed_is_peer n.history settings p key present keyed) f.peer is);
   asks = λ settings p key first rest came present keyed idle there.
       let f : TickFits (state n.history) p = subst (Fits n) came fit in
       take_valid n.history _ v (asked_may n.history settings p first rest v (keyed_is_peer n.history settings p key present keyed) f.peer there);
@@ -182,7 +186,7 @@ datagram_little : (o : Option Settings) (n : Situation) (x : List ℕ) → Littl
 datagram_little None n x = quiet_little n
 datagram_little (Some settings) n x = read_little settings n (read_frame settings.id (keys_of settings) x)
 
--- each rule has one letter at most, and a choice has none
+-- each rule has one letter at most, and a choice and a discard have none
 one_at_most : (o : Option Letter) → length (option_to_list o) ≤ 1
 one_at_most None = omega arith
 one_at_most (Some l) = omega arith
@@ -210,6 +214,13 @@ late_few p clock (Some r) next few = by_time (is_late r.began clock)
     by_time true = omega arith
     by_time false = few
 
+due_few : (s : State) (p : ℕ) (next : Rule) → length next.letters ≤ 2 → length (then_by (by_due s p) next).letters ≤ 2
+due_few s p next few = by_row (row s p).due
+  where
+    by_row : (b : Bool) → length (then_by (if b then ends_with (discarded_by s p) [] else passes) next).letters ≤ 2
+    by_row true = omega arith
+    by_row false = few
+
 -- a probe has one letter, behind which no rule is followed
 begins_few : (seed : List ℕ) (s : State) (p clock : ℕ) (os : List Object) (next : Rule) → length next.letters ≤ 1 → length (then_by (begins_with seed s p clock os) next).letters ≤ 1
 begins_few seed s p clock [] next few = few
@@ -236,8 +247,10 @@ rules_few settings n p =
     let a = offer_few settings n.history p (offer_at settings n p) in
     let b = one_at_most (option_map (question_to p) (open_question (state n.history))) in
     let c = probe_few settings.seed (state n.history) p x (run_at n p) asked b in
-    late_few p (later x.clock) (run_at n p) (then_by (by_choice (choice_at settings n p)) (then_by offered probed))
-    (choice_few (choice_at settings n p) (then_by offered probed) (then_few offered probed 2 (omega (arith, a)) (omega (arith, a, c))))
+    let chosen = then_by (by_choice (choice_at settings n p)) (then_by offered probed) in
+    late_few p (later x.clock) (run_at n p) (then_by (by_due (state n.history) p) chosen)
+    (due_few (state n.history) p chosen
+    (choice_few (choice_at settings n p) (then_by offered probed) (then_few offered probed 2 (omega (arith, a)) (omega (arith, a, c)))))
 
 key_few : (settings : Settings) (n : Situation) (p : ℕ) (o : Option (List ℕ)) → length (by_key settings n p o).letters ≤ 2
 key_few settings n p None = omega arith

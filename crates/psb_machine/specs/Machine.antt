@@ -1,16 +1,17 @@
 -- The machine: what a node makes of an input, by its history and by what a restart forgets.
 -- It is a function of the whole history; a node computes the same from the state that it keeps.
-use Rattle.std.specs.Prelude.{ℕ, ◌+◌, ◌-◌, nat_le, Bool, true, false, not, ◌||◌, ◌&&◌, ◌==◌, if◌then◌else◌, List, [], ◌∷◌, ◌++◌, length, slice_get, option_map, option_to_list, Option, Some, None, Result, Ok, Err}
+use Rattle.std.specs.Prelude.{ℕ, ◌+◌, ◌-◌, nat_le, Bool, true, false, not, ◌||◌, ◌&&◌, ◌==◌, if◌then◌else◌, List, [], ◌∷◌, ◌++◌, map, length, slice_get, option_map, option_to_list, Option, Some, None, Result, Ok, Err}
 use Rattle.std.specs.List.{list_any}
 use Rattle.psb_bytes.specs.declared.ids.Object.{Object}
 use Rattle.psb_bytes.specs.Objects.{name_eq}
 use Rattle.psb_settings.specs.declared.settings.Settings.{Settings}
 use Rattle.psb_model.specs.declared.snapshots.Snapshot.{Snapshot}
-use Rattle.psb_model.specs.State.{State, row, own_has, is_held, snaps_made}
+use Rattle.psb_model.specs.State.{State, row, in_key, own_has, is_held, snaps_made}
+use Rattle.psb_model.specs.Discards.{discards}
 use Rattle.psb_model.specs.Needed.{last_brought}
 use Rattle.psb_model.specs.History.{state}
 use Rattle.psb_model.specs.declared.change.Change.{Change}
-use Rattle.psb_model.specs.declared.change.Change.TheVariants.{Kept, Snapped, Forgot, Proposed, Asked, Chose}
+use Rattle.psb_model.specs.declared.change.Change.TheVariants.{Kept, Snapped, Forgot, Proposed, Asked, Discarded, Chose}
 use Rattle.psb_model.specs.declared.entries.Candidate.{Candidate}
 use Rattle.psb_model.specs.declared.deals.Deal.{Deal as OwnDeal}
 use Rattle.wire_codec.specs.Frames.{Incoming, read_frame, key_in}
@@ -273,7 +274,15 @@ abbrev pub by_late : ℕ → ℕ → Option Run → Rule
 by_late p clock None = passes
 by_late p clock (Some r) = if is_late r.began clock then ends_with (silent_by p r) [] else passes
 
--- One that runs is sent again at each second tick, and nothing more is done. Where none runs the next one begins, some
+-- A discard that is due lets go of what the words of its change choose (Samsara, SOSP 2003), which may be nothing: the
+-- change is made all the same, and ends what was due.
+abbrev pub discarded_by : State → ℕ → Change
+discarded_by s p = Discarded (record { peer = p; objects = map in_key (discards s p) })
+
+abbrev pub by_due : State → ℕ → Rule
+by_due s p = if (row s p).due then ends_with (discarded_by s p) [] else passes
+
+-- A probe that runs is sent again at each second tick, and nothing more is done. Where none runs the next one begins, some
 -- ticks after the last, if there is anything to ask for.
 abbrev pub again_at : List ℕ → ℕ → ℕ → Run → List Letter
 again_at seed p clock r = if is_even (clock - r.began) then probe_letter seed p r ∷ [] else []
@@ -287,15 +296,16 @@ abbrev pub by_run : List ℕ → State → ℕ → PeerState → Option Run → 
 by_run seed s p x None = if nat_le (x.ended + ticks_between) (later x.clock) then begins_with seed s p (later x.clock) (objects_to_ask (row s p)) else passes
 by_run seed s p x (Some r) = record { grown = None; letters = again_at seed p (later x.clock) r; goes_on = false }
 
--- The rules in their order: the end of a probe that is late; a choice of buddies; a deal; a probe; and, until buddies are
--- chosen, which wanted names the peer holds.
+-- The rules in their order: the end of a probe that is late; a discard that is due; a choice of buddies; a deal; a probe;
+-- and, until buddies are chosen, which wanted names the peer holds.
 abbrev pub rules : Settings → Situation → ℕ → Rule
 rules settings n p =
     then_by (by_late p (later (of_peer n.volatile p).clock) (run_at n p))
+    (then_by (by_due (state n.history) p)
     (then_by (by_choice (choice_at settings n p))
     (then_by (by_offer settings n.history p (offer_at settings n p))
     (then_by (by_run settings.seed (state n.history) p (of_peer n.volatile p) (run_at n p))
-    (sends (questions (state n.history) p)))))
+    (sends (questions (state n.history) p))))))
 
 abbrev pub ruled : ℕ → Rule → Reaction
 ruled p r = record { grown = r.grown; letters = r.letters; note = Ticked p; dropped = None }

@@ -3,7 +3,7 @@ use Rattle.std.specs.Prelude.{Bool, true, false}
 use Rattle.psb_model.specs.declared.deals.DealWhat.{DealWhat}
 use Rattle.psb_model.specs.declared.deals.DealWhat.TheVariants.{Fresh, Swap, Cancel, PutBack, Forward, Return}
 use Rattle.psb_model.specs.declared.change.Change.{Change}
-use Rattle.psb_model.specs.declared.change.Change.TheVariants.{Begun, Kept, Snapped, Forgot, TookFresh, TookSwap, LetGo, LetGoBack, Refused, Proposed, Settled, Turned, Asked, Passed, Failed, Declined, Chose}
+use Rattle.psb_model.specs.declared.change.Change.TheVariants.{Begun, Kept, Snapped, Forgot, TookFresh, TookSwap, LetGo, LetGoBack, Refused, Proposed, Settled, Turned, Asked, Passed, Failed, Declined, Discarded, Chose}
 
 -- The machine proposes deals of these kinds: all but those that move a claim to another peer, or back from there.
 abbrev pub is_made_deal : DealWhat → Bool
@@ -16,7 +16,7 @@ is_made_deal (Return slot) = false
 
 -- The kinds in a history that the machine makes: the beginning, which stands before its first input; what is kept of
 -- the node's own; what the deals of a peer make but for a replaced claim; the own deals but for those that move a
--- claim, with their replies; a probe and its outcomes; and a choice of buddies. So far it makes no discard.
+-- claim, with their replies; a probe and its outcomes; a discard; and a choice of buddies.
 abbrev pub is_made : Change → Bool
 is_made (Begun x) = true
 is_made (Kept x) = true
@@ -34,5 +34,6 @@ is_made (Asked x) = true
 is_made (Passed x) = true
 is_made (Failed x) = true
 is_made (Declined x) = true
+is_made (Discarded x) = true
 is_made (Chose x) = true
 is_made _ = false

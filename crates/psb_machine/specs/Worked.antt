@@ -1,5 +1,6 @@
--- Worked deals, so that the definitions can be seen at work.
+-- Worked deals and discards, so that the definitions can be seen at work.
 use Rattle.std.specs.Prelude.{◌≡◌, ℕ, Bool, true, false, List, [], ◌∷◌, length, Some, None}
+use Rattle.psb_bytes.specs.declared.ids.Object.{Object}
 use Rattle.psb_bytes.specs.declared.ids.Object.TheVariants.{Slot}
 use Rattle.psb_model.specs.State.{Row, State, blank, nothing_yet}
 use Rattle.psb_model.specs.Effects.{after, direct_slot, own_slot}
@@ -7,11 +8,12 @@ use Rattle.psb_model.specs.declared.deals.DealWhat.{DealWhat}
 use Rattle.psb_model.specs.declared.deals.DealWhat.TheVariants as own
 use Rattle.psb_model.specs.declared.entries.OutState.TheVariants as on
 use Rattle.psb_model.specs.declared.change.Change.{Change}
-use Rattle.psb_model.specs.declared.change.Change.TheVariants.{TookFresh, LetGo, LetGoBack, Refused, Settled, Turned}
+use Rattle.psb_model.specs.declared.change.Change.TheVariants.{TookFresh, LetGo, LetGoBack, Refused, Settled, Turned, Discarded}
 use Rattle.psb_bytes.specs.declared.lists.SlotClaim.{SlotClaim}
 use Rattle.psb_model.specs.declared.entries.InEntry.{InEntry}
 use Rattle.psb_machine.specs.Settling.{Accepts, Refuses, settle}
 use Rattle.psb_machine.specs.Volatile.{ticks_to_wait}
+use Rattle.psb_machine.specs.Machine.{Rule, passes, ends_with, by_due}
 use Rattle.psb_machine.specs.Deals.{Facts, Deal, StoreFresh, StoreSwap, Cancel, PutBack, judge}
 
 -- a chunk of right bytes that nobody holds, where so many claims were issued and so much may be held
@@ -121,3 +123,28 @@ pub record DealsWorked (name other bytes claim : List ℕ) : Type 0 where
 
 abbrev pub WorkedDeals : Type 0
 WorkedDeals = (name other bytes claim : List ℕ) → DealsWorked name other bytes claim
+
+-- ---- discards
+
+-- Peer 2 has slots 9 and 10 here, and lost so many units; it failed six probes in a row, so that each word lets an
+-- entry go.
+abbrev pub failed_row : ℕ → Row
+failed_row owed = record blank {
+  ins = direct_slot 9 ∷ direct_slot 10 ∷ [];
+  debts = record { object = Slot 3; units = 2; left = owed; cause = 1; declined = false; state = on.Own } ∷ [];
+  fails = 6;
+  due = true;
+}
+
+-- the rule that discards these, with no letter
+abbrev pub discards_these : List Object → Rule
+discards_these objects = ends_with (Discarded (record { peer = 2; objects = objects })) []
+
+-- No more goes than is owed, in object order. An entry that a deal ties stays. Where the debt was paid back, the discard is of
+-- nothing; and where none is due, none is made.
+pub record WorkedDiscards : Type 0 where
+  pub all : by_due (with_row (failed_row 2)) 2 ≡ discards_these (Slot 9 ∷ Slot 10 ∷ [])
+  pub within_the_debt : by_due (with_row (failed_row 1)) 2 ≡ discards_these (Slot 9 ∷ [])
+  pub tied : (name : List ℕ) → by_due (with_row (record (failed_row 2) { pending = Some (record { number = 1; what = own.Cancel name (9 ∷ []) }) })) 2 ≡ discards_these (Slot 10 ∷ [])
+  pub paid_back : by_due (with_row (record (failed_row 2) { debts = [] })) 2 ≡ discards_these []
+  pub none_due : by_due (with_row (record (failed_row 2) { due = false })) 2 ≡ passes

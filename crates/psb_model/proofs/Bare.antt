@@ -3,7 +3,7 @@ use Rattle.std.proofs.Common.{◌≡◌, ℕ, Bool, true, ◌||◌, ◌&&◌, �
 use Rattle.std.specs.List.{list_any, list_all}
 use Rattle.std.proofs.lemmas.Bool.{eqb-true}
 use Rattle.psb_bytes.specs.declared.ids.Object.{Object}
-use Rattle.psb_bytes.specs.declared.ids.Object.TheVariants.{Slot}
+use Rattle.psb_bytes.specs.declared.ids.Object.TheVariants.{Slot, Chunk}
 use Rattle.psb_model.specs.declared.entries.InEntry.{InEntry}
 use Rattle.psb_model.specs.declared.entries.OutEntry.{OutEntry}
 use Rattle.psb_model.specs.declared.entries.DebtEntry.{DebtEntry}
@@ -16,11 +16,11 @@ use Rattle.psb_model.specs.declared.deals.DealWhat.{DealWhat}
 use Rattle.psb_model.specs.declared.deals.DealWhat.TheVariants.{Fresh, Swap, Cancel, PutBack, Forward, Return}
 use Rattle.psb_model.specs.declared.change.Change.{Change}
 use Rattle.psb_model.specs.declared.change.Change.TheVariants.{Begun, Replaced, Settled, TookFresh, TookSwap, LetGo, LetGoBack, Refused, Proposed, Turned, Asked, Passed, Failed, Declined, Discarded}
-use Rattle.psb_model.specs.Words.{object_eq, has}
-use Rattle.psb_model.specs.State.{Row, State, row, row_in, is_peer, at_row}
+use Rattle.psb_model.specs.Words.{object_eq, name_listed, has}
+use Rattle.psb_model.specs.State.{Row, State, row, row_in, is_peer, at_row, out_key, debt_key}
 use Rattle.psb_model.specs.Conditions.{peer_of}
 use Rattle.psb_model.specs.Move.{after_move}
-use Rattle.psb_model.specs.Effects.{move_of, settle_states, states_of, note_of, loosen, relabel_in, relabel_out, relabel_debt, disturbed, rows_after, all_rows_after, after}
+use Rattle.psb_model.specs.Effects.{move_of, settle_states, states_of, note_of, loosen, relabel_in, relabel_out, relabel_debt, disturbed, rows_after, all_rows_after, after, deal_name, pending_name, is_named}
 use Rattle.psb_model.proofs.ByObject.{by_cases}
 use Rattle.psb_model.proofs.Rows.{row_in-at_row, row_in-at_other}
 
@@ -178,3 +178,14 @@ row_bare s c q p e here =
     ∙ by_cases (q == p)
     (λ k. rw k (ap bare (subst (λ x. row_in (at_row q (changed s c) s.rows) x ≡ changed s c (row s x)) (eqb-true q p k) (row_in-at_row q (changed s c) s.rows here))))
     (λ k. rw k (ap bare (row_in-at_other q p (changed s c) s.rows k)))
+
+-- what rows name does not look at states
+pub named_bare : (rows : List (ℕ × Row)) (n : List ℕ) → is_named (bare_rows rows) n ≡ is_named rows n
+named_bare [] n = refl
+named_bare (x ∷ xs) n =
+    ap (λ b. b || has debt_key (bare x.1).debts (Chunk n) || name_listed (pending_name deal_name x.1.pending) n || is_named (bare_rows xs) n) (has_bare out_key bare_out (λ e. refl) x.1.outs (Chunk n))
+    ∙ ap (λ b. has out_key x.1.outs (Chunk n) || b || name_listed (pending_name deal_name x.1.pending) n || is_named (bare_rows xs) n) (has_bare debt_key bare_debt (λ d. refl) x.1.debts (Chunk n))
+    ∙ ap (λ b. has out_key x.1.outs (Chunk n) || has debt_key x.1.debts (Chunk n) || name_listed (pending_name deal_name x.1.pending) n || b) (named_bare xs n)
+
+pub named_then : (s : State) (c : Change) (p : ℕ) (n : List ℕ) → peer_of c ≡ Some p → is_named (all_rows_after s c) n ≡ is_named (at_row p (changed s c) s.rows) n
+named_then s c p n peer = sym (named_bare (all_rows_after s c) n) ∙ ap (λ rows. is_named rows n) (rows_then s c p peer) ∙ named_bare (at_row p (changed s c) s.rows) n

@@ -48,7 +48,7 @@ has_parts key t (e ∷ es) o h = by_cases (object_eq (key e) o)
 
 -- ---- rows of debt
 
-booked_has : (n : ℕ) (declined : Bool) (l : List OutEntry) (o : Object) → has debt_key (map (debt_row n declined) l) o ≡ has out_key l o
+pub booked_has : (n : ℕ) (declined : Bool) (l : List OutEntry) (o : Object) → has debt_key (map (debt_row n declined) l) o ≡ has out_key l o
 booked_has n declined [] o = refl
 booked_has n declined (e ∷ es) o = ap (λ b. object_eq e.object o || b) (booked_has n declined es o)
 
@@ -61,7 +61,7 @@ lost_has n declined (x ∷ xs) l o here there =
     (λ k. rw (there, k) refl)
     (λ k. rw (there, k) (lost_has n declined xs l o (rw k at here) there))
 
-again_has : (l : List DebtEntry) (o : Object) → has out_key (map out_again l) o ≡ has debt_key l o
+pub again_has : (l : List DebtEntry) (o : Object) → has out_key (map out_again l) o ≡ has debt_key l o
 again_has [] o = refl
 again_has (d ∷ ds) o = ap (λ b. object_eq d.object o || b) (again_has ds o)
 

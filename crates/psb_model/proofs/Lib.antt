@@ -15,4 +15,5 @@ pub mod Steady
 pub mod Freed
 pub mod Held
 pub mod Lent
+pub mod Lengths
 pub mod Passing

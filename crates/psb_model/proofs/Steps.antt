@@ -41,12 +41,12 @@ not_true true h = sym h
 not_true false h = refl
 
 -- if a then not b, so if b then not a
-unless : (a b : Bool) → (a ≡ true → not b ≡ true) → b ≡ true → a ≡ false
+pub unless : (a b : Bool) → (a ≡ true → not b ≡ true) → b ≡ true → a ≡ false
 unless true b f h = absurd (false≢true (sym (not_true b (f refl)) ∙ h))
 unless false b f h = refl
 
 -- what the pending deal of p ties is tied
-tie_shows : (rows : List (ℕ × Row)) (p q : ℕ) (d : Deal) (o : Object) → (row_in rows p).pending ≡ Some d → listed (in_ties p d.what q) o ≡ true → list_any (λ (x : ℕ × Row). ties_in x.0 x.1.pending q o) rows ≡ true
+pub tie_shows : (rows : List (ℕ × Row)) (p q : ℕ) (d : Deal) (o : Object) → (row_in rows p).pending ≡ Some d → listed (in_ties p d.what q) o ≡ true → list_any (λ (x : ℕ × Row). ties_in x.0 x.1.pending q o) rows ≡ true
 tie_shows [] p q d o e h = cc
 tie_shows (x ∷ xs) p q d o e h =
     by_cases (x.0 == p)

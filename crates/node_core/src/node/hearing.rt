@@ -2,7 +2,7 @@
 
 ghost use Rattle.std.specs.Prelude.{◌≡◌, ◌⊎◌, ◌≤◌, ◌<◌, ◌^◌, if◌then◌else◌, [], ◌∷◌, List, Bool, ℕ, true, false, length, Some, None, IfSome, IfOk, OnOk, OnErr};
 ghost use Rattle.psb_digest.specs.Clashes.{Pair};
-ghost use Rattle.psb_model.specs.State.{State, row, is_held};
+ghost use Rattle.psb_model.specs.State.{row, is_held};
 ghost use Rattle.psb_model.specs.History.{state};
 ghost use Rattle.psb_station.specs.Span.{Tells_bytes, Looked};
 ghost use Rattle.wire_codec.specs.Frames.{datagram};
@@ -11,7 +11,7 @@ ghost use Rattle.psb_machine.specs.Deals.{is_compared, judge};
 ghost use Rattle.psb_machine.specs.Gets.{has_chunk};
 ghost use Rattle.psb_machine.specs.Judging.{IsShort};
 ghost use Rattle.psb_machine.specs.Machine.{Situation, Datagram, Forget, react};
-ghost use Rattle.psb_machine.specs.Messages.{Deals, Replies, Gets, Asks, Tells, Probes};
+ghost use Rattle.psb_machine.specs.Messages.{Deals, Replies, Gets, Probes};
 ghost use Rattle.node_facts.specs.Probed.{Lacks};
 ghost use Rattle.psb_machine.specs.Sampling.{open_question, bits_of, answers};
 ghost use Rattle.psb_machine.specs.Settling.{settle};

@@ -1,7 +1,6 @@
 //! The node's own probes of its peers, and what comes of an answer. Nothing is written here.
 
 ghost use Rattle.std.specs.Prelude.{◌≡◌, ◌⊎◌, ◌<◌, ◌^◌, [], ◌∷◌, List, ℕ, map, false, option_to_list, Some, None, IfSome, IfOk, OnErr};
-ghost use Rattle.std.specs.Option.{option_map};
 ghost use Rattle.psb_settings.specs.declared.settings.Settings.{Settings};
 ghost use Rattle.psb_station.specs.Span.{Tells_bytes, Looked};
 ghost use Rattle.psb_model.specs.History.{state};
@@ -9,13 +8,14 @@ ghost use Rattle.wire_codec.specs.Frames.{key_in};
 ghost use Rattle.psb_machine.specs.Letters.{spelled};
 ghost use Rattle.psb_machine.specs.Messages.{Proves, Declines};
 ghost use Rattle.psb_machine.specs.Volatile.{of_peer, later};
-ghost use Rattle.psb_machine.specs.Machine.{Situation, run_at, by_late};
+ghost use Rattle.psb_machine.specs.Machine.{Situation};
 ghost use Rattle.peer_states.specs.PeerStates.{state_of};
 ghost use Rattle.own_probes.specs.Probes.{letter_in, AreFew};
 
 use super::Node;
 use crate::Fault;
 use crate::reaction::{Asking, Reaction, asks, made, no_letter};
+use due_discards::discard_at;
 use node_facts::Holdings;
 use node_journal::Log;
 use node_letters::{Letter, Sender, letter_to, probe_of};
@@ -33,7 +33,7 @@ impl<L: Log> Node<L> {
     ghost use Rattle.node_core.specs.Stored.{Knows, Stored, IsCounted};
     ghost use Rattle.node_core.specs.Unread.{AnswersNone};
     ghost use Rattle.node_core.specs.Hearing.{Heard, Hears, HearsSo};
-    ghost use Rattle.node_core.specs.Ticking.{IsWorkedOut, IsRunAt, Asks};
+    ghost use Rattle.node_core.specs.Ticking.{IsWorkedOut, IsRunAt, by_failure, Asks};
     ghost use Rattle.node_core.specs.Reacting.{MayCome, IsSame};
 
     /// The probe of a peer that runs, if one does, by what is kept of the peer.
@@ -44,8 +44,9 @@ impl<L: Log> Node<L> {
         run_of(self.alloc, self.ledger.ledger(), peer, at)
     }
 
-    /// The change that ends a probe which is late with this tick.
-    pub(super) fn late_at(
+    /// What failures of a peer come to at this tick: the change that ends a probe which is late, or else a discard that is
+    /// due, which may take nothing.
+    pub(super) fn failure_at(
         &self,
         peer: PeerId,
         at: &PeerState,
@@ -55,10 +56,13 @@ impl<L: Log> Node<L> {
         requires few { self.now.ledger.state.changes < 2 ^ 62 }
         requires kept { state_of self.now.states.items peer ≡ Some at.now }
         requires run { IsRunAt run.now self.now peer }
-        ensures late { IfOk result (λ o. (n : Situation) → Knows self.now n → o ≡ (by_late peer (later (of_peer n.volatile peer).clock) (run_at n peer)).grown) }
+        ensures rule { IfOk result (λ o. (n : Situation) → Knows self.now n → o ≡ (by_failure n peer).grown) }
         ensures may { IfOk result (λ o. IfSome o (MayCome Knows self.now)) }
     {
-        late_probe(self.alloc, peer, run, at)
+        if let Some(change) = late_probe(self.alloc, peer, run, at)? {
+            return Ok(Some(change));
+        }
+        discard_at(self.alloc, self.ledger.ledger(), peer)
     }
 
     /// What is asked of a peer at a tick, behind the deal that is offered: a probe that runs is sent again now and then,
@@ -148,13 +152,13 @@ impl<L: Log> Node<L> {
         ensures only { OnErr result ((result ≡ Err Fault.DiskFault) ⊎ (result ≡ Err Fault.Memory)) }
     {
         let alloc = self.alloc;
-        let Some(settings) = self.ledger.ledger().settings() else {
-            unreachable!()
-        };
         let Some(at) = state_of(&self.states, sender.peer) else {
             unreachable!()
         };
-        let run = run_of(alloc, self.ledger.ledger(), sender.peer, &at)?;
+        let run = self.run_at(sender.peer, &at)?;
+        let Some(settings) = self.ledger.ledger().settings() else {
+            unreachable!()
+        };
         let held = Holdings {
             ledger: self.ledger.ledger(),
             names: &self.names,
@@ -192,13 +196,13 @@ impl<L: Log> Node<L> {
         ensures only { OnErr result (result ≡ Err Fault.Memory) }
     {
         let alloc = self.alloc;
-        let Some(settings) = self.ledger.ledger().settings() else {
-            unreachable!()
-        };
         let Some(at) = state_of(&self.states, sender.peer) else {
             unreachable!()
         };
-        let run = run_of(alloc, self.ledger.ledger(), sender.peer, &at)?;
+        let run = self.run_at(sender.peer, &at)?;
+        let Some(settings) = self.ledger.ledger().settings() else {
+            unreachable!()
+        };
         let change = declined_for(
             alloc,
             &settings.seed,

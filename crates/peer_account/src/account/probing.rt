@@ -1,6 +1,7 @@
-//! What a probe of the peer, and its outcome, move in its account.
+//! What an account says of the node's probes of its peer, and what a probe and its outcome move in it.
 
 ghost use Rattle.std.specs.Prelude.{◌≡◌, ◌+◌, ◌*◌, ◌<◌, ◌≤◌, ◌^◌, ◌∷◌, [], true, false, length, filter, sum_by};
+ghost use Rattle.std.specs.Option.{option_copied};
 ghost use Rattle.psb_model.specs.Words.{with_all};
 ghost use Rattle.psb_model.specs.State.{out_key, out_size, back_units, debt_units};
 ghost use Rattle.psb_model.specs.Conditions.{at_places, objects_at};
@@ -9,7 +10,8 @@ ghost use Rattle.peer_account.specs.View.{asked_row, out_anew, regained_row, pas
 ghost use Rattle.peer_account.specs.Probing.{StandOnce, Regains, Loses};
 
 use super::Account;
-use peer_lists::{OutList, is_whole_listed};
+use peer_debts::is_whole_listed;
+use peer_lists::OutList;
 use psb_bytes::{Object, ObjectList};
 use psb_model::{DebtEntry, Declined, Failed, OutEntry, Passed};
 
@@ -57,6 +59,28 @@ fn put_again(outs: &mut OutList, rows: &[DebtEntry], objects: &[Object]) -> u32
 }
 
 impl Account {
+    /// The number of the last probe that has no outcome yet, and the objects that it asks for.
+    pub fn asked(&self) -> Option<&(u64, ObjectList)>
+        ensures { option_copied result ≡ self.now.row.asked }
+    {
+        let _held = self.held;
+        self.probes.asked.as_ref()
+    }
+
+    /// How many probes failed in a row.
+    pub fn fails(&self) -> u32
+        ensures { result ≡ self.now.row.fails }
+    {
+        self.probes.fails
+    }
+
+    /// Whether what is here for the peer is due to be discarded.
+    pub fn due(&self) -> bool
+        ensures { result ≡ self.now.row.due }
+    {
+        self.probes.due
+    }
+
     /// Notes that the peer was asked for these objects, by the change of this number.
     pub fn ask(&mut self, objects: ObjectList, change: u64)
         ensures id { self.new.id ≡ self.old.id }

@@ -72,26 +72,6 @@ impl Account {
         }
     }
 
-    /// Makes room for so many runs of slots in what the node answers for.
-    pub fn reserve_ins(&mut self, count: usize) -> Result<(), Memory>
-        ensures id { self.new.id ≡ self.old.id }
-        ensures row { self.new.row ≡ self.old.row }
-        ensures in_room { OnOk result (count ≤ self.new.in_room) }
-        ensures out_room { self.new.out_room ≡ self.old.out_room }
-    {
-        self.ins.reserve(count)
-    }
-
-    /// Makes room for so many runs of slots in what the node has there.
-    pub fn reserve_outs(&mut self, count: usize) -> Result<(), Memory>
-        ensures id { self.new.id ≡ self.old.id }
-        ensures row { self.new.row ≡ self.old.row }
-        ensures in_room { self.new.in_room ≡ self.old.in_room }
-        ensures out_room { OnOk result (count ≤ self.new.out_room) }
-    {
-        self.outs.reserve(count)
-    }
-
     /// Sets the state of the slot in what the node answers for, if it is there.
     pub fn set_in(&mut self, slot: u32, state: InState)
         requires { 2 ≤ self.old.in_room }

@@ -1,19 +1,15 @@
 //! What a ledger makes of a choice of buddies.
 
 ghost use Rattle.std.specs.Prelude.{◌≡◌, ◌<◌, ◌≤◌, ◌^◌, take, map, length, true, OnOk, IfOk};
-ghost use Rattle.std.specs.List.{list_all};
 ghost use Rattle.psb_model.specs.declared.change.Change.TheVariants.{Chose};
-ghost use Rattle.psb_model.specs.State.{has_row};
 ghost use Rattle.psb_model.specs.Candidates.{in_select_order};
 ghost use Rattle.psb_model.specs.Grammar.{in_grammar};
 ghost use Rattle.psb_model.specs.Conditions.{allowed, buddies};
 ghost use Rattle.psb_model.specs.Effects.{after, chosen_after};
-ghost use Rattle.peer_account.specs.View.{named_row};
 
 use super::Ledger;
-use accounts::is_peer;
+use accounts::are_peers;
 use buddy_select::{comes_before, distinct_peers, have_samples};
-use peer_account::Account;
 use psb_bytes::{Memory, PeerId};
 use psb_model::Candidate;
 use psb_settings::Settings;
@@ -40,13 +36,6 @@ fn in_select_order(candidates: &[Candidate]) -> bool
         }
     }
     true
-}
-
-/// Whether each candidate is a peer.
-fn are_peers(accounts: &[Account], candidates: &[Candidate]) -> bool
-    ensures { result ≡ list_all (λ x. has_row (map named_row accounts.now) x.peer) candidates.now }
-{
-    candidates.iter().all(|x| is_peer(accounts, x.peer))
 }
 
 /// The first `count` candidates.

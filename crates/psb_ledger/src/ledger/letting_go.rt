@@ -9,13 +9,14 @@ ghost use Rattle.psb_model.specs.Effects.{after};
 ghost use Rattle.psb_ledger.specs.Moves.{MayLetGo, MayPutBack};
 
 use super::Ledger;
+use peer_rules::{allows_let_go, allows_put_back};
 use psb_model::{LetGo, LetGoBack};
 
 impl Ledger {
     pub(super) fn may_let_go(&self, x: &LetGo) -> bool
         ensures { result ≡ allowed self.now.state (change.LetGo x.now) }
     {
-        self.is_open(x.peer) && self.row(x.peer).allows_let_go(x)
+        self.is_open(x.peer) && allows_let_go(self.row(x.peer), x)
     }
 
     pub(super) fn let_go(&mut self, at: usize, x: &LetGo)
@@ -36,7 +37,7 @@ impl Ledger {
     pub(super) fn may_put_back(&self, x: &LetGoBack) -> bool
         ensures { result ≡ allowed self.now.state (change.LetGoBack x.now) }
     {
-        self.is_open(x.peer) && self.row(x.peer).allows_put_back(x)
+        self.is_open(x.peer) && allows_put_back(self.row(x.peer), x)
     }
 
     pub(super) fn put_back(&mut self, at: usize, x: &LetGoBack)

@@ -9,6 +9,7 @@ ghost use Rattle.psb_ledger.specs.Moves.{MayAsk, MayPass, MayFail, MayDecline};
 
 use super::Ledger;
 use accounts::place_of;
+use peer_rules::{allows_asking, allows_declining, allows_failing, is_outcome};
 use psb_bytes::{Memory, PeerId};
 use psb_model::{Asked, Declined, Failed, Passed};
 
@@ -41,7 +42,7 @@ impl Ledger {
     pub(super) fn may_ask(&self, x: &Asked) -> bool
         ensures { result ≡ allowed self.now.state (change.Asked x.now) }
     {
-        self.is_open(x.peer) && self.row(x.peer).allows_asking(x.objects.as_slice())
+        self.is_open(x.peer) && allows_asking(self.row(x.peer), x.objects.as_slice())
     }
 
     pub(super) fn ask(&mut self, at: usize, x: Asked)
@@ -59,7 +60,7 @@ impl Ledger {
     pub(super) fn may_pass(&self, x: &Passed) -> bool
         ensures { result ≡ allowed self.now.state (change.Passed x.now) }
     {
-        self.is_open(x.peer) && self.row(x.peer).is_outcome(x.asked, x.objects.as_slice())
+        self.is_open(x.peer) && is_outcome(self.row(x.peer), x.asked, x.objects.as_slice())
     }
 
     pub(super) fn pass(&mut self, at: usize, x: &Passed)
@@ -77,7 +78,7 @@ impl Ledger {
     pub(super) fn may_fail(&self, x: &Failed) -> bool
         ensures { result ≡ allowed self.now.state (change.Failed x.now) }
     {
-        self.is_open(x.peer) && self.row(x.peer).allows_failing(x)
+        self.is_open(x.peer) && allows_failing(self.row(x.peer), x)
     }
 
     pub(super) fn fail(&mut self, at: usize, x: &Failed)
@@ -95,7 +96,7 @@ impl Ledger {
     pub(super) fn may_decline(&self, x: &Declined) -> bool
         ensures { result ≡ allowed self.now.state (change.Declined x.now) }
     {
-        self.is_open(x.peer) && self.row(x.peer).allows_declining(x)
+        self.is_open(x.peer) && allows_declining(self.row(x.peer), x)
     }
 
     pub(super) fn decline(&mut self, at: usize, x: &Declined)

@@ -1,38 +1,20 @@
 //! What a ledger makes of an own deal that is proposed to a peer.
 
-ghost use Rattle.std.specs.Prelude.{◌≡◌, ◌+◌, ◌<◌, ◌^◌, ◌==◌, ◌&&◌, true, is_none, Some, position};
+ghost use Rattle.std.specs.Prelude.{◌≡◌, ◌<◌, ◌^◌, ◌==◌, true, Some, position};
 ghost use Rattle.psb_model.specs.declared.change.Change.TheVariants.{Proposed};
 ghost use Rattle.psb_model.specs.declared.deals.DealWhat.TheVariants.{Fresh, Swap, Cancel, PutBack, Forward, Return};
 ghost use Rattle.psb_model.specs.Words.{all_of};
 ghost use Rattle.psb_model.specs.Grammar.{what_in_grammar};
 ghost use Rattle.psb_model.specs.Conditions.{allowed, may_forward, place_tests, propose_tests};
 ghost use Rattle.psb_model.specs.Effects.{after};
-ghost use Rattle.peer_account.specs.OwnDeals.{drawn};
 ghost use Rattle.psb_ledger.specs.Moves.{proposing, may_take_back, MayPropose};
 
 use super::Ledger;
 use super::taking::capacity_of;
-use peer_account::Account;
+use peer_rules::{are_own, are_ready, is_next_own, unties_out};
 use psb_bytes::{Digest, Object, PeerId, Seat};
 use psb_model::{Deal, DealWhat, may_issue};
 use psb_settings::Settings;
-
-/// Whether the deal is the next own one, and none is pending.
-fn is_next_own(account: &Account, deal: u64) -> bool
-    ensures { result ≡ ((deal == account.now.row.mine + 1) && is_none account.now.row.pending) }
-{
-    deal != 0 && deal - 1 == account.mine() && account.pending().is_none()
-}
-
-/// The claims that the deal draws: as many as the chunk that is put back has units.
-fn drawn(account: &Account, what: &DealWhat) -> u32
-    ensures { result ≡ drawn account.now.row what.now }
-{
-    match what {
-        DealWhat::PutBack { name, .. } => account.units_out(&Object::Chunk(*name)),
-        _ => 0,
-    }
-}
 
 /// Whether the settings let claims be forwarded.
 fn forwards(settings: &Option<Settings>) -> bool
@@ -73,8 +55,8 @@ impl Ledger {
         let row = self.row(peer);
         self.may_place(peer, name)
             && slots.len() == self.own.units_of(Some(*name)) as usize
-            && row.are_own(slots)
-            && row.unties_out(slots)
+            && are_own(row, slots)
+            && unties_out(row, slots)
     }
 
     /// The chunk stands on the peer, is wanted no more, and no deal ties it.
@@ -92,7 +74,7 @@ impl Ledger {
         let row = self.row(peer);
         self.may_take_back(peer, name)
             && slots.len() == row.units_out(&Object::Chunk(*name)) as usize
-            && row.are_ready(slots)
+            && are_ready(row, slots)
             && self.unties_in(peer, slots)
     }
 
@@ -154,7 +136,7 @@ impl Ledger {
         ensures { self.new.state ≡ after self.old.state (proposing peer deal) }
     {
         let account = &mut self.accounts[at];
-        let drawn = drawn(account, &deal.what);
+        let drawn = account.drawn(&deal.what);
         account.propose(deal);
         let coming = account.coming();
         self.used += self.own.units_of(coming);

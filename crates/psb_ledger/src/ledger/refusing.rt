@@ -9,6 +9,7 @@ ghost use Rattle.psb_ledger.specs.Moves.{MayRefuse};
 
 use super::Ledger;
 use accounts::place_of;
+use peer_rules::allows_refusal;
 use psb_bytes::{Memory, PeerId};
 use psb_model::Refused;
 
@@ -35,7 +36,7 @@ impl Ledger {
     pub(super) fn may_refuse(&self, x: &Refused) -> bool
         ensures { result ≡ allowed self.now.state (change.Refused x.now) }
     {
-        self.is_open(x.peer) && self.row(x.peer).allows_refusal(x.deal, x.why)
+        self.is_open(x.peer) && allows_refusal(self.row(x.peer), x.deal, x.why)
     }
 
     pub(super) fn refuse(&mut self, at: usize, x: &Refused)

@@ -1,7 +1,7 @@
 //! What a ledger makes of a claim whose bytes the peer replaces: they are here from now on, or the claim
 //! is found to be an own one that has come home.
 
-ghost use Rattle.std.specs.Prelude.{◌≡◌, ◌==◌, ◌+◌, ◌&&◌, ◌||◌, ◌<◌, ◌^◌, true, if◌then◌else◌, nat_lt, Some, length, position};
+ghost use Rattle.std.specs.Prelude.{◌≡◌, ◌==◌, ◌<◌, ◌^◌, true, if◌then◌else◌, Some, length, position};
 ghost use Rattle.psb_bytes.specs.declared.ids.Object.TheVariants.{Slot};
 ghost use Rattle.psb_model.specs.declared.entries.InState.TheVariants as at;
 ghost use Rattle.psb_model.specs.declared.change.Change.TheVariants as change;
@@ -13,23 +13,9 @@ ghost use Rattle.psb_ledger.specs.Moves.{MayReplace};
 
 use super::Ledger;
 use accounts::free_one;
-use peer_account::Account;
+use peer_rules::allows_replacing;
 use psb_bytes::Object;
 use psb_model::{InState, Replaced};
-
-/// Whether the deal is the peer's next one.
-fn is_next(account: &Account, deal: u64) -> bool
-    ensures { result ≡ (deal == account.now.row.last.number + 1) }
-{
-    deal != 0 && deal - 1 == account.last().number
-}
-
-/// Whether the bytes come with the change, or are those of an own claim that was drawn.
-fn is_drawn(issued: u32, x: &Replaced) -> bool
-    ensures { result ≡ ((x.now.place == 0 && x.now.home == 0) || (x.now.place == 1 && nat_lt x.now.home issued)) }
-{
-    (x.place == 0 && x.home == 0) || (x.place == 1 && x.home < issued)
-}
 
 /// Where the bytes of the claim are.
 fn state_of(x: &Replaced) -> InState
@@ -46,13 +32,8 @@ impl Ledger {
     pub(super) fn may_replace(&self, x: &Replaced) -> bool
         ensures { result ≡ allowed self.now.state (change.Replaced x.now) }
     {
-        let row = self.row(x.peer);
-        let slot = Object::Slot(x.slot);
-        self.is_open(x.peer)
-            && is_next(row, x.deal)
-            && row.has(&slot)
-            && !self.tied_in(x.peer, &slot)
-            && is_drawn(self.issued, x)
+        let is_untied = !self.tied_in(x.peer, &Object::Slot(x.slot));
+        self.is_open(x.peer) && allows_replacing(self.row(x.peer), x, self.issued, is_untied)
     }
 
     pub(super) fn replace(&mut self, at: usize, x: &Replaced)

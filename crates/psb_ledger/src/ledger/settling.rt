@@ -12,6 +12,7 @@ ghost use Rattle.psb_ledger.specs.Moves.{MaySettle, MayTurn};
 
 use super::Ledger;
 use accounts::{place_of, room_for_slots, set_states};
+use peer_rules::allows_settling;
 use psb_bytes::{Memory, PeerId};
 use psb_model::{DealWhat, Settled, Turned};
 
@@ -86,7 +87,7 @@ impl Ledger {
     {
         let row = self.row(x.peer);
         let units = self.own.units_of(row.coming());
-        self.is_open(x.peer) && row.allows_settling(x, units)
+        self.is_open(x.peer) && allows_settling(row, x, units)
     }
 
     pub(super) fn settle(&mut self, at: usize, x: &Settled)

@@ -10,6 +10,7 @@ ghost use Rattle.psb_ledger.specs.Moves.{MaySwap};
 
 use super::Ledger;
 use accounts::free_slots;
+use peer_rules::allows_swap;
 use psb_bytes::units_of;
 use psb_model::TookSwap;
 
@@ -20,7 +21,7 @@ impl Ledger {
         let is_held = self.is_held(&x.name);
         let is_untied = self.unties_in(x.peer, x.slots.as_slice());
         let units = units_of(x.len);
-        self.is_open(x.peer) && self.row(x.peer).allows_swap(x, units, is_held, is_untied)
+        self.is_open(x.peer) && allows_swap(self.row(x.peer), x, units, is_held, is_untied)
     }
 
     pub(super) fn take_swap(&mut self, at: usize, x: &TookSwap)

@@ -9,7 +9,7 @@ ghost use Rattle.psb_model.specs.Effects.{after};
 ghost use Rattle.psb_ledger.specs.Moves.{MayTake};
 
 use super::Ledger;
-use peer_account::Measure;
+use peer_rules::{Measure, allows_fresh};
 use psb_bytes::units_of;
 use psb_model::TookFresh;
 use psb_settings::Settings;
@@ -44,7 +44,7 @@ impl Ledger {
         ensures { result ≡ allowed self.now.state (change.TookFresh x.now) }
     {
         let measure = self.measure(x);
-        self.is_open(x.peer) && self.row(x.peer).allows_fresh(x, &measure)
+        self.is_open(x.peer) && allows_fresh(self.row(x.peer), x, &measure)
     }
 
     pub(super) fn take_fresh(&mut self, at: usize, x: &TookFresh)

@@ -4,6 +4,7 @@ use Rattle.node_serve.specs.Spans.{RanTurns, Tally, tally_sum}
 use Rattle.node_serve.specs.Turns.{peers_in, turn_tally, total_tally, fault_end}
 use Rattle.node_serve.proofs.Runs.{counts_same, counts_then, fault_begun, fault_early, fault_is, turns_none, turns_more, turns_within, turns_unbegun}
 use Rattle.node_serve.proofs.Joined.{few_peers}
+use Rattle.node_serve.proofs.Justly.{served_justly}
 use Rattle.node_serve.proofs.serving.serve.Goals as goal
 
 pub returns-in-Err-clause-ran : goal.returns-in-Err-clause-ran
@@ -105,3 +106,23 @@ returns-clause-ran g c =
       c.loop-turn.clock,
       subst (λ (i : ℕ). RanTurns g.L.Log.holds g.L.Log.stands g.L.Log.is_broken (peers_in c.args.node.now.ledger.state.settings) 0 c.loop-turn.clock c.args.node.now c.loop-turn.node v0 v1 i (Some t) Whole) all c.loop-turn.invariant.ran,
     )
+
+pub returns-in-Err-clause-just : goal.returns-in-Err-clause-just
+returns-in-Err-clause-just g c = λ whole tells h k s.
+    let r = returns-in-Err-clause-ran g c in
+    served_justly g.L.Log.holds g.L.Log.stands g.L.Log.is_broken _ _ _ _ _ _ _ _ _ _ r.3 whole tells h k s
+
+pub returns-in-Err-peers_of-clause-just : goal.returns-in-Err-peers_of-clause-just
+returns-in-Err-peers_of-clause-just g c = λ whole tells h k s.
+    let r = returns-in-Err-peers_of-clause-ran g c in
+    served_justly g.L.Log.holds g.L.Log.stands g.L.Log.is_broken _ _ _ _ _ _ _ _ _ _ r.3 whole tells h k s
+
+pub returns-in-Err-turn-clause-just : goal.returns-in-Err-turn-clause-just
+returns-in-Err-turn-clause-just g c = λ whole tells h k s.
+    let r = returns-in-Err-turn-clause-ran g c in
+    served_justly g.L.Log.holds g.L.Log.stands g.L.Log.is_broken _ _ _ _ _ _ _ _ _ _ r.3 whole tells h k s
+
+pub returns-clause-just : goal.returns-clause-just
+returns-clause-just g c = λ whole tells h k s.
+    let r = returns-clause-ran g c in
+    served_justly g.L.Log.holds g.L.Log.stands g.L.Log.is_broken _ _ _ _ _ _ _ _ _ _ r.3 whole tells h k s

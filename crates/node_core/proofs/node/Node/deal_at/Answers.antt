@@ -1,8 +1,8 @@
 use Rattle.std.proofs.Common.{rules, ◌≡◌, ◌<◌, ◌^◌, true, inl, inr, sym, ◌∙◌, ap, subst}
 use Rattle.std.specs.Option.{option_map}
 use Rattle.psb_machine.specs.Proposals.{is_askable}
+use Rattle.own_offers.specs.Offers.{offer_in}
 use Rattle.node_core.specs.Stored.{Knows, Stored}
-use Rattle.node_core.specs.Ticking.{offer_in}
 use Rattle.node_history.proofs.Presence.{ok_map, ok_map2, ok_map3}
 use Rattle.node_core.proofs.Ticking.{offered_now, none_offered, none_offered_so, offered_here, deal_offered, deal_offered_so, offered_askable, offered_bare, offer_may_come, next_number}
 use Rattle.node_core.proofs.node.Node.deal_at.Goals as goal

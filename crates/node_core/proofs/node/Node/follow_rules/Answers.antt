@@ -5,7 +5,7 @@ use Rattle.node_core.specs.Reacting.{MayCome}
 use Rattle.node_core.specs.Stored.{Knows}
 use Rattle.node_core.proofs.Ticking.{follows_so}
 use Rattle.node_core.proofs.Committing.{same_knows, same_counted, same_then, stored_room, worked_still}
-use Rattle.node_core.proofs.Choices.{late_follows, choice_follows, deal_follows, deal_follows_so, asking_follows, asking_follows_so, choice_may_come, some_may_back, asks_back}
+use Rattle.node_core.proofs.Choices.{failure_follows, choice_follows, deal_follows, deal_follows_so, asking_follows, asking_follows_so, choice_may_come, some_may_back, asks_back}
 use Rattle.node_core.proofs.node.Node.follow_rules.Goals as goal
 
 pub returns-in-Some-2-clause-exact : goal.returns-in-Some-2-clause-exact
@@ -13,21 +13,21 @@ returns-in-Some-2-clause-exact g c = λ tells n k s.
     let old = c.args.self.now in
     let x = c.in-Some.at in
     let here : state_of old.states.items c.args.peer ≡ Some x = search rules in
-    late_follows c.made.result old n c.args.peer x c.in-Some-2.change k here (sym c.in-Some-2.is ∙ c.in_ok-change.ensures.late n k) c.made.ensures.change c.made.ensures.dropped (c.made.ensures.out ∙ c.no_letter.ensures)
+    failure_follows c.made.result old n c.args.peer x c.in-Some-2.change k here (sym c.in-Some-2.is ∙ c.in_ok-change.ensures.rule n k) c.made.ensures.change c.made.ensures.dropped (c.made.ensures.out ∙ c.no_letter.ensures)
 
 pub returns-in-Some-2-clause-unread : goal.returns-in-Some-2-clause-unread
 returns-in-Some-2-clause-unread g c = λ n k unread.
     let old = c.args.self.now in
     let x = c.in-Some.at in
     let here : state_of old.states.items c.args.peer ≡ Some x = search rules in
-    late_follows c.made.result old n c.args.peer x c.in-Some-2.change k here (sym c.in-Some-2.is ∙ c.in_ok-change.ensures.late n k) c.made.ensures.change c.made.ensures.dropped (c.made.ensures.out ∙ c.no_letter.ensures)
+    failure_follows c.made.result old n c.args.peer x c.in-Some-2.change k here (sym c.in-Some-2.is ∙ c.in_ok-change.ensures.rule n k) c.made.ensures.change c.made.ensures.dropped (c.made.ensures.out ∙ c.no_letter.ensures)
 
 pub returns-in-Some-2-clause-so : goal.returns-in-Some-2-clause-so
 returns-in-Some-2-clause-so g c = λ n k.
     let old = c.args.self.now in
     let x = c.in-Some.at in
     let here : state_of old.states.items c.args.peer ≡ Some x = search rules in
-    follows_so c.made.result n c.args.peer (late_follows c.made.result old n c.args.peer x c.in-Some-2.change k here (sym c.in-Some-2.is ∙ c.in_ok-change.ensures.late n k) c.made.ensures.change c.made.ensures.dropped (c.made.ensures.out ∙ c.no_letter.ensures))
+    follows_so c.made.result n c.args.peer (failure_follows c.made.result old n c.args.peer x c.in-Some-2.change k here (sym c.in-Some-2.is ∙ c.in_ok-change.ensures.rule n k) c.made.ensures.change c.made.ensures.dropped (c.made.ensures.out ∙ c.no_letter.ensures))
 
 pub returns-in-Some-2-clause-may : goal.returns-in-Some-2-clause-may
 returns-in-Some-2-clause-may g c = subst (λ (o : Option Change). IfSome o (MayCome Knows c.args.self.now)) (c.in-Some-2.is ∙ sym c.made.ensures.change) c.in_ok-change.ensures.may
@@ -41,7 +41,7 @@ returns-in-Some-3-clause-exact g c = λ tells n k s.
     let same = c.work_out_question.ensures.same in
     let found = subst (λ l. state_of l.items c.args.peer ≡ Some x) (sym same.states) here in
     let late : c.in_ok-change.field-0 ≡ None = search rules in
-    choice_follows c.made-in-Some-3.result mid n c.args.peer x c.in-Some-3.change (same_knows old mid n same k) found (sym late ∙ c.in_ok-change.ensures.late n k)
+    choice_follows c.made-in-Some-3.result mid n c.args.peer x c.in-Some-3.change (same_knows old mid n same k) found (sym late ∙ c.in_ok-change.ensures.rule n k)
     (λ m settings known present. sym c.in-Some-3.is ∙ c.in_ok-change-2.ensures.choice m settings known present)
     c.made-in-Some-3.ensures.change c.made-in-Some-3.ensures.dropped (c.made-in-Some-3.ensures.out ∙ c.no_letter-in-Some-3.ensures)
 
@@ -54,7 +54,7 @@ returns-in-Some-3-clause-unread g c = λ n k unread.
     let same = c.work_out_question.ensures.same in
     let found = subst (λ l. state_of l.items c.args.peer ≡ Some x) (sym same.states) here in
     let late : c.in_ok-change.field-0 ≡ None = search rules in
-    choice_follows c.made-in-Some-3.result mid n c.args.peer x c.in-Some-3.change (same_knows old mid n same k) found (sym late ∙ c.in_ok-change.ensures.late n k)
+    choice_follows c.made-in-Some-3.result mid n c.args.peer x c.in-Some-3.change (same_knows old mid n same k) found (sym late ∙ c.in_ok-change.ensures.rule n k)
     (λ m settings known present. sym c.in-Some-3.is ∙ c.in_ok-change-2.ensures.choice m settings known present)
     c.made-in-Some-3.ensures.change c.made-in-Some-3.ensures.dropped (c.made-in-Some-3.ensures.out ∙ c.no_letter-in-Some-3.ensures)
 
@@ -68,7 +68,7 @@ returns-in-Some-3-clause-so g c = λ n k.
     let found = subst (λ l. state_of l.items c.args.peer ≡ Some x) (sym same.states) here in
     let late : c.in_ok-change.field-0 ≡ None = search rules in
     follows_so c.made-in-Some-3.result n c.args.peer (
-    choice_follows c.made-in-Some-3.result mid n c.args.peer x c.in-Some-3.change (same_knows old mid n same k) found (sym late ∙ c.in_ok-change.ensures.late n k)
+    choice_follows c.made-in-Some-3.result mid n c.args.peer x c.in-Some-3.change (same_knows old mid n same k) found (sym late ∙ c.in_ok-change.ensures.rule n k)
     (λ m settings known present. sym c.in-Some-3.is ∙ c.in_ok-change-2.ensures.choice m settings known present)
     c.made-in-Some-3.ensures.change c.made-in-Some-3.ensures.dropped (c.made-in-Some-3.ensures.out ∙ c.no_letter-in-Some-3.ensures))
 
@@ -114,7 +114,7 @@ returns-then-is_some-clause-exact g c = λ tells n k s.
     let none : c.in_ok-change-2.field-0 ≡ None = search rules in
     let stored = stored_room g.L.Log.holds old mid n.history (g.D.Disk.view c.args.disk.now) (λ es i held. subst (λ l. g.L.Log.holds l es i) (sym same.log) held) s in
     deal_follows c.in-Ok.reaction mid n c.args.peer x (same_knows old mid n same k) found
-    (sym late ∙ c.in_ok-change.ensures.late n k) (λ m settings known present. sym none ∙ c.in_ok-change-2.ensures.choice m settings known present)
+    (sym late ∙ c.in_ok-change.ensures.rule n k) (λ m settings known present. sym none ∙ c.in_ok-change-2.ensures.choice m settings known present)
     (search rules) (c.in-Ok.ensures.exact tells n (same_knows old mid n same k) stored)
 
 pub returns-then-is_some-clause-unread : goal.returns-then-is_some-clause-unread
@@ -128,7 +128,7 @@ returns-then-is_some-clause-unread g c = λ n k bare.
     let late : c.in_ok-change.field-0 ≡ None = search rules in
     let none : c.in_ok-change-2.field-0 ≡ None = search rules in
     deal_follows c.in-Ok.reaction mid n c.args.peer x (same_knows old mid n same k) found
-    (sym late ∙ c.in_ok-change.ensures.late n k) (λ m settings known present. sym none ∙ c.in_ok-change-2.ensures.choice m settings known present)
+    (sym late ∙ c.in_ok-change.ensures.rule n k) (λ m settings known present. sym none ∙ c.in_ok-change-2.ensures.choice m settings known present)
     (search rules) (c.in-Ok.ensures.unread n (same_knows old mid n same k) bare)
 
 pub returns-then-is_some-clause-so : goal.returns-then-is_some-clause-so
@@ -142,7 +142,7 @@ returns-then-is_some-clause-so g c = λ n k.
     let late : c.in_ok-change.field-0 ≡ None = search rules in
     let none : c.in_ok-change-2.field-0 ≡ None = search rules in
     deal_follows_so c.in-Ok.reaction mid n c.args.peer x (same_knows old mid n same k) found
-    (sym late ∙ c.in_ok-change.ensures.late n k) (λ m settings known present. sym none ∙ c.in_ok-change-2.ensures.choice m settings known present)
+    (sym late ∙ c.in_ok-change.ensures.rule n k) (λ m settings known present. sym none ∙ c.in_ok-change-2.ensures.choice m settings known present)
     (search rules) (c.in-Ok.ensures.so n (same_knows old mid n same k))
 
 pub returns-then-is_some-clause-may : goal.returns-then-is_some-clause-may
@@ -169,7 +169,7 @@ returns-clause-exact g c = λ tells n k s.
     let stored = stored_room g.L.Log.holds old mid n.history (g.D.Disk.view c.args.disk.now) (λ es i held. subst (λ l. g.L.Log.holds l es i) (sym same.log) held) s in
     let asks = asks_back mid c.deal_at.new.self c.in_ok-asking.asking c.args.peer c.in-Ok.ensures.same c.in_ok-asking.ensures.asks n (same_knows old mid n same k) in
     asking_follows c.in-Ok.reaction c.in_ok-with_asking.field-0 mid n c.args.peer x c.in_ok-asking.asking (same_knows old mid n same k) found
-    (sym late ∙ c.in_ok-change.ensures.late n k) (λ m settings known present. sym none ∙ c.in_ok-change-2.ensures.choice m settings known present)
+    (sym late ∙ c.in_ok-change.ensures.rule n k) (λ m settings known present. sym none ∙ c.in_ok-change-2.ensures.choice m settings known present)
     (search rules) c.in_ok-with_asking.ensures.change c.in_ok-with_asking.ensures.dropped c.in_ok-with_asking.ensures.out asks
     (c.in-Ok.ensures.exact tells n (same_knows old mid n same k) stored)
 
@@ -185,7 +185,7 @@ returns-clause-unread g c = λ n k bare.
     let none : c.in_ok-change-2.field-0 ≡ None = search rules in
     let asks = asks_back mid c.deal_at.new.self c.in_ok-asking.asking c.args.peer c.in-Ok.ensures.same c.in_ok-asking.ensures.asks n (same_knows old mid n same k) in
     asking_follows c.in-Ok.reaction c.in_ok-with_asking.field-0 mid n c.args.peer x c.in_ok-asking.asking (same_knows old mid n same k) found
-    (sym late ∙ c.in_ok-change.ensures.late n k) (λ m settings known present. sym none ∙ c.in_ok-change-2.ensures.choice m settings known present)
+    (sym late ∙ c.in_ok-change.ensures.rule n k) (λ m settings known present. sym none ∙ c.in_ok-change-2.ensures.choice m settings known present)
     (search rules) c.in_ok-with_asking.ensures.change c.in_ok-with_asking.ensures.dropped c.in_ok-with_asking.ensures.out asks
     (c.in-Ok.ensures.unread n (same_knows old mid n same k) bare)
 
@@ -201,7 +201,7 @@ returns-clause-so g c = λ n k.
     let none : c.in_ok-change-2.field-0 ≡ None = search rules in
     let asks = asks_back mid c.deal_at.new.self c.in_ok-asking.asking c.args.peer c.in-Ok.ensures.same c.in_ok-asking.ensures.asks n (same_knows old mid n same k) in
     asking_follows_so c.in-Ok.reaction c.in_ok-with_asking.field-0 mid n c.args.peer x c.in_ok-asking.asking (same_knows old mid n same k) found
-    (sym late ∙ c.in_ok-change.ensures.late n k) (λ m settings known present. sym none ∙ c.in_ok-change-2.ensures.choice m settings known present)
+    (sym late ∙ c.in_ok-change.ensures.rule n k) (λ m settings known present. sym none ∙ c.in_ok-change-2.ensures.choice m settings known present)
     (search rules) c.in_ok-with_asking.ensures.change c.in_ok-with_asking.ensures.dropped asks (c.in-Ok.ensures.so n (same_knows old mid n same k))
 
 pub returns-clause-may : goal.returns-clause-may

@@ -1,5 +1,5 @@
 -- The entry at the object is the only one there.
-use Rattle.std.proofs.Common.{[], ◌∷◌, option_to_list, refl, sym, ap, ◌∙◌, append-nil}
+use Rattle.std.proofs.Common.{[], ◌∷◌, option_to_list, sym, ap, ◌∙◌, append-nil}
 use Rattle.psb_model.specs.Words.{only}
 use Rattle.psb_model.specs.State.{in_key}
 use Rattle.peer_lists.proofs.Tables.{is_none_has}

@@ -1,4 +1,4 @@
-use Rattle.std.proofs.Common.{◌≡◌, Bool, true, option_to_list, Option, Some, None, is_some, refl, ap, ◌∙◌}
+use Rattle.std.proofs.Common.{◌≡◌, true, option_to_list, Option, Some, None, is_some, refl, ap, ◌∙◌}
 use Rattle.std.specs.List.{list_any}
 use Rattle.psb_bytes.specs.declared.ids.Seat.{Seat}
 use Rattle.peer_account.proofs.account.Account.is_forwarded.Goals as goal

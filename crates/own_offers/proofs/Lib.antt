@@ -1,0 +1,3 @@
+pub mod Chunks
+pub mod Lengths
+pub mod Letters
