@@ -15,7 +15,7 @@ use Rattle.model_laws.specs.Following.{HasFailure}
 use Rattle.model_laws.proofs.Following.{discards_follow}
 use Rattle.model_laws.proofs.Numbered.{answers_itself}
 use Rattle.agreement.specs.Agreeing.{IsDiscarded}
-use Rattle.agreement.proofs.Ins.{discards_it}
+use Rattle.placing_laws.proofs.Ins.{discards_it}
 
 -- ---- the change that answered a deal is in the history
 

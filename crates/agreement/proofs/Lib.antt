@@ -1,4 +1,3 @@
-pub mod Growing
 pub mod Frames
 pub mod Reacting
 pub mod Took
@@ -6,16 +5,11 @@ pub mod Measured
 pub mod Parties
 pub mod Hearing
 pub mod Paired
-pub mod Given
-pub mod Outs
-pub mod Ins
-pub mod InUnits
 pub mod Discards
 pub mod Chunks
 pub mod ChunkSteps
 pub mod Bound
 pub mod SlotsAgree
-pub mod Units
 pub mod Agreement
 pub mod Pool
 pub mod Orderly

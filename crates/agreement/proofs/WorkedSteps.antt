@@ -29,7 +29,7 @@ use Rattle.psb_machine.proofs.Causes.{react-message}
 use Rattle.model_laws.specs.Worked.{bytes_from, plain_ticket}
 use Rattle.agreement.specs.Worlds.{Party, Give, Stop, moved}
 use Rattle.agreement.specs.Worked.{chunk, name, pair_key, node_settings, chosen, asked, placed, quiet_yet, took, store, accepted, first_node, opened, comes, StepsWorked, EndWorked, ToldWorked, WorkedWorld}
-use Rattle.agreement.specs.Agreeing.{placing_by, last_placed}
+use Rattle.placing_laws.specs.Placing.{placing_by, last_placed}
 use Rattle.psb_machine.proofs.ClaimFits.{accepted_fits}
 use Rattle.agreement.proofs.Chunks.{last_end, first_of_two}
 

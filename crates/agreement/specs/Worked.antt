@@ -21,7 +21,7 @@ use Rattle.psb_machine.specs.Volatile.{Volatile}
 use Rattle.psb_machine.specs.Machine.{Datagram, Tick, fresh}
 use Rattle.agreement.specs.Worlds.{Party, Move, Give, Stop, Restart, World, Step, moved, run}
 use Rattle.model_laws.specs.Finding.{answer, proposed}
-use Rattle.agreement.specs.Agreeing.{last_placed}
+use Rattle.placing_laws.specs.Placing.{last_placed}
 
 -- the chunk, and the name that the standard gives as its SHA-256
 abbrev pub chunk : List ℕ

@@ -1,5 +1,5 @@
 -- What the values of the code stand for.
-use Rattle.psb_machine.specs.Deals.{Deal, StoreFresh, StoreSwap, Cancel, PutBack, Facts}
+use Rattle.psb_machine.specs.Deals.{Deal, StoreFresh, StoreSwap, Cancel, PutBack, Replace, Facts}
 use Rattle.deals.specs.declared.deal.DealView.{DealView}
 use Rattle.deals.specs.declared.deal.DealView.TheVariants as view
 use Rattle.psb_machine.specs.Settling.{Reply, Accepts, Refuses}
@@ -15,6 +15,7 @@ deal_in (view.StoreFresh name bytes) = StoreFresh name bytes.now
 deal_in (view.StoreSwap name slots bytes) = StoreSwap name slots bytes.now
 deal_in (view.Cancel name slots) = Cancel name slots
 deal_in (view.PutBack name claims) = PutBack name claims
+deal_in (view.Replace slot bytes) = Replace slot bytes.now
 
 -- the answer to an own deal
 abbrev pub answer_in : AnswerView → Reply

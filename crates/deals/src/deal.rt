@@ -7,7 +7,7 @@ ghost use Rattle.deals.specs.Views.{deal_in};
 use psb_bytes::Digest;
 use wire_codec::{BodyView, ClaimsView, SlotsView};
 
-/// What a peer asks for, of the kinds of deal that are served. It is lent from the peer's frame.
+/// What a peer asks for by a deal. It is lent from the peer's frame.
 #[derive(Drop)]
 pub enum DealView<'a> {
     /// To keep these sealed bytes under their name, against new claims.
@@ -31,10 +31,15 @@ pub enum DealView<'a> {
         name: Digest,
         claims: ClaimsView<'a>,
     },
+    /// To keep these 512 bytes in a slot that the peer has here, in place of what stands there.
+    Replace {
+        slot: u32,
+        bytes: &'a [u8],
+    },
 }
 
 impl<'a> DealView<'a> {
-    /// The deal that a frame asks for, None where it asks for none of a kind that is served.
+    /// The deal that a frame asks for, None where it asks for none.
     pub fn of(body: BodyView<'a>) -> Option<DealView<'a>>
         ensures { option_map deal_in result ≡ deal_of (frame_of body.entry) }
     {
@@ -42,6 +47,7 @@ impl<'a> DealView<'a> {
             BodyView::Store { name, slots, bytes } => Some(stored(name, slots, bytes)),
             BodyView::Cancel { name, slots } => Some(DealView::Cancel { name, slots }),
             BodyView::PutBack { name, claims } => Some(DealView::PutBack { name, claims }),
+            BodyView::Replace { slot, bytes } => Some(DealView::Replace { slot, bytes }),
             _ => None,
         }
     }

@@ -1,5 +1,5 @@
-/// What is looked up before a deal is judged. Of a chunk that is let go no bytes come, and the first
-/// three have no say.
+/// What is looked up before a deal is judged. The first three are of sealed bytes, and have no say where
+/// none come.
 #[derive(Clone, Copy, PartialEq, Eq, Debug)]
 pub struct Facts {
     /// Whether the bytes hash to their name.
@@ -8,7 +8,7 @@ pub struct Facts {
     pub clash: bool,
     /// Whether none are held under it.
     pub new_body: bool,
-    /// The own claim that the bytes are, if they are one.
+    /// The own claim that the bytes of a slot are, if they are one.
     pub home: Option<u32>,
     /// The number of the next claim.
     pub issued: u32,

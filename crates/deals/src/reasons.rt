@@ -2,7 +2,7 @@
 
 ghost use Rattle.std.specs.Prelude.{◌≡◌, ◌≤◌, ◌==◌, length, if◌then◌else◌, Some, None};
 ghost use Rattle.psb_bytes.specs.Units.{longest_chunk};
-ghost use Rattle.psb_machine.specs.Deals.{StoreFresh, StoreSwap, Cancel, PutBack, first_that_holds, reasons};
+ghost use Rattle.psb_machine.specs.Deals.{StoreFresh, StoreSwap, Cancel, PutBack, Replace, first_that_holds, reasons};
 ghost use Rattle.psb_machine.specs.declared.deals.Reason.TheVariants.{Unequal};
 ghost use Rattle.psb_machine.specs.Judging.{IsShort};
 ghost use Rattle.deals.specs.Views.{deal_in, facts_in};
@@ -155,6 +155,26 @@ fn put_back_refusal(
     unequal(claims.len(), row.units_held(&chunk))
 }
 
+// As of a cancel, the facts stand for the clause alone.
+fn replace_refusal(
+    ledger: &Ledger,
+    peer: PeerId,
+    slot: u32,
+    bytes: &[u8],
+    facts: &Facts,
+) -> Option<Refusal>
+    ensures { result ≡ first_that_holds (reasons (facts_in facts.now) ledger.now.state peer (Replace slot bytes.now)) }
+{
+    let object = Object::Slot(slot);
+    if ledger.tied_in(peer, &object) {
+        return Some(told(Reason::Busy, slot));
+    }
+    if !ledger.row(peer).has(&object) {
+        return Some(told(Reason::NotThere, slot));
+    }
+    None
+}
+
 /// Why a fresh deal of a peer is refused: the first reason of its kind that holds, with its detail, or
 /// None where it is taken. Each slot is looked up once for each reason that asks for it. Takes no memory.
 pub fn refusal(ledger: &Ledger, peer: PeerId, deal: &DealView<'_>, facts: &Facts) -> Option<Refusal>
@@ -168,5 +188,6 @@ pub fn refusal(ledger: &Ledger, peer: PeerId, deal: &DealView<'_>, facts: &Facts
         }
         DealView::Cancel { name, slots } => cancel_refusal(ledger, peer, name, slots, facts),
         DealView::PutBack { name, claims } => put_back_refusal(ledger, peer, name, claims, facts),
+        DealView::Replace { slot, bytes } => replace_refusal(ledger, peer, *slot, bytes, facts),
     }
 }

@@ -1,14 +1,14 @@
 //! The change that takes a deal.
 
 ghost use Rattle.std.specs.Prelude.{◌≡◌, Some, IfOk};
-ghost use Rattle.psb_machine.specs.Deals.{takes, sealed_part, claims_joined};
+ghost use Rattle.psb_machine.specs.Deals.{takes, replaced, sealed_part, claims_joined};
 ghost use Rattle.psb_machine.specs.Judging.{IsShort};
 ghost use Rattle.deals.specs.Views.{deal_in};
 
 use crate::slots::claim_slots;
 use crate::{DealView, Facts};
 use psb_bytes::{Bytes, Memory, PeerId};
-use psb_model::{Change, LetGo, LetGoBack, TookFresh, TookSwap};
+use psb_model::{Change, LetGo, LetGoBack, Replaced, TookFresh, TookSwap};
 use std::alloc::Global;
 use wire_codec::ClaimsView;
 
@@ -31,6 +31,31 @@ pub(crate) fn joined(alloc: Global, claims: &ClaimsView<'_>) -> Result<Bytes, Me
     Ok(Bytes::from_vec(all))
 }
 
+/// The change that gives a slot other bytes. Those of an own claim are not kept: its number stands for them.
+fn replaced(
+    alloc: Global,
+    peer: PeerId,
+    number: u64,
+    slot: u32,
+    bytes: &[u8],
+    home: Option<u32>,
+) -> Result<Change, Memory>
+    ensures { IfOk result (λ c. c ≡ replaced peer number slot bytes.now home) }
+{
+    let (place, home, kept): (u8, u32, &[u8]) = match home {
+        None => (0, 0, bytes),
+        Some(claim) => (1, claim, &[]),
+    };
+    Ok(Change::Replaced(Replaced {
+        peer,
+        deal: number,
+        slot,
+        place,
+        home,
+        body: Some(Bytes::copy(alloc, kept)?),
+    }))
+}
+
 /// The change that takes a deal of a peer under this number.
 pub(crate) fn taken(
     alloc: Global,
@@ -40,7 +65,7 @@ pub(crate) fn taken(
     facts: &Facts,
 ) -> Result<Change, Memory>
     requires { IsShort (deal_in deal.now) }
-    ensures { IfOk result (λ c. c ≡ takes facts.now.issued facts.now.new_body peer number (deal_in deal.now)) }
+    ensures { IfOk result (λ c. c ≡ takes facts.now.issued facts.now.new_body facts.now.home peer number (deal_in deal.now)) }
 {
     match deal {
         DealView::StoreFresh { name, bytes } => Ok(Change::TookFresh(TookFresh {
@@ -74,5 +99,8 @@ pub(crate) fn taken(
             slots: claim_slots(alloc, claims)?,
             body: Some(joined(alloc, claims)?),
         })),
+        DealView::Replace { slot, bytes } => {
+            replaced(alloc, peer, number, *slot, bytes, facts.home)
+        }
     }
 }

@@ -33,6 +33,7 @@ enum Kind {
     Store,
     Cancel,
     PutBack,
+    Replace,
 }
 
 /// What is known of the bytes of a deal: whether they have the name, whether others are held under it, the
@@ -177,12 +178,40 @@ const PUT_BACK: [Row; 5] = [
     ("unequal", (Kind::PutBack, 7, &[8], 0), GOOD, (6, 2)),
 ];
 
+const REPLACE: [Row; 3] = [
+    ("taken", (Kind::Replace, 5, &[9], 0), GOOD, (0, 9)),
+    (
+        "taken where a Store fresh is full and spent",
+        (Kind::Replace, 5, &[12], 0),
+        (true, false, 4_294_967_295, 0),
+        (0, 9),
+    ),
+    (
+        "not there",
+        (Kind::Replace, 5, &[10], 0),
+        BAD_AND_OTHERS,
+        (5, 10),
+    ),
+];
+
+/// The bytes of a Replace's body: the first slot, and 512 times the byte `tag`.
+fn replace_body(alloc: Global, tag: u8, slots: &[u32]) -> Result<Vec<u8>, Fail> {
+    let slot = slots.first().ok_or("there is a slot")?;
+    let mut out = Vec::new(alloc);
+    out.extend_from_slice(&slot.to_be_bytes())?;
+    out.extend_from_slice(&[tag; 512])?;
+    Ok(out)
+}
+
 /// The bytes of a frame's body.
 fn body_of(alloc: Global, kind: Kind, tag: u8, slots: &[u32], len: usize) -> Result<Vec<u8>, Fail> {
+    if let Kind::Replace = kind {
+        return replace_body(alloc, tag, slots);
+    }
     let mut out = Vec::new(alloc);
     out.extend_from_slice(&[tag; 32])?;
     match kind {
-        Kind::Store => {}
+        Kind::Store | Kind::Replace => {}
         Kind::Cancel => out.push(0)?,
         Kind::PutBack => out.push(1)?,
     }
@@ -211,6 +240,7 @@ fn datagram(alloc: Global, kind: Kind, body: &[u8]) -> Result<Vec<u8>, Fail> {
     let number = match kind {
         Kind::Store => 1,
         Kind::Cancel | Kind::PutBack => 2,
+        Kind::Replace => 3,
     };
     sealed(alloc, number, body)
 }
@@ -294,6 +324,7 @@ fn told(change: &Change) -> (u8, u64) {
         Change::TookSwap(_) => (0, 6),
         Change::LetGo(_) => (0, 7),
         Change::LetGoBack(_) => (0, 8),
+        Change::Replaced(_) => (0, 9),
         _ => (0, 0),
     }
 }
@@ -306,7 +337,7 @@ fn is_short(deal: &DealView<'_>) -> bool
         DealView::StoreFresh { bytes, .. } | DealView::StoreSwap { bytes, .. } => {
             bytes.len() <= 32_768
         }
-        DealView::Cancel { .. } | DealView::PutBack { .. } => true,
+        DealView::Cancel { .. } | DealView::PutBack { .. } | DealView::Replace { .. } => true,
     }
 }
 
@@ -355,5 +386,6 @@ fn the_first_reason_of_a_kind_is_told(rt: HostRuntime) -> Result<(), Fail> {
     run_rows(&rt, rt.alloc(), &SWAP)?;
     run_rows(&rt, rt.alloc(), &CANCEL)?;
     run_rows(&rt, rt.alloc(), &PUT_BACK)?;
+    run_rows(&rt, rt.alloc(), &REPLACE)?;
     Ok(())
 }

@@ -30,8 +30,8 @@ use Rattle.wire_codec.specs.declared.frame.Frame.{Frame}
 use Rattle.wire_codec.specs.declared.frame.Frame.TheVariants.{Here, Sample}
 use Rattle.psb_machine.specs.Letters.{key_with, all_spelled}
 use Rattle.psb_machine.specs.Volatile.{Nothing, Sampled}
-use Rattle.psb_machine.specs.Deals.{standing, judge, judged_at, is_compared, are_others, is_new, clashes, Deal, StoreFresh, StoreSwap, Cancel, PutBack, Facts as MachineFacts, slots_of}
-use Rattle.psb_machine.specs.Judging.{IsShort, ReplyFits, taken_at}
+use Rattle.psb_machine.specs.Deals.{standing, judge, judged_at, is_compared, are_others, is_new, clashes, Deal, StoreFresh, StoreSwap, Cancel, PutBack, Replace, takes, Facts as MachineFacts, slots_of}
+use Rattle.psb_machine.specs.Judging.{IsShort, ReplyFits}
 use Rattle.psb_machine.specs.Messages.{Sender as MachineSender, Message, Deals, Replies, Gets, Asks, Tells}
 use Rattle.psb_machine.specs.Gets.{has_chunk}
 use Rattle.psb_machine.specs.Replies.{reply, reply_of}
@@ -41,7 +41,7 @@ use Rattle.psb_machine.specs.Machine.{Situation, Reaction as MachineReaction, qu
 use Rattle.psb_machine.specs.declared.deals.Standing.{Standing}
 use Rattle.psb_machine.specs.declared.deals.Standing.TheVariants.{Fresh, Repeat, Stale, Gap}
 use Rattle.psb_machine.specs.declared.deals.Refusal.{Refusal}
-use Rattle.psb_machine.proofs.Lasts.{LastIs, last_there}
+use Rattle.psb_machine.proofs.Lasts.{LastIs, drawn, last_there}
 use Rattle.psb_machine.proofs.Made.{settles_by}
 use Rattle.psb_machine.proofs.Settled.{settle_may}
 use Rattle.psb_machine.proofs.Standings.{fresh_is_next, repeat_is_last}
@@ -65,7 +65,7 @@ use Rattle.node_facts.specs.Again.{IsAnswerOf}
 use Rattle.node_facts.specs.Compared.{HasNone}
 use Rattle.node_core.specs.Hearing.{Heard, Hears, IsLike, HearsSo, MakesNo, Makes, IsToldAgain, IsGiven, IsPlain, IsAnswered}
 use Rattle.node_facts.specs.Refused.{AreFacts, refused_by, why_refused}
-use Rattle.node_core.specs.Making.{MayMake, CanMake, CanTell, IsNext, made_of, made_in}
+use Rattle.node_core.specs.Making.{MayMake, CanMake, CanTell, IsNext, home_by, made_by, made_of, made_in}
 use Rattle.peer_states.specs.PeerStates.{note_in}
 use Rattle.node_core.specs.Reacting.{Reacts, MayCome}
 use Rattle.node_core.specs.Stored.{Knows, Stored}
@@ -159,6 +159,7 @@ clashes_less h less (StoreFresh name bytes) is v = meets_less h less name bytes 
 clashes_less h less (StoreSwap name numbers bytes) is v = meets_less h less name bytes is v
 clashes_less h less (Cancel name numbers) is v = refl
 clashes_less h less (PutBack name claims) is v = refl
+clashes_less h less (Replace slot bytes) is v = refl
 
 -- nothing is compared where the history holds nothing under the name
 pub none_compared : (store : Store) (h : List Change) (deal : Deal) → KnowsNames store h → is_compared (state h) deal ≡ false → HasNone store deal
@@ -173,12 +174,13 @@ none_compared store h deal knows free = by_kind deal free
     by_kind (StoreSwap name numbers bytes) free = none_of (record_of store name) (knows.held name ∙ free)
     by_kind (Cancel name numbers) free = tt
     by_kind (PutBack name claims) free = tt
+    by_kind (Replace slot bytes) free = tt
 
 -- what is judged by the facts of a deal is what is made of it
 pub judged_is : (s : State) (from : MachineSender) (deal : Deal) (f : Facts) (settings : Settings) → s.settings ≡ Some settings → AreFacts f s deal → judge (facts_in f) s from.peer from.number deal ≡ made_of s from deal (why_refused s from.peer deal f.clash)
 judged_is s from deal f settings present are =
     ap (λ (x : MachineFacts). judge x s from.peer from.number deal) (are settings present)
-    ∙ sym (ap (λ (known : Option Settings). made_of s from deal (refused_by known s from.peer deal f.clash)) present)
+    ∙ sym (ap (λ (known : Option Settings). made_by known s from deal (refused_by known s from.peer deal f.clash)) present)
 
 -- why it is refused by what the disk holds is why it is by the history
 pub refused_less : {L : Type 0} (holds : L → List Entry → List ℕ → Type 0) (node : Node L) (h : List Change) (v : View) (p : ℕ) (deal : Deal) (clash : Bool) → (s : Stored holds node h v)
@@ -196,6 +198,7 @@ none_clash h (StoreFresh name bytes) free = ap (λ (b : Bool). b && are_others (
 none_clash h (StoreSwap name numbers bytes) free = ap (λ (b : Bool). b && are_others (last_brought name h) bytes) free
 none_clash h (Cancel name numbers) free = refl
 none_clash h (PutBack name claims) free = refl
+none_clash h (Replace slot bytes) free = refl
 
 -- so it is refused by the history as by what no record told
 pub refused_unheld : (n : Situation) (p : ℕ) (deal : Deal) (clash : Bool) → is_compared (state n.history) deal ≡ false → clash ≡ false → why_refused (state n.history) p deal clash ≡ why_refused (state n.history) p deal (clashes n.history deal)
@@ -216,7 +219,7 @@ made_hears r node n from deal last how k heard is stands fresh it =
     let st = k.settings.settings in
     let c = judged_at st n.history from.peer from.number deal in
     let same : made_in n.history (sender_in from) deal ≡ c =
-    ap (λ (known : Option Settings). made_of (state n.history) (sender_in from) deal (refused_by known (state n.history) from.peer deal (clashes n.history deal))) k.settings.present in
+    ap (λ (known : Option Settings). made_by known (state n.history) (sender_in from) deal (refused_by known (state n.history) from.peer deal (clashes n.history deal))) k.settings.present in
     hears_by r node n (sender_in from) (Deals deal) k
     (subst (λ (m : MachineReaction). Reacts r n m) (sym (by_how node n (sender_in from) deal last how Fresh k is stands fresh)) (record {
       change = it.change ∙ ap (λ (d : Change). Some d) same;
@@ -235,6 +238,15 @@ made_hears_so r node n from deal last how c k is stands fresh it =
     so_by r node n (sender_in from) (Deals deal) k
     (subst (λ (m : MachineReaction). IsLike r m) (sym (by_how node n (sender_in from) deal last how Fresh k is stands fresh)) (record { change = ap (λ (o : Option Change). is_some o) it.change; dropped = it.dropped }))
 
+-- the node's claims are made of the seed of its settings, and all that the history drew were issued
+pub seed_known : {L : Type 0} (node : Node L) (n : Situation) (settings : Settings) → Knows node n → node.ledger.state.settings ≡ Some settings → settings.seed ≡ node.claims.seed
+seed_known node n settings k there =
+    let same : Some settings ≡ Some k.settings.settings = sym there ∙ ap (λ (s : State). s.settings) k.ledger ∙ k.settings.present in
+    ap (λ (o : Option Settings). elim o [ None ↦ settings.seed | Some x ↦ x.seed ]) same ∙ sym k.settings.seed
+
+pub issued_known : {L : Type 0} (node : Node L) (n : Situation) → Knows node n → node.ledger.state.issued ≤ node.claims.issued
+issued_known node n k = subst (λ (s : State). s.issued ≤ node.claims.issued) (sym k.ledger) k.issued
+
 -- it may be made, whether or not other bytes are held under its name
 pub can_make : {L : Type 0} (node : Node L) (n : Situation) (from : Sender) (deal : Deal) (last : LastDeal) (how : Standing) → Knows node n → Heard node.peers.keys from (Deals deal) → last ≡ (row node.ledger.state from.peer).last
     → how ≡ standing last.number from.number → how ≡ Fresh → node.ledger.state.changes < 2 ^ 62 → CanMake node.ledger.state (sender_in from) deal × IsShort deal × IsNext node.ledger.state (sender_in from)
@@ -242,10 +254,10 @@ can_make node n from deal last how k heard is stands fresh few =
     let st = k.settings.settings in
     let h = n.history in
     let next_deal = fresh_is_next (row (state h) from.peer).last.number from.number (stands_as node n from.peer from.number last how k is stands ∙ fresh) in
-    let next : IsNextDeal st h from.peer from.number = record { some = k.valid.some; present = k.settings.present; peer = peer_of node n from.peer from.key k heard.keyed; next_deal = next_deal } in
+    let next : IsNextDeal st h from.peer from.number = record { some = k.valid.some; present = k.settings.present; peer = peer_of node n from.peer from.key k heard.keyed; next_deal = next_deal; drawn = drawn h k.valid } in
     let can = λ (clash : Bool). can_judge st h from.peer from.number deal clash k.valid next heard.fits (subst (λ (s : State). s.changes < 2 ^ 62) k.ledger few) in
     let there : CanMake (state h) (sender_in from) deal =
-    λ clash. subst (λ (known : Option Settings). CanTell (state h) (made_of (state h) (sender_in from) deal (refused_by known (state h) from.peer deal clash))) (sym k.settings.present) (can clash) in (
+    λ clash. subst (λ (known : Option Settings). CanTell (state h) (made_by known (state h) (sender_in from) deal (refused_by known (state h) from.peer deal clash))) (sym k.settings.present) (can clash) in (
       subst (λ (s : State). CanMake s (sender_in from) deal) (sym k.ledger) there,
       fits_short from.peer from.number deal heard.fits,
       subst (λ (s : State). IsNext s (sender_in from)) (sym k.ledger) (record { next = eqb-true from.number ((row (state h) from.peer).last.number + 1) next_deal; fits = number_fits from.peer from.number deal heard.fits }),
@@ -257,7 +269,7 @@ made_valid node n from deal last how clash k heard is stands fresh =
     let st = k.settings.settings in
     let h = n.history in
     let next_deal = fresh_is_next (row (state h) from.peer).last.number from.number (stands_as node n from.peer from.number last how k is stands ∙ fresh) in
-    subst (λ (known : Option Settings). IsValid (h ++ made_of (state h) (sender_in from) deal (refused_by known (state h) from.peer deal clash) ∷ [])) (sym k.settings.present)
+    subst (λ (known : Option Settings). IsValid (h ++ made_by known (state h) (sender_in from) deal (refused_by known (state h) from.peer deal clash) ∷ [])) (sym k.settings.present)
     (judged_deal_valid st h from.peer from.number deal clash k.valid k.settings.present (peer_of node n from.peer from.key k heard.keyed) heard.fits next_deal)
 
 -- and come next
@@ -268,7 +280,7 @@ made_may_come r node from deal last how clash known heard is stands fresh few it
       ((can_make node known.0 from deal last how known.1 heard is stands fresh few).0 clash).may,
       λ n k.
           may_follow n (made_of node.ledger.state (sender_in from) deal (why_refused node.ledger.state from.peer deal clash))
-          (judged_none from.peer from.number (taken_at node.ledger.state from.peer from.number deal) (why_refused node.ledger.state from.peer deal clash) (takes_none node.ledger.state.issued (is_new node.ledger.state deal) from.peer from.number deal))
+          (judged_none from.peer from.number (takes node.ledger.state.issued (is_new node.ledger.state deal) (home_by node.ledger.state.settings node.ledger.state deal) from.peer from.number deal) (why_refused node.ledger.state from.peer deal clash) (takes_none node.ledger.state.issued (is_new node.ledger.state deal) (home_by node.ledger.state.settings node.ledger.state deal) from.peer from.number deal))
           (subst (λ (s : State). IsValid (n.history ++ made_of s (sender_in from) deal (why_refused s from.peer deal clash) ∷ [])) (sym k.ledger) (made_valid node n from deal last how clash k heard is stands fresh)),
     )
 

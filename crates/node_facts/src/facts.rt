@@ -1,14 +1,15 @@
 //! What is looked up before a fresh deal is judged.
 
-ghost use Rattle.std.specs.Prelude.{◌≡◌, ◌<◌, ◌⊎◌, List, Bool, ℕ, true, false, not, Some, None, is_some, IsSome, IfSome, IfOk, OnErr};
+ghost use Rattle.std.specs.Prelude.{◌≡◌, ◌<◌, ◌≤◌, ◌⊎◌, List, Bool, ℕ, true, false, not, Some, None, is_some, IsSome, IfSome, IfOk, OnErr};
 ghost use Rattle.psb_bytes.specs.Objects.{name_eq};
 ghost use Rattle.psb_digest.specs.Hashes.{sha as sha_of};
+ghost use Rattle.psb_settings.specs.declared.settings.Settings.{Settings};
 ghost use Rattle.psb_station.specs.Span.{Shows, Tells_bytes, Looked};
 ghost use Rattle.node_journal.specs.Entry.{Entry};
 ghost use Rattle.psb_model.specs.State.{State, is_held};
 ghost use Rattle.psb_model.specs.History.{state};
 ghost use Rattle.psb_model.specs.declared.change.Change.{Change};
-ghost use Rattle.psb_machine.specs.Deals.{meets_others, is_named, is_new, clashes};
+ghost use Rattle.psb_machine.specs.Deals.{meets_others, is_named, is_new, clashes, claim_from, home_of};
 ghost use Rattle.deals.specs.Views.{deal_in};
 ghost use Rattle.node_history.specs.Stands.{AreDecoded};
 ghost use Rattle.chunk_store.specs.Store.{record_of, is_owner};
@@ -17,7 +18,9 @@ ghost use Rattle.node_history.specs.Names.{KnowsNames, AreThere};
 ghost use Rattle.node_facts.specs.Compared.{HasNone};
 ghost use Rattle.node_facts.specs.Refused.{AreFacts, why_refused};
 
+use crate::bytes::walk_to;
 use chunk_store::{Fit, Owner, Store, StoreError};
+use claims::ClaimSource;
 use deals::{DealView, Facts};
 use node_history::ReadFault;
 use node_journal::Log;
@@ -111,7 +114,7 @@ fn sealed_facts<L: Log, D: Disk>(
     })
 }
 
-/// What is looked up of the sealed bytes that a deal brings. A chunk that is let go comes without any.
+/// What is looked up of the sealed bytes that a deal brings. A chunk that is let go comes without any, and so does a slot.
 fn looked_up<L: Log, D: Disk>(
     alloc: Global,
     log: &mut L,
@@ -139,11 +142,47 @@ fn looked_up<L: Log, D: Disk>(
         DealView::StoreSwap { name, bytes, .. } => {
             sealed_facts(alloc, log, disk, names, peer, name, bytes)
         }
-        DealView::Cancel { .. } | DealView::PutBack { .. } => Ok(Sealed {
-            named: true,
-            clash: false,
-            new: false,
-        }),
+        DealView::Cancel { .. } | DealView::PutBack { .. } | DealView::Replace { .. } => Ok(
+            Sealed {
+                named: true,
+                clash: false,
+                new: false,
+            },
+        ),
+    }
+}
+
+/// The least own claim below `issued` that these bytes are. The claims are walked over first: so the next look is one pass
+/// over their fingerprints, where there is memory for these.
+fn claim_with(claims: &mut ClaimSource, issued: u32, bytes: &[u8]) -> Option<u32>
+    requires { issued ≤ claims.old.issued }
+    ensures claim { result ≡ claim_from claims.old.seed bytes.now 0 issued }
+    ensures seed { claims.new.seed ≡ claims.old.seed }
+    ensures issued { claims.new.issued ≡ claims.old.issued }
+{
+    let Ok(body) = <&[u8; 512]>::try_from(bytes) else {
+        return None;
+    };
+    walk_to(claims, issued);
+    match claims.home_of(body) {
+        Some(home) => { if home < issued { Some(home) } else { None } }
+        None => None,
+    }
+}
+
+/// The own claim that the bytes of a slot are which a deal brings.
+fn home_of(claims: &mut ClaimSource, issued: u32, deal: &DealView<'_>) -> Option<u32>
+    requires { issued ≤ claims.old.issued }
+    ensures home { result ≡ home_of claims.old.seed issued (deal_in deal.now) }
+    ensures seed { claims.new.seed ≡ claims.old.seed }
+    ensures issued { claims.new.issued ≡ claims.old.issued }
+{
+    match deal {
+        DealView::StoreFresh { .. }
+        | DealView::StoreSwap { .. }
+        | DealView::Cancel { .. }
+        | DealView::PutBack { .. } => None,
+        DealView::Replace { bytes, .. } => claim_with(claims, issued, bytes),
     }
 }
 
@@ -154,6 +193,7 @@ pub fn facts_of<L: Log, D: Disk>(
     disk: &mut D,
     ledger: &Ledger,
     names: &Store,
+    claims: &mut ClaimSource,
     peer: PeerId,
     deal: &DealView<'_>,
 ) -> Result<Facts, ReadFault>
@@ -161,6 +201,8 @@ pub fn facts_of<L: Log, D: Disk>(
     requires there { AreThere names.now (L.size log.old) (L.keeps_body log.old) }
     requires held { (name : List ℕ) → is_some (record_of names.now name) ≡ is_held ledger.now.state name }
     requires present { IsSome ledger.now.state.settings }
+    requires own { (settings : Settings) → ledger.now.state.settings ≡ Some settings → settings.seed ≡ claims.old.seed }
+    requires issued { ledger.now.state.issued ≤ claims.old.issued }
 
     // On each disk they are the deal's, as if other bytes were held under its name or none were; where the disk
     // tells its bytes, that is so or has no say.
@@ -171,6 +213,8 @@ pub fn facts_of<L: Log, D: Disk>(
     // Where nothing is compared, what the disk tells has no say.
     ensures unheld { IfOk result (λ f. HasNone names.now (deal_in deal.now) → f.clash ≡ false) }
     ensures log { log.new ≡ log.old }
+    ensures seed { claims.new.seed ≡ claims.old.seed }
+    ensures walked { claims.new.issued ≡ claims.old.issued }
     ensures looked { Looked (result ≡ Err ReadFault.DiskFault) (D.view disk.old) (D.view disk.new) }
     ensures reads { (D.view disk.new).write_faults ≡ (D.view disk.old).write_faults }
     ensures only { OnErr result ((result ≡ Err ReadFault.DiskFault) ⊎ (result ≡ Err ReadFault.Memory)) }
@@ -183,7 +227,7 @@ pub fn facts_of<L: Log, D: Disk>(
         name_fits: named,
         clash,
         new_body: new,
-        home: None,
+        home: home_of(claims, ledger.issued(), deal),
         issued: ledger.issued(),
         capacity: settings.capacity,
     })

@@ -20,7 +20,7 @@ pub struct Sender {
 /// What a frame of a peer says. It is lent from the datagram.
 #[derive(Drop)]
 pub enum Message<'a> {
-    /// The peer asks for a deal, of a kind that is served.
+    /// The peer asks for a deal.
     Deal(DealView<'a>),
     /// It replies to a deal of the node's own.
     Reply(AnswerView<'a>),
@@ -54,14 +54,15 @@ pub enum Message<'a> {
 }
 
 impl<'a> Message<'a> {
-    /// The message that a frame is. A Replace is not served yet, and a Here is for a restore alone.
+    /// The message that a frame is. A Here is for a restore alone.
     pub fn of(body: BodyView<'a>) -> Option<Message<'a>>
         ensures { option_map message_in result ≡ message_of (frame_of body.entry) }
     {
         match body {
-            BodyView::Store { .. } | BodyView::Cancel { .. } | BodyView::PutBack { .. } => {
-                Some(Message::Deal(DealView::of(body)?))
-            }
+            BodyView::Store { .. }
+            | BodyView::Cancel { .. }
+            | BodyView::PutBack { .. }
+            | BodyView::Replace { .. } => Some(Message::Deal(DealView::of(body)?)),
             BodyView::Accepted { .. } | BodyView::Refused { .. } => {
                 Some(Message::Reply(AnswerView::of(body)?))
             }
@@ -71,7 +72,7 @@ impl<'a> Message<'a> {
             BodyView::Proof { nonce, value } => Some(Message::Proof { nonce, value }),
             BodyView::Ask { salt, names } => Some(Message::Ask { salt, names }),
             BodyView::Sample { salt, bits } => Some(Message::Sample { salt, bits }),
-            BodyView::Replace { .. } | BodyView::Here { .. } => None,
+            BodyView::Here { .. } => None,
         }
     }
 }

@@ -17,7 +17,7 @@ use Rattle.psb_model.proofs.Prefixes.{changes_counted, state_snoc}
 use Rattle.model_laws.proofs.Along.{last_is}
 use Rattle.model_laws.proofs.HeldBytes.{bytes_stay, held_have_bytes}
 use Rattle.psb_machine.specs.OwnProbes.{Run, passed_by, wrong_by}
-use Rattle.psb_machine.specs.Deals.{Deal, StoreFresh, StoreSwap, Cancel, PutBack, takes, judged, judged_at, facts_at, clashes, reasons, first_that_holds}
+use Rattle.psb_machine.specs.Deals.{Deal, StoreFresh, StoreSwap, Cancel, PutBack, Replace, replaced, takes, judged, judged_at, facts_at, clashes, reasons, first_that_holds}
 use Rattle.psb_machine.specs.declared.deals.Refusal.{Refusal}
 use Rattle.psb_machine.specs.Settling.{Reply, Accepts, Refuses, answers_deal}
 use Rattle.psb_machine.specs.Machine.{Situation, Input, react}
@@ -40,11 +40,16 @@ abbrev pub Carries : Option Change → Type 0
 Carries None = Unit {0}
 Carries (Some c) = HasBody c
 
-takes_body : (issued : ℕ) (new : Bool) (p number : ℕ) (deal : Deal) → HasBody (takes issued new p number deal)
-takes_body issued new p number (StoreFresh name bytes) = refl
-takes_body issued new p number (StoreSwap name numbers bytes) = refl
-takes_body issued new p number (Cancel name numbers) = refl
-takes_body issued new p number (PutBack name claims) = refl
+replaced_body : (p number slot : ℕ) (bytes : List ℕ) (home : Option ℕ) → HasBody (replaced p number slot bytes home)
+replaced_body p number slot bytes None = refl
+replaced_body p number slot bytes (Some i) = refl
+
+takes_body : (issued : ℕ) (new : Bool) (home : Option ℕ) (p number : ℕ) (deal : Deal) → HasBody (takes issued new home p number deal)
+takes_body issued new home p number (StoreFresh name bytes) = refl
+takes_body issued new home p number (StoreSwap name numbers bytes) = refl
+takes_body issued new home p number (Cancel name numbers) = refl
+takes_body issued new home p number (PutBack name claims) = refl
+takes_body issued new home p number (Replace slot bytes) = replaced_body p number slot bytes home
 
 judged_body : (p number : ℕ) (c : Change) (o : Option Refusal) → HasBody c → HasBody (judged p number c o)
 judged_body p number c None h = h
@@ -53,7 +58,7 @@ judged_body p number c (Some r) h = refl
 deal_body : (settings : Settings) (h : List Change) (p number : ℕ) (deal : Deal) → HasBody (judged_at settings h p number deal)
 deal_body settings h p number deal =
     let facts = facts_at settings (state h) deal (clashes h deal) in
-    judged_body p number (takes facts.issued facts.new_body p number deal) (first_that_holds (reasons facts (state h) p deal)) (takes_body facts.issued facts.new_body p number deal)
+    judged_body p number (takes facts.issued facts.new_body facts.home p number deal) (first_that_holds (reasons facts (state h) p deal)) (takes_body facts.issued facts.new_body facts.home p number deal)
 
 answers_body : (p number : ℕ) (reply : Reply) → HasBody (answers_deal p number reply)
 answers_body p number (Accepts claims) = refl

@@ -16,7 +16,7 @@ use Rattle.psb_machine.specs.Letters.{keys_of}
 use Rattle.psb_machine.specs.Messages.{Proves, Declines, message_of}
 use Rattle.psb_machine.specs.Probing.{chain_over}
 use Rattle.psb_machine.specs.OwnProbes.{Run, nonce_of, is_of, own_bytes, passed_by, wrong_by, declined_by, may_list, objects_to_ask, objects_drawn, listed_from}
-use Rattle.psb_machine.specs.Deals.{Deal, StoreFresh, StoreSwap, Cancel, PutBack, takes, judged, judged_at, facts_at, clashes, reasons, first_that_holds}
+use Rattle.psb_machine.specs.Deals.{Deal, StoreFresh, StoreSwap, Cancel, PutBack, Replace, replaced, takes, judged, judged_at, facts_at, clashes, reasons, first_that_holds}
 use Rattle.psb_machine.specs.declared.deals.Refusal.{Refusal as DealRefusal}
 use Rattle.psb_machine.specs.Settling.{Reply, Accepts, Refuses, answers_deal}
 use Rattle.psb_machine.specs.Machine.{Situation, Input, Datagram, run_at, react}
@@ -63,11 +63,16 @@ Just n x None = Unit {0}
 Just n x (Some c) = JustOutcome n x c
 
 -- a deal, and a reply to one, is no outcome
-just_taken : (n : Situation) (x : Input) (issued : ℕ) (new : Bool) (p number : ℕ) (deal : Deal) → JustOutcome n x (takes issued new p number deal)
-just_taken n x issued new p number (StoreFresh name bytes) = tt
-just_taken n x issued new p number (StoreSwap name numbers bytes) = tt
-just_taken n x issued new p number (Cancel name numbers) = tt
-just_taken n x issued new p number (PutBack name claims) = tt
+just_replaced : (n : Situation) (x : Input) (p number slot : ℕ) (bytes : List ℕ) (home : Option ℕ) → JustOutcome n x (replaced p number slot bytes home)
+just_replaced n x p number slot bytes None = tt
+just_replaced n x p number slot bytes (Some i) = tt
+
+just_taken : (n : Situation) (x : Input) (issued : ℕ) (new : Bool) (home : Option ℕ) (p number : ℕ) (deal : Deal) → JustOutcome n x (takes issued new home p number deal)
+just_taken n x issued new home p number (StoreFresh name bytes) = tt
+just_taken n x issued new home p number (StoreSwap name numbers bytes) = tt
+just_taken n x issued new home p number (Cancel name numbers) = tt
+just_taken n x issued new home p number (PutBack name claims) = tt
+just_taken n x issued new home p number (Replace slot bytes) = just_replaced n x p number slot bytes home
 
 just_judged : (n : Situation) (x : Input) (p number : ℕ) (c : Change) (o : Option DealRefusal) → JustOutcome n x c → JustOutcome n x (judged p number c o)
 just_judged n x p number c None h = h
@@ -76,7 +81,7 @@ just_judged n x p number c (Some r) h = tt
 just_deal : (n : Situation) (x : Input) (settings : Settings) (h : List Change) (p number : ℕ) (deal : Deal) → JustOutcome n x (judged_at settings h p number deal)
 just_deal n x settings h p number deal =
     let facts = facts_at settings (state h) deal (clashes h deal) in
-    just_judged n x p number (takes facts.issued facts.new_body p number deal) (first_that_holds (reasons facts (state h) p deal)) (just_taken n x facts.issued facts.new_body p number deal)
+    just_judged n x p number (takes facts.issued facts.new_body facts.home p number deal) (first_that_holds (reasons facts (state h) p deal)) (just_taken n x facts.issued facts.new_body facts.home p number deal)
 
 just_answer : (n : Situation) (x : Input) (p number : ℕ) (reply : Reply) → JustOutcome n x (answers_deal p number reply)
 just_answer n x p number (Accepts claims) = tt

@@ -1,7 +1,7 @@
 -- What is known of a deal whose frame was read.
 use Rattle.std.proofs.Common.{◌≡◌, ℕ, true, ◌&&◌, ◌==◌, nat_le, nat_lt, List, [], ◌∷◌, length, Some, refl, sym, ap, ◌∙◌, subst, ◌≤◌, ◌^◌, arith}
 use Rattle.std.specs.List.{list_all}
-use Rattle.std.proofs.lemmas.Bool.{and_parts, leb-true, lt-ltb}
+use Rattle.std.proofs.lemmas.Bool.{and_parts, leb-true, lt-ltb, eqb-true}
 use Rattle.std.proofs.lemmas.List.{length-map}
 use Rattle.psb_bytes.specs.declared.lists.SlotClaim.{SlotClaim}
 use Rattle.psb_bytes.specs.declared.ids.Object.{Object}
@@ -12,10 +12,10 @@ use Rattle.wire_codec.specs.declared.frame.Frame.{Frame}
 use Rattle.wire_codec.specs.declared.frame.Frame.TheVariants as frame
 use Rattle.wire_codec.specs.declared.limits.TheConstants.{MOST_SLOTS, MOST_OBJECTS, CLAIM_BYTES}
 use Rattle.psb_bytes.specs.declared.limits.TheConstants.{LAST_REASON}
-use Rattle.psb_machine.specs.Deals.{Deal, StoreFresh, StoreSwap, Cancel, PutBack, deal_of, slots_of}
+use Rattle.psb_machine.specs.Deals.{Deal, StoreFresh, StoreSwap, Cancel, PutBack, Replace, deal_of, slots_of}
 use Rattle.psb_machine.specs.Settling.{Reply, Accepts, Refuses, replied_by}
 use Rattle.psb_machine.specs.Messages.{Message, Deals, Replies, Asks, Probes, Proves, Declines, message_of}
-use Rattle.psb_machine.specs.Judging.{SlotsFit, SwapFits, CancelFits, PutBackFits, DealFits, ReplyFits, MessageFits}
+use Rattle.psb_machine.specs.Judging.{SlotsFit, SwapFits, CancelFits, PutBackFits, ReplaceFits, DealFits, ReplyFits, MessageFits}
 
 -- a frame that was read
 pub record FrameFits (p number : ℕ) (frame : Frame) : Type 0 where
@@ -87,6 +87,12 @@ put_back_fits p number name claims f =
     let b = claims_fit 1 claims a.1 in
     record { peer = f.peer; number_fits = f.number_fits; name_fits = a.0; slots = b.0; claims_fit = b.1 }
 
+replace_fits : (p number slot : ℕ) (bytes : List ℕ) → FrameFits p number (frame.Replace slot bytes) → ReplaceFits p number slot bytes
+replace_fits p number slot bytes f =
+    let a = and_parts (is_u32 slot) ((length bytes == CLAIM_BYTES) && are_bytes bytes) f.frame_is in
+    let b = and_parts (length bytes == CLAIM_BYTES) (are_bytes bytes) a.1 in
+    record { peer = f.peer; number_fits = f.number_fits; slot_fits = a.0; long = eqb-true (length bytes) CLAIM_BYTES b.0; bytes_fit = b.1 }
+
 -- the parts of a deal that a frame asks for are within their bounds
 pub deal_fits : (p number : ℕ) (f : Frame) (deal : Deal) → FrameFits p number f → deal_of f ≡ Some deal → DealFits p number deal
 deal_fits p number (frame.Store name [] bytes) deal f is =
@@ -97,6 +103,8 @@ deal_fits p number (frame.Cancel name slots) deal f is =
     let same : Cancel name slots ≡ deal = cc in subst (DealFits p number) same (cancel_fits p number name slots f)
 deal_fits p number (frame.PutBack name claims) deal f is =
     let same : PutBack name claims ≡ deal = cc in subst (DealFits p number) same (put_back_fits p number name claims f)
+deal_fits p number (frame.Replace slot bytes) deal f is =
+    let same : Replace slot bytes ≡ deal = cc in subst (DealFits p number) same (replace_fits p number slot bytes f)
 deal_fits p number _ deal f is = absurd (cc)
 
 -- ---- what is known of a reply whose frame was read
@@ -120,6 +128,7 @@ pub message_deal : (f : Frame) (deal : Deal) → message_of f ≡ Some (Deals de
 message_deal (frame.Store name numbers bytes) deal is = cc (is)
 message_deal (frame.Cancel name numbers) deal is = cc (is)
 message_deal (frame.PutBack name claims) deal is = cc (is)
+message_deal (frame.Replace slot bytes) deal is = cc (is)
 message_deal _ deal is = absurd (cc (is))
 
 pub message_reply : (f : Frame) (reply : Reply) → message_of f ≡ Some (Replies reply) → replied_by f ≡ Some reply

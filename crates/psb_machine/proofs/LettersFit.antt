@@ -55,7 +55,7 @@ use Rattle.psb_machine.specs.declared.question.Question.{Question}
 use Rattle.psb_machine.specs.Machine.{Situation, Input, Datagram, Tick, Keep, Snap, Forget, Reaction, Rule, quiet, grows, keeps, answers_with, by_standing, here, by_settled, on_message, by_message, on_read, on_datagram, kept_with, has_snapshot, then_by, sends, choice_at, by_choice, offer_at, by_offer, by_key, on_tick, react, run_at, by_value, by_proof, by_declined, by_late, discarded_by, by_due, by_run, ends_with, passes, again_at, begins_with}
 use Rattle.psb_machine.specs.Laws.{Fits, TickFits, HasRoom, AllAreFrames}
 use Rattle.psb_machine.proofs.Standings.{fresh_is_next, repeat_is_last}
-use Rattle.psb_machine.proofs.Lasts.{IsAnswered, last_there}
+use Rattle.psb_machine.proofs.Lasts.{IsAnswered, drawn, last_there}
 use Rattle.psb_machine.proofs.Taken.{deal_may}
 use Rattle.psb_machine.proofs.Valid.{codes_are, judged_deal_valid}
 use Rattle.psb_machine.proofs.Peers.{keyed_is_peer, settings_read}
@@ -115,8 +115,8 @@ judged_reply settings h from deal f v present peer fit is next = reply_fits sett
     widths : fits_widths (judged_at settings h from.peer from.number deal) ≡ true
     widths = (and_parts (list_all fits_widths h) (fits_widths (judged_at settings h from.peer from.number deal)) (sym (all_snoc fits_widths h (judged_at settings h from.peer from.number deal)) ∙ w.fit)).1
 
-    by_refusal : (o : Option Refusal) → first_that_holds (reasons_at settings (state h) from.peer deal (clashes h deal)) ≡ o → is_answerable (judged from.peer from.number (taken_at (state h) from.peer from.number deal) o) ≡ true
-    by_refusal None e = (deal_may settings h from.peer from.number deal (clashes h deal) (record { some = v.some; present = present; peer = peer; next_deal = next }) (deal_message from.peer from.number f deal fit is) e).answerable
+    by_refusal : (o : Option Refusal) → first_that_holds (reasons_at settings (state h) from.peer deal (clashes h deal)) ≡ o → is_answerable (judged from.peer from.number (taken_at settings (state h) from.peer from.number deal) o) ≡ true
+    by_refusal None e = (deal_may settings h from.peer from.number deal (clashes h deal) (record { some = v.some; present = present; peer = peer; next_deal = next; drawn = drawn h v }) (deal_message from.peer from.number f deal fit is) e).answerable
     by_refusal (Some r) e = let code = codes_are r.why in rw (code.0, code.1) refl
 
 deal_answers : (settings : Settings) (n : Situation) (from : Sender) (deal : Deal) (f : Frame) → IsValid n.history → (state n.history).settings ≡ Some settings → is_peer (state n.history) from.peer ≡ true → FrameFits from.peer from.number f → message_of f ≡ Some (Deals deal)

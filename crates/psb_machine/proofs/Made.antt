@@ -24,7 +24,7 @@ use Rattle.psb_bytes.specs.Objects.{name_eq}
 use Rattle.psb_machine.specs.OwnProbes.{Run, listed_by, passed_by, wrong_by}
 use Rattle.psb_machine.proofs.Causes.{caused}
 use Rattle.psb_machine.specs.Made.{is_made_deal, is_made}
-use Rattle.psb_machine.specs.Deals.{Deal, StoreFresh, StoreSwap, Cancel, PutBack, takes, judged, judged_at, facts_at, clashes, reasons, first_that_holds}
+use Rattle.psb_machine.specs.Deals.{Deal, StoreFresh, StoreSwap, Cancel, PutBack, Replace, replaced, takes, judged, judged_at, facts_at, clashes, reasons, first_that_holds}
 use Rattle.psb_machine.specs.Settling.{Reply, Accepts, Refuses, answers_deal, settle}
 use Rattle.psb_machine.specs.Proposals.{propose_facts}
 use Rattle.psb_machine.specs.Machine.{Situation, Input, Reaction, changes_of, run_at, react, next}
@@ -97,11 +97,16 @@ proposal_made s p probed facts =
 
 -- ---- deals of a peer, and replies
 
-takes_made : (issued : ℕ) (new : Bool) (p number : ℕ) (deal : Deal) → is_made (takes issued new p number deal) ≡ true
-takes_made issued new p number (StoreFresh name bytes) = refl
-takes_made issued new p number (StoreSwap name numbers bytes) = refl
-takes_made issued new p number (Cancel name numbers) = refl
-takes_made issued new p number (PutBack name claims) = refl
+replaced_made : (p number slot : ℕ) (bytes : List ℕ) (home : Option ℕ) → is_made (replaced p number slot bytes home) ≡ true
+replaced_made p number slot bytes None = refl
+replaced_made p number slot bytes (Some i) = refl
+
+takes_made : (issued : ℕ) (new : Bool) (home : Option ℕ) (p number : ℕ) (deal : Deal) → is_made (takes issued new home p number deal) ≡ true
+takes_made issued new home p number (StoreFresh name bytes) = refl
+takes_made issued new home p number (StoreSwap name numbers bytes) = refl
+takes_made issued new home p number (Cancel name numbers) = refl
+takes_made issued new home p number (PutBack name claims) = refl
+takes_made issued new home p number (Replace slot bytes) = replaced_made p number slot bytes home
 
 judged_made : (p number : ℕ) (c : Change) (o : Option Refusal) → is_made c ≡ true → is_made (judged p number c o) ≡ true
 judged_made p number c None m = m
@@ -110,7 +115,7 @@ judged_made p number c (Some r) m = refl
 deal_made : (settings : Settings) (h : List Change) (p number : ℕ) (deal : Deal) → is_made (judged_at settings h p number deal) ≡ true
 deal_made settings h p number deal =
     let facts = facts_at settings (state h) deal (clashes h deal) in
-    judged_made p number (takes facts.issued facts.new_body p number deal) (first_that_holds (reasons facts (state h) p deal)) (takes_made facts.issued facts.new_body p number deal)
+    judged_made p number (takes facts.issued facts.new_body facts.home p number deal) (first_that_holds (reasons facts (state h) p deal)) (takes_made facts.issued facts.new_body facts.home p number deal)
 
 answers_made : (p number : ℕ) (reply : Reply) → is_made (answers_deal p number reply) ≡ true
 answers_made p number (Accepts claims) = refl

@@ -1,11 +1,12 @@
 -- The settings stay what they are while inputs come.
 use Rattle.std.proofs.Common.{Bool, true, false, if◌then◌else◌, ◌≡◌, ℕ, option_to_list, List, [], ◌∷◌, Option, Some, None, refl, ◌∙◌, ap, subst}
+use Rattle.psb_settings.specs.declared.settings.Settings.{Settings}
 use Rattle.psb_model.specs.State.{State, nothing_yet}
 use Rattle.psb_model.specs.Effects.{after}
 use Rattle.psb_model.specs.History.{state, state_from}
 use Rattle.psb_model.specs.declared.change.Change.{Change}
 use Rattle.psb_model.proofs.Prefixes.{state_app}
-use Rattle.psb_machine.specs.Deals.{first_that_holds, judged, clashes, Deal, StoreFresh, StoreSwap, Cancel, PutBack}
+use Rattle.psb_machine.specs.Deals.{first_that_holds, judged, clashes, Deal, StoreFresh, StoreSwap, Cancel, PutBack, Replace, replaced, home_of}
 use Rattle.psb_machine.specs.Settling.{Reply, Accepts, Refuses, answers_deal}
 use Rattle.psb_machine.specs.Judging.{reasons_at, taken_at}
 use Rattle.psb_machine.specs.Machine.{Situation, Input, changes_of, react, next}
@@ -20,15 +21,20 @@ use Rattle.psb_machine.proofs.Made.{settles_by}
 abbrev Stays : State → Option Change → Type 0
 Stays s o = (state_from s (option_to_list o)).settings ≡ s.settings
 
-taken_stays : (s : State) (p number : ℕ) (deal : Deal) → (after s (taken_at s p number deal)).settings ≡ s.settings
-taken_stays s p number (StoreFresh name bytes) = refl
-taken_stays s p number (StoreSwap name numbers bytes) = refl
-taken_stays s p number (Cancel name numbers) = refl
-taken_stays s p number (PutBack name claims) = refl
+replaced_stays : (s : State) (p number slot : ℕ) (bytes : List ℕ) (home : Option ℕ) → (after s (replaced p number slot bytes home)).settings ≡ s.settings
+replaced_stays s p number slot bytes None = refl
+replaced_stays s p number slot bytes (Some i) = refl
 
-judged_stays : (s : State) (p number : ℕ) (deal : Deal) (o : Option Refusal) → (after s (judged p number (taken_at s p number deal) o)).settings ≡ s.settings
-judged_stays s p number deal None = taken_stays s p number deal
-judged_stays s p number deal (Some r) = refl
+taken_stays : (settings : Settings) (s : State) (p number : ℕ) (deal : Deal) → (after s (taken_at settings s p number deal)).settings ≡ s.settings
+taken_stays settings s p number (StoreFresh name bytes) = refl
+taken_stays settings s p number (StoreSwap name numbers bytes) = refl
+taken_stays settings s p number (Cancel name numbers) = refl
+taken_stays settings s p number (PutBack name claims) = refl
+taken_stays settings s p number (Replace slot bytes) = replaced_stays s p number slot bytes (home_of settings.seed s.issued (Replace slot bytes))
+
+judged_stays : (settings : Settings) (s : State) (p number : ℕ) (deal : Deal) (o : Option Refusal) → (after s (judged p number (taken_at settings s p number deal) o)).settings ≡ s.settings
+judged_stays settings s p number deal None = taken_stays settings s p number deal
+judged_stays settings s p number deal (Some r) = refl
 
 answers_stay : (s : State) (p number : ℕ) (reply : Reply) → Stays s (Some (answers_deal p number reply))
 answers_stay s p number (Accepts claims) = refl
@@ -41,7 +47,7 @@ value_stays s p value r false = refl
 react_stays : (n : Situation) (x : Input) → Stays (state n.history) (react n x).grown
 react_stays n x = caused (Stays (state n.history)) n x (record {
   none = refl;
-  deal = λ settings bytes i deal came present read is fresh. judged_stays (state n.history) i.from i.number deal (first_that_holds (reasons_at settings (state n.history) i.from deal (clashes n.history deal)));
+  deal = λ settings bytes i deal came present read is fresh. judged_stays settings (state n.history) i.from i.number deal (first_that_holds (reasons_at settings (state n.history) i.from deal (clashes n.history deal)));
   reply = λ settings bytes i reply c came present read is made. subst (λ (d : Change). Stays (state n.history) (Some d)) (settles_by (state n.history) i.from i.number reply c made) (answers_stay (state n.history) i.from i.number reply);
   choice = λ settings p key candidates came present keyed chosen. refl;
   propose = λ settings p key what came present keyed idle found. refl;

@@ -26,7 +26,7 @@ each_both a b good (n ∷ ns) g x y =
     let ys = and_parts (b (Slot n)) (each_slot b ns) y in
     rw (g (Slot n) xs.0 ys.0) (each_both a b good ns g xs.1 ys.1)
 
-wider : (n : ℕ) → is_u32 n ≡ true → is_u64 n ≡ true
+pub wider : (n : ℕ) → is_u32 n ≡ true → is_u64 n ≡ true
 wider n h = lt-ltb n (2 ^ 64) (omega (arith, ltb-true n (2 ^ 32) h))
 
 -- a slot that was found fits the field of a detail

@@ -7,7 +7,7 @@ use Rattle.std.proofs.lemmas.List.Folds.{list_all-append}
 use Rattle.psb_bytes.specs.Units.{units}
 use Rattle.psb_bytes.specs.Objects.{name_eq}
 use Rattle.psb_bytes.specs.declared.ids.Object.{Object}
-use Rattle.psb_bytes.specs.declared.ids.Object.TheVariants.{Chunk}
+use Rattle.psb_bytes.specs.declared.ids.Object.TheVariants.{Chunk, Slot}
 use Rattle.psb_bytes.specs.declared.lists.SlotClaim.{SlotClaim}
 use Rattle.psb_digest.specs.Hashes.{sha}
 use Rattle.psb_settings.specs.declared.settings.Settings.{Settings}
@@ -23,10 +23,11 @@ use Rattle.psb_model.proofs.ByObject.{by_cases}
 use Rattle.psb_model.proofs.Prefixes.{changes_counted}
 use Rattle.wire_codec.specs.Fields.{is_claim, are_bytes as are_wire_bytes}
 use Rattle.wire_codec.specs.declared.limits.TheConstants.{CLAIM_BYTES}
-use Rattle.psb_machine.specs.Deals.{Deal, StoreFresh, StoreSwap, Cancel, PutBack, slots_of, claims_joined, sealed_part, first_not_out, first_slot, is_engaged, chunk_units, first_that_holds}
-use Rattle.psb_machine.specs.Judging.{SlotsFit, StoreFits, SwapFits, CancelFits, PutBackFits, DealFits, reasons_at, taken_at}
+use Rattle.psb_machine.specs.Deals.{Deal, StoreFresh, StoreSwap, Cancel, PutBack, Replace, replaced, claim_from, slots_of, claims_joined, sealed_part, first_not_out, first_slot, is_engaged, chunk_units, first_that_holds}
+use Rattle.psb_machine.specs.Judging.{SlotsFit, StoreFits, SwapFits, CancelFits, PutBackFits, ReplaceFits, DealFits, reasons_at, taken_at}
 use Rattle.psb_machine.specs.Replies.{is_answerable}
 use Rattle.psb_machine.proofs.Standings.{NoneHolds, none_holds}
+use Rattle.psb_machine.proofs.Homes.{home_found}
 use Rattle.psb_machine.proofs.Slots.{none_found, each_both, passes_there}
 
 -- of a change: it may be made, its fields fit, its bytes are there, and it can be answered
@@ -43,6 +44,7 @@ pub record IsNext (settings : Settings) (h : List Change) (p number : ℕ) : Typ
   pub present : (state h).settings ≡ Some settings
   pub peer : is_peer (state h) p ≡ true
   pub next_deal : is_next_deal (state h) p number ≡ true
+  pub drawn : (state h).issued ≤ most_claims
 
 pub begun_here : (h : List Change) → 1 ≤ length h → nat_lt 0 (state h).changes ≡ true
 begun_here h some = lt-ltb 0 (state h).changes (omega (arith, changes_counted h, some))
@@ -78,7 +80,7 @@ brings_fresh p number first name bytes true h = refl
 brings_fresh p number first name bytes false h = h
 
 fresh_may : (settings : Settings) (h : List Change) (p number : ℕ) (name bytes : List ℕ) (clash : Bool) → IsNext settings h p number → StoreFits p number name bytes
-    → NoneHolds (reasons_at settings (state h) p (StoreFresh name bytes) clash) → MayTake (state h) (taken_at (state h) p number (StoreFresh name bytes))
+    → NoneHolds (reasons_at settings (state h) p (StoreFresh name bytes) clash) → MayTake (state h) (taken_at settings (state h) p number (StoreFresh name bytes))
 fresh_may settings h p number name bytes clash n f t =
     let s = state h in
     let named = not_false (name_eq (sha bytes) name) t.0 in
@@ -109,7 +111,7 @@ brings_swap p number name numbers bytes true h = refl
 brings_swap p number name numbers bytes false h = h
 
 swap_may : (settings : Settings) (h : List Change) (p number : ℕ) (name numbers bytes : List ℕ) (clash : Bool) → IsNext settings h p number → SwapFits p number name numbers bytes
-    → NoneHolds (reasons_at settings (state h) p (StoreSwap name numbers bytes) clash) → MayTake (state h) (taken_at (state h) p number (StoreSwap name numbers bytes))
+    → NoneHolds (reasons_at settings (state h) p (StoreSwap name numbers bytes) clash) → MayTake (state h) (taken_at settings (state h) p number (StoreSwap name numbers bytes))
 swap_may settings h p number name numbers bytes clash n f t =
     let s = state h in
     let free = none_found (tied_in s p) (λ o. not (tied_in s p o)) numbers (λ o k. ap not k) t.0 in
@@ -149,7 +151,7 @@ none_carried s p numbers h k =
     not_true false e = refl
 
 cancel_may : (settings : Settings) (h : List Change) (p number : ℕ) (name numbers : List ℕ) (clash : Bool) → IsNext settings h p number → CancelFits p number name numbers
-    → NoneHolds (reasons_at settings (state h) p (Cancel name numbers) clash) → MayTake (state h) (taken_at (state h) p number (Cancel name numbers))
+    → NoneHolds (reasons_at settings (state h) p (Cancel name numbers) clash) → MayTake (state h) (taken_at settings (state h) p number (Cancel name numbers))
 cancel_may settings h p number name numbers clash n f t =
     let s = state h in
     let missing = either_none (not (has in_key (row s p).ins (Chunk name))) (is_some (first_not_out s p numbers)) t.1.0 in
@@ -184,7 +186,7 @@ brings_back : (p number : ℕ) (name numbers bytes : List ℕ) → brings_right 
 brings_back p number name numbers bytes = by_cases (no_slots numbers) (λ k. rw k refl) (λ k. rw k refl)
 
 put_back_may : (settings : Settings) (h : List Change) (p number : ℕ) (name : List ℕ) (claims : List SlotClaim) (clash : Bool) → IsNext settings h p number → PutBackFits p number name claims
-    → NoneHolds (reasons_at settings (state h) p (PutBack name claims) clash) → MayTake (state h) (taken_at (state h) p number (PutBack name claims))
+    → NoneHolds (reasons_at settings (state h) p (PutBack name claims) clash) → MayTake (state h) (taken_at settings (state h) p number (PutBack name claims))
 put_back_may settings h p number name claims clash n f t =
     let s = state h in
     let numbers = slots_of claims in
@@ -201,10 +203,40 @@ put_back_may settings h p number name claims clash n f t =
       answerable = refl;
     }
 
+replaced_may : (settings : Settings) (h : List Change) (p number slot : ℕ) (bytes : List ℕ) (clash : Bool) → IsNext settings h p number → ReplaceFits p number slot bytes
+    → NoneHolds (reasons_at settings (state h) p (Replace slot bytes) clash) → MayTake (state h) (taken_at settings (state h) p number (Replace slot bytes))
+replaced_may settings h p number slot bytes clash n f t = by_home (claim_from settings.seed bytes 0 (state h).issued) refl
+  where
+    free : not (tied_in (state h) p (Slot slot)) ≡ true
+    free = ap not t.0
+
+    there : has in_key (row (state h) p).ins (Slot slot) ≡ true
+    there = not_false (has in_key (row (state h) p).ins (Slot slot)) t.1.0
+
+    by_home : (o : Option ℕ) → claim_from settings.seed bytes 0 (state h).issued ≡ o → MayTake (state h) (replaced p number slot bytes o)
+    by_home None is = record {
+      grammar = eq-eqb (length bytes) 512 f.long;
+      may = rw (begun_here h n.some, n.peer, n.next_deal, there, free) refl;
+      widths = rw (f.peer, f.number_fits, f.slot_fits, f.bytes_fit) refl;
+      brings = refl;
+      answerable = refl;
+    }
+    by_home (Some i) is =
+        let found = home_found settings.seed bytes 0 (state h).issued i is in
+        let home : is_u32 i ≡ true = lt-ltb i (2 ^ 32) (omega (arith, found.0, n.drawn)) in
+        record {
+          grammar = refl;
+          may = rw (begun_here h n.some, n.peer, n.next_deal, there, free, lt-ltb i (state h).issued (omega (arith, found.0))) refl;
+          widths = rw (f.peer, f.number_fits, f.slot_fits, home) refl;
+          brings = refl;
+          answerable = refl;
+        }
+
 -- any deal that is the next of its peer and is not refused
 pub deal_may : (settings : Settings) (h : List Change) (p number : ℕ) (deal : Deal) (clash : Bool) → IsNext settings h p number → DealFits p number deal
-    → first_that_holds (reasons_at settings (state h) p deal clash) ≡ None → MayTake (state h) (taken_at (state h) p number deal)
+    → first_that_holds (reasons_at settings (state h) p deal clash) ≡ None → MayTake (state h) (taken_at settings (state h) p number deal)
 deal_may settings h p number (StoreFresh name bytes) clash n f t = fresh_may settings h p number name bytes clash n f (none_holds (reasons_at settings (state h) p (StoreFresh name bytes) clash) t)
 deal_may settings h p number (StoreSwap name numbers bytes) clash n f t = swap_may settings h p number name numbers bytes clash n f (none_holds (reasons_at settings (state h) p (StoreSwap name numbers bytes) clash) t)
 deal_may settings h p number (Cancel name numbers) clash n f t = cancel_may settings h p number name numbers clash n f (none_holds (reasons_at settings (state h) p (Cancel name numbers) clash) t)
 deal_may settings h p number (PutBack name claims) clash n f t = put_back_may settings h p number name claims clash n f (none_holds (reasons_at settings (state h) p (PutBack name claims) clash) t)
+deal_may settings h p number (Replace slot bytes) clash n f t = replaced_may settings h p number slot bytes clash n f (none_holds (reasons_at settings (state h) p (Replace slot bytes) clash) t)

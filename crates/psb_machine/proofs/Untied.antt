@@ -28,7 +28,7 @@ use Rattle.model_laws.proofs.Noted.{ended_by, pending_by, noted as deal_noted}
 use Rattle.model_laws.proofs.Proposable.{proposal_ties_none}
 use Rattle.psb_machine.specs.Volatile.{PeerState, Volatile, of_peer, Note, Nothing, Ticked, Sampled, noted, still_asked, probe_goes_on, turned_by, marked_by, probed_by, by_change, by_changes, after_tick, sampled, waiting, asked_now, found_in, changed_in, ticks_to_wait}
 use Rattle.psb_machine.specs.OwnProbes.{Run, run_by, run_of, listed_by, passed_by, wrong_by}
-use Rattle.psb_machine.specs.Deals.{first_that_holds, judged, facts_at, clashes, Deal, StoreFresh, StoreSwap, Cancel, PutBack, takes, reasons, judged_at}
+use Rattle.psb_machine.specs.Deals.{first_that_holds, judged, facts_at, clashes, Deal, StoreFresh, StoreSwap, Cancel, PutBack, Replace, replaced, takes, reasons, judged_at}
 use Rattle.psb_machine.specs.Settling.{Reply, Accepts, Refuses, answers_deal}
 use Rattle.psb_machine.specs.Proposals.{propose_facts}
 use Rattle.psb_machine.specs.Machine.{Situation, Input, run_at, react}
@@ -93,11 +93,16 @@ Spares n (Some c) = SparesProbes n c
 pub none_spares : (n : Situation) (c : Change) → deal_proposed c ≡ None → SparesProbes n c
 none_spares n c none q d r is run = absurd (cc (sym none ∙ is))
 
-pub takes_none : (issued : ℕ) (new : Bool) (p number : ℕ) (deal : Deal) → deal_proposed (takes issued new p number deal) ≡ None
-takes_none issued new p number (StoreFresh name bytes) = refl
-takes_none issued new p number (StoreSwap name numbers bytes) = refl
-takes_none issued new p number (Cancel name numbers) = refl
-takes_none issued new p number (PutBack name claims) = refl
+replaced_none : (p number slot : ℕ) (bytes : List ℕ) (home : Option ℕ) → deal_proposed (replaced p number slot bytes home) ≡ None
+replaced_none p number slot bytes None = refl
+replaced_none p number slot bytes (Some i) = refl
+
+pub takes_none : (issued : ℕ) (new : Bool) (home : Option ℕ) (p number : ℕ) (deal : Deal) → deal_proposed (takes issued new home p number deal) ≡ None
+takes_none issued new home p number (StoreFresh name bytes) = refl
+takes_none issued new home p number (StoreSwap name numbers bytes) = refl
+takes_none issued new home p number (Cancel name numbers) = refl
+takes_none issued new home p number (PutBack name claims) = refl
+takes_none issued new home p number (Replace slot bytes) = replaced_none p number slot bytes home
 
 pub judged_none : (p number : ℕ) (c : Change) (o : Option Refusal) → deal_proposed c ≡ None → deal_proposed (judged p number c o) ≡ None
 judged_none p number c None h = h
@@ -106,7 +111,7 @@ judged_none p number c (Some r) h = refl
 pub deal_none : (settings : Settings) (h : List Change) (p number : ℕ) (deal : Deal) → deal_proposed (judged_at settings h p number deal) ≡ None
 deal_none settings h p number deal =
     let facts = facts_at settings (state h) deal (clashes h deal) in
-    judged_none p number (takes facts.issued facts.new_body p number deal) (first_that_holds (reasons facts (state h) p deal)) (takes_none facts.issued facts.new_body p number deal)
+    judged_none p number (takes facts.issued facts.new_body facts.home p number deal) (first_that_holds (reasons facts (state h) p deal)) (takes_none facts.issued facts.new_body facts.home p number deal)
 
 pub answers_none : (p number : ℕ) (reply : Reply) → deal_proposed (answers_deal p number reply) ≡ None
 answers_none p number (Accepts claims) = refl

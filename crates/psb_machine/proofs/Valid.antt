@@ -22,7 +22,7 @@ use Rattle.psb_model.proofs.Steady.{steady_state, use_within}
 use Rattle.model_laws.proofs.Bodies.{valid_snoc}
 use Rattle.psb_model.proofs.ByObject.{by_cases}
 use Rattle.psb_machine.specs.Laws.{KeepFits, SnapFits}
-use Rattle.psb_machine.specs.Deals.{code_of, first_that_holds, judged, Deal, StoreFresh, StoreSwap, Cancel, PutBack, slots_of, is_engaged, chunk_units}
+use Rattle.psb_machine.specs.Deals.{code_of, first_that_holds, judged, Deal, StoreFresh, StoreSwap, Cancel, PutBack, Replace, slots_of, is_engaged, chunk_units}
 use Rattle.psb_machine.specs.Machine.{Situation, kept_with, snapped_with, has_snapshot}
 use Rattle.psb_machine.specs.declared.deals.Reason.{Reason}
 use Rattle.psb_machine.specs.declared.deals.Reason.TheVariants.{Busy, BadName, Already, Clash, NotThere, Unequal, Indebted, Full, Spent}
@@ -30,7 +30,7 @@ use Rattle.psb_machine.specs.declared.deals.Refusal.{Refusal}
 use Rattle.psb_machine.specs.declared.snap_note.SnapNote.{SnapNote}
 use Rattle.psb_machine.specs.Judging.{DealFits, reasons_at, taken_at, judged_with}
 use Rattle.psb_machine.proofs.Standings.{detail_fits, first_fits}
-use Rattle.psb_machine.proofs.Slots.{found_fits}
+use Rattle.psb_machine.proofs.Slots.{found_fits, wider}
 use Rattle.psb_machine.proofs.Taken.{MayTake, begun_here, flag_same, body_in_grammar, body_of_bytes, deal_may}
 use Rattle.psb_machine.proofs.Lasts.{drawn}
 use Rattle.psb_machine.proofs.Peers.{settings_read}
@@ -109,6 +109,7 @@ details_fit settings s p number (Cancel name numbers) clash d f =
     rw (found_fits (is_engaged s p) numbers f.slots.widths, found_fits (λ o. not (has out_key (row s p).outs o)) numbers f.slots.widths, d.chunk name) refl
 details_fit settings s p number (PutBack name claims) clash d f =
     rw (found_fits (has in_key (row s p).ins) (slots_of claims) f.slots.widths, d.chunk name) refl
+details_fit settings s p number (Replace slot bytes) clash d f = rw (wider slot f.slot_fits) refl
 
 -- ---- deals
 
@@ -118,6 +119,7 @@ sender_fits p number (StoreFresh name bytes) f = (f.peer, f.number_fits)
 sender_fits p number (StoreSwap name numbers bytes) f = (f.store.peer, f.store.number_fits)
 sender_fits p number (Cancel name numbers) f = (f.peer, f.number_fits)
 sender_fits p number (PutBack name claims) f = (f.peer, f.number_fits)
+sender_fits p number (Replace slot bytes) f = (f.peer, f.number_fits)
 
 -- a fresh deal, which is taken or refused
 pub judged_deal_valid : (settings : Settings) (h : List Change) (p number : ℕ) (deal : Deal) (clash : Bool) → IsValid h → (state h).settings ≡ Some settings → is_peer (state h) p ≡ true
@@ -127,9 +129,9 @@ judged_deal_valid settings h p number deal clash v present peer f next_deal = by
     taken_valid : (c : Change) → MayTake (state h) c → IsValid (h ++ c ∷ [])
     taken_valid c m = valid_snoc h c v m.grammar m.may m.widths m.brings
 
-    by_refusal : (o : Option Refusal) → first_that_holds (reasons_at settings (state h) p deal clash) ≡ o → IsValid (h ++ judged p number (taken_at (state h) p number deal) o ∷ [])
+    by_refusal : (o : Option Refusal) → first_that_holds (reasons_at settings (state h) p deal clash) ≡ o → IsValid (h ++ judged p number (taken_at settings (state h) p number deal) o ∷ [])
     by_refusal None is =
-        taken_valid (taken_at (state h) p number deal) (deal_may settings h p number deal clash (record { some = v.some; present = present; peer = peer; next_deal = next_deal }) f is)
+        taken_valid (taken_at settings (state h) p number deal) (deal_may settings h p number deal clash (record { some = v.some; present = present; peer = peer; next_deal = next_deal; drawn = drawn h v }) f is)
     by_refusal (Some r) is =
         let sent = sender_fits p number deal f in
         refused_valid h p number r v peer sent.0 sent.1 next_deal (first_fits (reasons_at settings (state h) p deal clash) r (details_fit settings (state h) p number deal clash (numbers_fit h p v) f) is)

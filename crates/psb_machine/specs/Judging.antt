@@ -8,8 +8,8 @@ use Rattle.psb_model.specs.Grammar.{ascend, is_u8, is_u32, is_u64, is_digest}
 use Rattle.psb_model.specs.State.{State}
 use Rattle.psb_model.specs.declared.change.Change.{Change}
 use Rattle.wire_codec.specs.Fields.{is_claim, are_places}
-use Rattle.wire_codec.specs.declared.limits.TheConstants.{MOST_SLOTS, MOST_OBJECTS}
-use Rattle.psb_machine.specs.Deals.{Deal, StoreFresh, StoreSwap, Cancel, PutBack, slots_of, is_new, reasons, takes, judge, facts_at}
+use Rattle.wire_codec.specs.declared.limits.TheConstants.{MOST_SLOTS, MOST_OBJECTS, CLAIM_BYTES}
+use Rattle.psb_machine.specs.Deals.{Deal, StoreFresh, StoreSwap, Cancel, PutBack, Replace, slots_of, is_new, home_of, reasons, takes, judge, facts_at}
 use Rattle.psb_machine.specs.Settling.{Reply, Accepts, Refuses}
 use Rattle.psb_machine.specs.Messages.{Sender, Message, Deals, Replies, Asks, Probes, Proves, Declines}
 use Rattle.psb_machine.specs.Sampling.{most_asked}
@@ -52,12 +52,21 @@ pub record PutBackFits (p number : ℕ) (name : List ℕ) (claims : List SlotCla
   pub slots : SlotsFit (slots_of claims)
   pub claims_fit : list_all is_claim claims ≡ true
 
+-- other bytes for a slot
+pub record ReplaceFits (p number slot : ℕ) (bytes : List ℕ) : Type 0 where
+  pub peer : is_u32 p ≡ true
+  pub number_fits : is_u64 number ≡ true
+  pub slot_fits : is_u32 slot ≡ true
+  pub long : length bytes ≡ CLAIM_BYTES
+  pub bytes_fit : list_all is_u8 bytes ≡ true
+
 -- whatever its kind is
 abbrev pub DealFits : ℕ → ℕ → Deal → Type 0
 DealFits p number (StoreFresh name bytes) = StoreFits p number name bytes
 DealFits p number (StoreSwap name numbers bytes) = SwapFits p number name numbers bytes
 DealFits p number (Cancel name numbers) = CancelFits p number name numbers
 DealFits p number (PutBack name claims) = PutBackFits p number name claims
+DealFits p number (Replace slot bytes) = ReplaceFits p number slot bytes
 
 -- and what a reply has: claims of 512 bytes in slots that ascend, or a reason's number with a detail
 abbrev pub ReplyFits : Reply → Type 0
@@ -80,6 +89,7 @@ IsShort (StoreFresh name bytes) = length bytes ≤ longest_chunk
 IsShort (StoreSwap name numbers bytes) = length bytes ≤ longest_chunk
 IsShort (Cancel name numbers) = Unit {0}
 IsShort (PutBack name claims) = Unit {0}
+IsShort (Replace slot bytes) = Unit {0}
 
 -- ---- what is made of a deal at a state, where other bytes are held under its name or not
 
@@ -88,8 +98,8 @@ abbrev pub reasons_at : Settings → State → ℕ → Deal → Bool → List (B
 reasons_at settings s p deal clash = reasons (facts_at settings s deal clash) s p deal
 
 -- the change that takes it
-abbrev pub taken_at : State → ℕ → ℕ → Deal → Change
-taken_at s p number deal = takes s.issued (is_new s deal) p number deal
+abbrev pub taken_at : Settings → State → ℕ → ℕ → Deal → Change
+taken_at settings s p number deal = takes s.issued (is_new s deal) (home_of settings.seed s.issued deal) p number deal
 
 -- the change that it makes
 abbrev pub judged_with : Settings → State → ℕ → ℕ → Deal → Bool → Change

@@ -89,7 +89,7 @@ changes_of r = option_to_list r.grown
 
 -- ---- datagrams
 
--- A deal of a peer, of a kind that is served. It is treated by its number before its kind: a fresh one
+-- A deal of a peer. It is treated by its number before its kind: a fresh one
 -- makes this change, which is answered; the last one is answered as its change was; nothing comes of any
 -- other.
 abbrev pub by_standing : Standing → Settings → Situation → Sender → Change → Reaction

@@ -8,13 +8,13 @@ use Rattle.psb_model.specs.declared.deals.DealWhat.{DealWhat}
 use Rattle.psb_model.specs.declared.deals.DealWhat.TheVariants as own
 use Rattle.psb_model.specs.declared.entries.OutState.TheVariants as on
 use Rattle.psb_model.specs.declared.change.Change.{Change}
-use Rattle.psb_model.specs.declared.change.Change.TheVariants.{TookFresh, LetGo, LetGoBack, Refused, Settled, Turned, Discarded}
+use Rattle.psb_model.specs.declared.change.Change.TheVariants.{TookFresh, LetGo, LetGoBack, Replaced, Refused, Settled, Turned, Discarded}
 use Rattle.psb_bytes.specs.declared.lists.SlotClaim.{SlotClaim}
 use Rattle.psb_model.specs.declared.entries.InEntry.{InEntry}
 use Rattle.psb_machine.specs.Settling.{Accepts, Refuses, settle}
 use Rattle.psb_machine.specs.Volatile.{ticks_to_wait}
 use Rattle.psb_machine.specs.Machine.{Rule, passes, ends_with, by_due}
-use Rattle.psb_machine.specs.Deals.{Facts, Deal, StoreFresh, StoreSwap, Cancel, PutBack, judge}
+use Rattle.psb_machine.specs.Deals.{Facts, Deal, StoreFresh, StoreSwap, Cancel, PutBack, Replace, judge}
 
 -- a chunk of right bytes that nobody holds, where so many claims were issued and so much may be held
 abbrev pub facts_near : ℕ → ℕ → Facts
@@ -87,6 +87,14 @@ pub record DebtWorked (name bytes : List ℕ) : Type 0 where
   pub swap : length bytes ≡ 512 → made_with debt_row true false 9 (StoreSwap name (9 ∷ []) bytes) ≡ Refused (record { peer = 2; deal = 1; why = 7; detail = 2 })
   pub unequal_first : length bytes ≡ 513 → made_with debt_row true false 9 (StoreSwap name (9 ∷ []) bytes) ≡ Refused (record { peer = 2; deal = 1; why = 6; detail = 2 })
 
+-- The peer replaces the claim in its slot 9: by other bytes, which are kept, or by claim 0 of the node's own, which
+-- comes home. Debt does not keep it from that. A tied slot is told before one that is not there.
+pub record ReplaceWorked (other bytes : List ℕ) : Type 0 where
+  pub direct : made_with debt_row true false 9 (Replace 9 bytes) ≡ Replaced (record { peer = 2; deal = 1; slot = 9; place = 0; home = 0; body = Some bytes })
+  pub home : judge (record (facts_near 1 9) { home = Some 0 }) (with_row debt_row) 2 1 (Replace 9 bytes) ≡ Replaced (record { peer = 2; deal = 1; slot = 9; place = 1; home = 0; body = Some [] })
+  pub busy : made_with (busy_row (own.Cancel other (8 ∷ 9 ∷ []))) true false 9 (Replace 8 bytes) ≡ Refused (record { peer = 2; deal = 1; why = 1; detail = 8 })
+  pub not_there : made_with debt_row true false 9 (Replace 8 bytes) ≡ Refused (record { peer = 2; deal = 1; why = 5; detail = 8 })
+
 -- The node has an own chunk of one unit, and slot 5 of peer 2 is in use here or not; its deal of number 1 with
 -- that peer is pending.
 abbrev pub pending_row : List InEntry → DealWhat → Row
@@ -119,6 +127,7 @@ pub record DealsWorked (name other bytes claim : List ℕ) : Type 0 where
   pub release : ReleaseWorked name bytes claim
   pub busy : BusyWorked name other bytes
   pub debt : DebtWorked name bytes
+  pub replace : ReplaceWorked other bytes
   pub replies : RepliesWorked name claim
 
 abbrev pub WorkedDeals : Type 0

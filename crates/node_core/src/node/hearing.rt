@@ -369,6 +369,7 @@ impl<L: Log> Node<L> {
             disk,
             self.ledger.ledger(),
             &self.names,
+            &mut self.claims,
             sender.peer,
             deal,
         )?;

@@ -26,6 +26,7 @@ returns c = λ name other bytes claim. record {
     swap = λ is. rw is refl;
     unequal_first = λ is. rw is refl;
   };
+  replace = record { direct = refl; home = refl; busy = refl; not_there = refl };
   replies = record {
     settled = rw (name_refl name, append-nil claim) refl;
     turned = refl;
