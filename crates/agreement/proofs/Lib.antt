@@ -1,7 +1,4 @@
-pub mod Frames
-pub mod Reacting
 pub mod Took
-pub mod Measured
 pub mod Parties
 pub mod Hearing
 pub mod Paired

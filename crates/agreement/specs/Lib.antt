@@ -1,6 +1,5 @@
 pub mod Worlds
 pub mod Agreeing
 pub mod Laws
-pub mod Letters
 pub mod Pairs
 pub mod Worked
