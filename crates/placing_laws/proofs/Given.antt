@@ -1,7 +1,7 @@
 -- Each slot that a peer has here was given its bytes by some change, whatever state it is in since.
-use Rattle.std.proofs.Common.{◌≡◌, ℕ, Bool, true, false, not, ◌||◌, ◌==◌, List, [], ◌∷◌, Option, Some, None, refl, sym, ap, ◌∙◌}
+use Rattle.std.proofs.Common.{◌≡◌, ℕ, Bool, true, false, not, ◌||◌, ◌==◌, if◌then◌else◌, List, [], ◌∷◌, Option, Some, None, refl, sym, ap, ◌∙◌}
 use Rattle.std.specs.List.{list_any}
-use Rattle.std.proofs.lemmas.Bool.{false≢true}
+use Rattle.std.proofs.lemmas.Bool.{false≢true, and_parts}
 use Rattle.psb_bytes.specs.declared.ids.Object.{Object}
 use Rattle.psb_bytes.specs.declared.ids.Object.TheVariants.{Chunk, Slot}
 use Rattle.psb_model.specs.declared.entries.InEntry.{InEntry}
@@ -16,7 +16,7 @@ use Rattle.psb_model.specs.Conditions.{allowed, is_begun, peer_of, settings_of_b
 use Rattle.psb_model.specs.Move.{after_move}
 use Rattle.psb_model.specs.Effects.{after, chunk_in, direct_slot, direct_slots, settle_move, move_of}
 use Rattle.psb_model.specs.History.{state}
-use Rattle.psb_model.specs.Needed.{IsValid, gives_slot}
+use Rattle.psb_model.specs.Needed.{IsValid, gives_slot, last_that, slots_given}
 use Rattle.psb_model.proofs.ByObject.{by_cases}
 use Rattle.psb_model.proofs.Prefixes.{state_snoc}
 use Rattle.psb_model.proofs.Rows.{row_in-first_rows, note_lists}
@@ -26,6 +26,7 @@ use Rattle.model_laws.proofs.HeldBytes.{none_ends}
 use Rattle.model_laws.proofs.Along.{last_is}
 use Rattle.placing_laws.proofs.Bare.{seen_at, seen_beside, has_in, has_in_blind}
 use Rattle.placing_laws.specs.Laws.{WasGiven}
+use Rattle.placing_laws.specs.Placing.{sets_slot}
 use Rattle.placing_laws.proofs.Growing.{Steps, by_growth}
 
 -- ---- slots of a list
@@ -98,6 +99,45 @@ was_there s (Discarded x) p n may b none is = let c : Change = Discarded x in sl
 
 -- ---- so each was given
 
+-- what gives a slot bytes says what it has
+pub gives_sets : (p n : ℕ) (c : Change) → gives_slot p n c ≡ true → sets_slot p n c ≡ true
+gives_sets p n (Replaced x) k =
+    let two = and_parts (x.peer == p) (list_any (λ m. m == n) (slots_given (Replaced x))) k in
+    rw (two.0, slot_is (x.place == 0) two.1) refl
+  where
+    slot_is : (b : Bool) → list_any (λ m. m == n) (if b then x.slot ∷ [] else []) ≡ true → (x.slot == n) ≡ true
+    slot_is true h = sym (or_none (x.slot == n)) ∙ h
+    slot_is false h = absurd (false≢true h)
+gives_sets p n _ k = k
+
+-- the last that passes, of a change and what is found behind it
+abbrev last_or : (Change → Bool) → Change → Option Change → Option Change
+last_or f d o = elim o [ Some x ↦ Some x | None ↦ if f d then Some d else None ]
+
+-- the last of more is the last of fewer, where it is one of these
+none_narrow : (f g : Change → Bool) → ((c : Change) → g c ≡ true → f c ≡ true) → (h : List Change) → last_that f h ≡ None → last_that g h ≡ None
+none_narrow f g more [] is = refl
+none_narrow f g more (d ∷ ds) is = by_rest (λ e. none_narrow f g more ds e) (last_that f ds) refl is
+  where
+    by_rest : (last_that f ds ≡ None → last_that g ds ≡ None) → (o : Option Change) → last_that f ds ≡ o → last_or f d o ≡ None → last_that g (d ∷ ds) ≡ None
+    by_rest again (Some x) e k = absurd (cc (k))
+    by_rest again None e k = by_cases (g d)
+        (λ t. let bad : Some d ≡ None = rw (more d t) at k in absurd (cc (bad)))
+        (λ t. ap (last_or g d) (again e) ∙ rw t refl)
+
+pub last_narrow : (f g : Change → Bool) → ((c : Change) → g c ≡ true → f c ≡ true) → (h : List Change) (c : Change) → last_that f h ≡ Some c → g c ≡ true → last_that g h ≡ Some c
+last_narrow f g more [] c is t = absurd (cc (is))
+last_narrow f g more (d ∷ ds) c is t = by_rest (λ e. last_narrow f g more ds c e t) (last_that f ds) refl is
+  where
+    step : (o : Option Change) → last_that g ds ≡ o → last_that g (d ∷ ds) ≡ last_or g d o
+    step o e = ap (last_or g d) e
+
+    by_rest : (last_that f ds ≡ Some c → last_that g ds ≡ Some c) → (o : Option Change) → last_that f ds ≡ o → last_or f d o ≡ Some c → last_that g (d ∷ ds) ≡ Some c
+    by_rest again (Some x) e k = step (Some c) (again (e ∙ k))
+    by_rest again None e k = by_cases (f d)
+        (λ j. let same : d ≡ c = cc (rw j at k) in step None (none_narrow f g more ds e) ∙ rw (ap g same ∙ t) (ap (λ (x : Change). Some x) same))
+        (λ j. let bad : None ≡ Some c = rw j at k in absurd (cc (bad)))
+
 abbrev AllGiven : List Change → Type 0
 AllGiven h = (p n : ℕ) → has_slot (row (state h) p).ins n ≡ true → WasGiven h p n
 
@@ -105,11 +145,14 @@ given_step : Steps AllGiven
 given_step h c m all p n is =
     let now : has_slot (row (after (state h) c) p).ins n ≡ true = ap (λ (t : State). has_slot (row t p).ins n) (sym (state_snoc h c)) ∙ is in
     by_cases (gives_slot p n c)
-    (λ k. record { change = c; last = last_is (gives_slot p n) h c k })
+    (λ k. record { change = c; last = last_is (gives_slot p n) h c k; setter = c; set = last_is (sets_slot p n) h c (gives_sets p n c k) })
     (λ k. by_cases (is_begun c)
     (λ b. absurd (false≢true (sym (none_begun c b) ∙ now)))
     (λ b. let was = all p n (was_there (state h) c p n m.may b k now) in
-    record { change = was.change; last = none_ends (gives_slot p n) h c k ∙ was.last }))
+    let last = none_ends (gives_slot p n) h c k ∙ was.last in
+    by_cases (sets_slot p n c)
+    (λ j. record { change = was.change; last = last; setter = c; set = last_is (sets_slot p n) h c j })
+    (λ j. record { change = was.change; last = last; setter = was.setter; set = none_ends (sets_slot p n) h c j ∙ was.set })))
   where
     none_begun : (d : Change) → is_begun d ≡ true → has_slot (row (after (state h) d) p).ins n ≡ false
     none_begun (Begun x) b = ap (λ (r : Row). has_slot r.ins n) (row_in-first_rows (settings_of_body x.body) p)

@@ -6,6 +6,7 @@ use Rattle.psb_model.specs.Words.{name_eq, listed, has, units_at}
 use Rattle.psb_model.specs.State.{State, row, in_key, in_size, out_key, out_size, debt_key, own_has, own_len}
 use Rattle.psb_model.specs.History.{state}
 use Rattle.psb_model.specs.Needed.{IsValid, last_that, gives_slot}
+use Rattle.placing_laws.specs.Placing.{sets_slot}
 use Rattle.psb_model.specs.declared.change.Change.{Change}
 use Rattle.psb_model.specs.declared.change.Change.TheVariants.{LetGo, LetGoBack, Discarded}
 
@@ -32,10 +33,13 @@ pub record StaysHere (s t : State) (p : ℕ) (n : List ℕ) : Type 0 where
 abbrev pub ChunksStay : Type 0
 ChunksStay = (h : List Change) (c : Change) (p : ℕ) (n : List ℕ) → IsValid h → IsValid (h ++ c ∷ []) → takes_away c p n ≡ false → has in_key (row (state h) p).ins (Chunk n) ≡ true → StaysHere (state h) (state (h ++ c ∷ [])) p n
 
--- some change gave the slot bytes, and this one did last
+-- some change gave the slot bytes, and this one did last; and this one said last what it has, which may be an own claim
+-- that a change names
 pub record WasGiven (h : List Change) (p s : ℕ) : Type 0 where
   pub change : Change
   pub last : last_that (gives_slot p s) h ≡ Some change
+  pub setter : Change
+  pub set : last_that (sets_slot p s) h ≡ Some setter
 
 abbrev pub SlotsWereGiven : Type 0
 SlotsWereGiven = (h : List Change) (p s : ℕ) → IsValid h → has in_key (row (state h) p).ins (Slot s) ≡ true → WasGiven h p s

@@ -1,14 +1,15 @@
--- Which deals place a chunk with a peer and which release it, which changes of a peer's deal take one and let it go, and by
--- which deal a chunk came where it is.
-use Rattle.std.specs.Prelude.{ℕ, Bool, false, ◌==◌, if◌then◌else◌, List, [], ◌∷◌, ◌++◌, Option, Some, None}
+-- Which deals place a chunk with a peer and which release it, which changes of a peer's deal take one and let it go, by
+-- which deal a chunk came where it is, and which changes say what a slot has.
+use Rattle.std.specs.Prelude.{ℕ, Bool, false, ◌&&◌, ◌==◌, if◌then◌else◌, List, [], ◌∷◌, ◌++◌, Option, Some, None}
 use Rattle.psb_model.specs.Words.{name_eq}
 use Rattle.psb_model.specs.State.{State, row}
 use Rattle.psb_model.specs.History.{state}
+use Rattle.psb_model.specs.Needed.{gives_slot}
 use Rattle.psb_model.specs.declared.deals.Deal.{Deal}
 use Rattle.psb_model.specs.declared.deals.DealWhat.{DealWhat}
 use Rattle.psb_model.specs.declared.deals.DealWhat.TheVariants.{Fresh, Swap, Cancel, PutBack}
 use Rattle.psb_model.specs.declared.change.Change.{Change}
-use Rattle.psb_model.specs.declared.change.Change.TheVariants.{TookFresh, TookSwap, LetGo, LetGoBack, Settled}
+use Rattle.psb_model.specs.declared.change.Change.TheVariants.{TookFresh, TookSwap, LetGo, LetGoBack, Replaced, Settled}
 
 -- the chunk that a deal places, and that it releases
 abbrev pub places : DealWhat → List ℕ → Bool
@@ -48,3 +49,10 @@ last_placed_from before p n (c ∷ cs) = elim (last_placed_from (before ++ c ∷
 
 abbrev pub last_placed : List Change → ℕ → List ℕ → Option ℕ
 last_placed h p n = last_placed_from [] p n h
+
+-- ---- slots
+
+-- the change says what the slot of p has: it carries the bytes, or it names the own claim that they are
+abbrev pub sets_slot : ℕ → ℕ → Change → Bool
+sets_slot p n (Replaced x) = (x.peer == p) && (x.slot == n)
+sets_slot p n c = gives_slot p n c

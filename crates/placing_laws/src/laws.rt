@@ -14,7 +14,8 @@ pub fn chunks_stay()
     ensures { ChunksStay }
 {}
 
-/// Each slot that stands here for a peer got bytes from some change, and of those which gave it some there is a last.
+/// Each slot that stands here for a peer got bytes from some change, and of those which gave it some there is a last; so
+/// there is of those which said what it has, by bytes or by the number of an own claim.
 pub fn slots_were_given()
     ensures { SlotsWereGiven }
 {}
